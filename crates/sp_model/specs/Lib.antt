@@ -1,0 +1,4 @@
+pub mod Graph
+pub mod Votes
+pub mod Agreement
+pub mod Examples

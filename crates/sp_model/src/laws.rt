@@ -1,0 +1,88 @@
+//! Laws of pasts and votes, over the definitions alone. Each is the contract of a function that does nothing, so that the
+//! check proves it.
+
+ghost use Rattle.std.specs.Prelude.{◌≡◌, ◌==◌, ◌||◌, ◌↔◌, ℕ, List, [], ◌∷◌, IsTrue};
+ghost use Rattle.std.specs.List.{list_any};
+ghost use Rattle.sp_model.specs.declared.word.Word.TheVariants.{Before, After, Tie, Same, Absent};
+ghost use Rattle.sp_model.specs.Graph.{Graph, IsDownset, AreDistinct, has, parents_of, round, complete, reaches_within, in_past, past, bar, future, related, anticone};
+ghost use Rattle.sp_model.specs.Agreement.{AgreesOn};
+ghost use Rattle.sp_model.specs.Votes.{sgn, total, case_of, vote_by, vote, virt};
+ghost use Rattle.sp_model.specs.Examples as example;
+ghost use Rattle.sp_model.specs.Examples.{said};
+
+/// The complete blocks are the least set that holds genesis and each block whose parents it holds.
+#[tactic(auto, using(crate::proofs::Paths::complete_round, crate::proofs::Paths::complete_least))]
+pub fn completeness()
+    ensures closed { (graph : Graph) (z : ℕ) →
+        IsTrue (has (round graph (complete graph)) z) → IsTrue (has (complete graph) z) }
+    ensures least { (graph : Graph) (set : List ℕ) →
+        ((z : ℕ) → IsTrue (has (round graph set) z) → IsTrue (has set z)) →
+        (z : ℕ) → IsTrue (has (complete graph) z) → IsTrue (has set z) }
+{}
+
+/// The past of a complete block is its parents and their pasts, and a path of any length leads into it.
+#[tactic(auto, using(crate::proofs::Pasts::in_past_step, crate::proofs::Paths::in_past_by_path))]
+pub fn past_by_steps()
+    ensures parents { (graph : Graph) (a z : ℕ) → IsTrue (has (complete graph) z) →
+        in_past graph a z ≡ list_any (λ parent. (parent == a) || in_past graph a parent) (parents_of graph z) }
+    ensures path { (graph : Graph) (steps a z : ℕ) → IsTrue (has (complete graph) z) →
+        IsTrue (reaches_within steps graph a z) → IsTrue (in_past graph a z) }
+{}
+
+/// The vote of a member of a downset is given by the first case that applies, with no bound on how deep the recursion goes.
+#[tactic(auto, using(crate::proofs::Recursion::vote_is))]
+pub fn vote_by_cases()
+    ensures { (graph : Graph) (set : List ℕ) (z x y : ℕ) → IsDownset graph set → IsTrue (has set z) →
+        vote graph set z x y
+        ≡ vote_by (case_of graph z x y) graph set (λ below. virt graph below x y) (λ w. vote graph set w x y) z x y }
+{}
+
+/// The virtual vote of a set is the sign of the sum of its members' votes.
+#[tactic(auto, unfolding(crate::specs::Votes::virt))]
+pub fn virtual_vote_by_sum()
+    ensures { (graph : Graph) (set : List ℕ) (x y : ℕ) →
+        virt graph set x y ≡ sgn (total (λ z. vote graph set z x y) set) }
+{}
+
+/// Pasts and votes in a downset are the same in each graph that agrees on the set.
+#[tactic(auto, using(crate::proofs::Match::in_past_restricted, crate::proofs::Match::vote_restricted, crate::proofs::Match::virt_restricted))]
+pub fn restriction()
+    ensures past { (graph other : Graph) (set : List ℕ) (a z : ℕ) →
+        AgreesOn set graph other → IsDownset graph set → IsTrue (has set z) →
+        in_past other a z ≡ in_past graph a z }
+    ensures vote { (graph other : Graph) (set : List ℕ) (z x y : ℕ) →
+        AgreesOn set graph other → IsDownset graph set → AreDistinct set → IsTrue (has set z) →
+        vote other set z x y ≡ vote graph set z x y }
+    ensures virt { (graph other : Graph) (set : List ℕ) (x y : ℕ) →
+        AgreesOn set graph other → IsDownset graph set → AreDistinct set →
+        virt other set x y ≡ virt graph set x y }
+{}
+
+/// The definitions computed on small graphs: pasts, and words that were worked out by hand.
+#[tactic(auto, unfolding(crate::specs::Votes::vote, crate::specs::Votes::virt, crate::specs::Votes::vote_within, crate::specs::Graph::in_past, crate::specs::Graph::reaches_within, crate::specs::Graph::complete, crate::specs::Graph::rounds))]
+pub fn worked_examples()
+    ensures past { past example.third_on_first 3 ≡ 0 ∷ 1 ∷ [] }
+    ensures bar { bar example.third_on_first 3 ≡ 3 ∷ 0 ∷ 1 ∷ [] }
+    ensures future { future example.third_on_first (0 ∷ 1 ∷ 2 ∷ 3 ∷ []) 1 ≡ 3 ∷ [] }
+    ensures related { IsTrue (related example.third_on_first 3 0) }
+    ensures anticone { anticone example.third_on_first (0 ∷ 1 ∷ 2 ∷ 3 ∷ []) 2 ≡ 1 ∷ 3 ∷ [] }
+    ensures complete { complete example.incomplete ≡ 0 ∷ 1 ∷ [] }
+    ensures absent { said example.incomplete 1 3 ≡ Absent }
+
+    ensures two_blocks_tie { said example.two_on_genesis 1 2 ≡ Tie }
+    ensures a_third_decides { said example.third_on_first 1 2 ≡ Before }
+    ensures turned { said example.third_on_first 2 1 ≡ After }
+    ensures genesis_first { said example.third_on_first 0 1 ≡ Before }
+    ensures genesis_second { said example.third_on_first 0 2 ≡ Before }
+    ensures genesis_third { said example.third_on_first 0 3 ≡ Before }
+    ensures parent_first { said example.third_on_first 1 3 ≡ Before }
+    ensures late_block { said example.third_on_first 2 3 ≡ After }
+    ensures two_more_outvote { said example.two_on_second 1 2 ≡ After }
+    ensures chain { said example.chain 1 2 ≡ Before }
+    ensures chain_genesis { said example.chain 0 1 ≡ Before }
+    ensures same { said example.chain 1 1 ≡ Same }
+    ensures voter_keeps_a_tie { said example.diamond 1 2 ≡ Tie }
+    ensures cycle_first { said example.cycle_of_three 1 2 ≡ Before }
+    ensures cycle_second { said example.cycle_of_three 2 3 ≡ Before }
+    ensures cycle_third { said example.cycle_of_three 3 1 ≡ Before }
+{}

@@ -1,0 +1,12 @@
+pub mod Splitting
+pub mod Numbers
+pub mod InOrder
+pub mod Grids
+pub mod Sums
+pub mod Cases
+pub mod Growth
+pub mod Entries
+pub mod NextLine
+pub mod Progress
+pub mod Outputs
+pub mod KeptLine

@@ -1,0 +1,10 @@
+pub mod Words
+pub mod Blocks
+pub mod Scenario
+pub mod Answers
+pub mod Output
+pub mod Gives
+pub mod Reading
+pub mod Tables
+pub mod Ends
+pub mod Codes

@@ -1,0 +1,16 @@
+-- Why the reading of a scenario ends without a text.
+use Rattle.std.specs.Prelude.{◌≡◌, ℕ, List, length, Option}
+use Rattle.std.specs.Io.KnownBytes.{Consumes}
+use Rattle.sp_io.specs.Causes.{Rose}
+use Rattle.spectre.specs.declared.scenario.reading.ScenarioFault.{ScenarioFault}
+use Rattle.spectre.specs.declared.scenario.reading.ScenarioFault.TheVariants.{ReadFault, TooLong, Memory}
+
+-- so many bytes were taken
+abbrev pub Took : Option (List ℕ) → Option (List ℕ) → ℕ → Type 0
+Took old new n = (bytes : List ℕ) × Consumes old new bytes × (length bytes ≡ n)
+
+-- the count rose, or the limit was taken
+abbrev pub HasReadCause : Option (List ℕ) → Option (List ℕ) → ℕ → ℕ → ScenarioFault → Type 0
+HasReadCause old new before now ReadFault = Rose before now
+HasReadCause old new before now (TooLong taken) = (taken ≡ 16777216) × Took old new 16777216
+HasReadCause old new before now Memory = Unit {0}

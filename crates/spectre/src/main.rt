@@ -1,0 +1,51 @@
+//! The ledger's program. `play` reads a scenario from standard input and writes its answers to standard output; `run` in
+//! `command.rt` is all that the program does and carries the theorem, and `main` hands it the real ends.
+#![tactic(auto)]
+
+mod command;
+mod ending;
+mod lines;
+mod play;
+mod scenario;
+mod status;
+#[cfg(test)]
+mod tests;
+mod votes;
+
+use command::run;
+use sp_io::{StdSink, StdSource};
+use status::Status;
+use std::process::ExitCode;
+use std::{env, io};
+
+/// The words after the program's name, or the status where they can't be had.
+fn words_of_call(rt: &(impl env::Env + AllocGlobal)) -> Result<Vec<String>, Status> {
+    match env::args(rt) {
+        Ok(all) => {
+            let mut words = Vec::new(rt.alloc());
+            for word in all.skip(1) {
+                if words.push(word).is_err() {
+                    return Err(Status::Memory);
+                }
+            }
+            Ok(words)
+        }
+        Err(error) if error.kind() == io::ErrorKind::OutOfMemory => Err(Status::Memory),
+        Err(_) => Err(Status::Usage),
+    }
+}
+
+fn main(rt: HostRuntime) -> ExitCode {
+    let status = match words_of_call(&rt) {
+        Ok(words) => {
+            let mut source = StdSource::new(rt.stdin());
+            let mut sink = StdSink::new(rt.stdout());
+            run(rt.alloc(), &words, &mut source, &mut sink)
+        }
+        Err(status) => status,
+    };
+    if status == Status::Usage {
+        let _ = eprintln!(rt; "usage: spectre play");
+    }
+    ExitCode::from(status.code())
+}

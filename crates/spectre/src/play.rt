@@ -1,0 +1,168 @@
+//! The playing of a scenario: line by line up to its first fault, each answer written before the next line is read.
+
+ghost use Rattle.std.specs.Prelude.{◌≡◌, ◌<◌, ◌≤◌, ℕ, length, IfOk, IfErr, OnOk, OnErr, vec_len};
+ghost use Rattle.std.specs.Io.KnownBytes.{Appends};
+ghost use Rattle.sp_io.specs.Whole.{AppendsFront};
+ghost use Rattle.spectre.specs.Scenario as meant;
+ghost use Rattle.spectre.specs.Answers.{first_blocks, fault_line};
+ghost use Rattle.spectre.specs.Output.{played};
+ghost use Rattle.spectre.specs.Ends.{HasStopCause, EndsAs};
+
+use crate::ending::{Ending, Stop};
+use crate::lines;
+use crate::scenario::message::{Message, message_of};
+use crate::scenario::name::Name;
+use crate::scenario::why::{LineError, Why};
+use crate::scenario::words::first_line;
+use crate::votes::places::Places;
+use crate::votes::poll::Poll;
+use sp_ids::Memory as Refused;
+use sp_io::{Sink, write_whole};
+use std::alloc::Global;
+
+/// The blocks so far, each with its name.
+#[derive(Drop)]
+pub struct Table {
+    names: Vec<Name>,
+    blocks: Poll,
+    ghost few: { vec_len names ≤ 64 },
+    ghost named: { vec_len names ≡ length blocks },
+}
+
+impl Table {
+    ghost use Rattle.std.specs.Prelude.{◌++◌, [], ◌∷◌, true};
+    ghost use Rattle.sp_model.specs.Graph.{has};
+    ghost use Rattle.spectre.specs.Answers.{line, blocks_after};
+    ghost use Rattle.spectre.specs.Ends.{Fits, text_of};
+
+    /// Genesis alone.
+    fn new(alloc: Global) -> Result<Table, Stop>
+        ensures names { IfOk result (λ table. table.names.items ≡ meant.first_names) }
+        ensures blocks { IfOk result (λ table. table.blocks ≡ first_blocks) }
+        ensures cause { IfErr result (λ stop. stop ≡ Stop.Memory) }
+    {
+        let mut names = Vec::new(alloc);
+        names.push(Name::copied(alloc, b"G")?)?;
+        let blocks = Poll::new(alloc)?;
+        Ok(Table { names, blocks })
+    }
+
+    /// The message that a line is here, or why it is at fault.
+    fn message(&self, alloc: Global, line: &[u8]) -> Result<Result<Option<Message>, Why>, Refused>
+        ensures said { IfOk result (λ said. said ≡ meant.message_of self.now.names.items line.now) }
+        ensures fits { IfOk result (λ said. IfOk said (Fits (vec_len self.now.names))) }
+    {
+        match message_of(alloc, &self.names, line) {
+            Ok(message) => Ok(Ok(message)),
+            Err(LineError::Fault(why)) => Ok(Err(why)),
+            Err(LineError::Memory) => Err(Refused),
+        }
+    }
+
+    /// Keeps a block and writes its line.
+    #[tactic(auto, using(sp_io::proofs::Stops::stops_at_start))]
+    fn keep<K: Sink>(
+        &mut self,
+        alloc: Global,
+        name: Name,
+        parents: Places,
+        sink: &mut K,
+    ) -> Result<(), Stop>
+        requires room { vec_len self.old.names < 64 }
+        requires before { (parent : ℕ) → has parents parent ≡ true → parent < vec_len self.old.names }
+        ensures ok { OnOk result (Appends (K.taken sink.old) (K.taken sink.new) (line self.old.names.items self.old.blocks (Message.Block name parents))) }
+        ensures names { OnOk result (self.new.names.items ≡ self.old.names.items ++ name ∷ []) }
+        ensures blocks { OnOk result (self.new.blocks ≡ self.old.blocks ++ parents ∷ []) }
+        ensures err { OnErr result (AppendsFront (K.taken sink.old) (K.taken sink.new) (line self.old.names.items self.old.blocks (Message.Block name parents))) }
+        ensures cause { IfErr result (HasStopCause (K.faults sink.old) (K.faults sink.new)) }
+        ensures later { K.faults sink.old ≤ K.faults sink.new }
+    {
+        let text = lines::kept_line(alloc, &name, 1)?;
+        self.names.reserve(1)?;
+        self.blocks.add(alloc, parents)?;
+        self.names.push_reserved(name);
+        write_whole(sink, &text)?;
+        Ok(())
+    }
+
+    /// Writes the line of a question on two blocks.
+    #[tactic(auto, using(sp_io::proofs::Stops::stops_at_start), unfolding(crate::specs::Answers::line))]
+    fn tell<K: Sink>(&mut self, alloc: Global, x: u16, y: u16, sink: &mut K) -> Result<(), Stop>
+        requires first { x < vec_len self.old.names }
+        requires second { y < vec_len self.old.names }
+        ensures ok { OnOk result (Appends (K.taken sink.old) (K.taken sink.new) (line self.old.names.items self.old.blocks (Message.Vote x y))) }
+        ensures names { self.new.names.items ≡ self.old.names.items }
+        ensures blocks { self.new.blocks ≡ self.old.blocks }
+        ensures err { OnErr result (AppendsFront (K.taken sink.old) (K.taken sink.new) (line self.old.names.items self.old.blocks (Message.Vote x y))) }
+        ensures cause { IfErr result (HasStopCause (K.faults sink.old) (K.faults sink.new)) }
+        ensures later { K.faults sink.old ≤ K.faults sink.new }
+    {
+        let text = lines::vote_line(alloc, &self.names, &mut self.blocks, x, y)?;
+        write_whole(sink, &text)?;
+        Ok(())
+    }
+
+    /// Answers a message, none where the line is skipped.
+    fn answer<K: Sink>(
+        &mut self,
+        alloc: Global,
+        message: Option<Message>,
+        sink: &mut K,
+    ) -> Result<(), Stop>
+        requires { Fits (vec_len self.old.names) message }
+        ensures ok { OnOk result (Appends (K.taken sink.old) (K.taken sink.new) (text_of self.old.names.items self.old.blocks message)) }
+        ensures names { OnOk result (self.new.names.items ≡ meant.names_after self.old.names.items message) }
+        ensures blocks { OnOk result (self.new.blocks ≡ blocks_after self.old.blocks message) }
+        ensures err { OnErr result (AppendsFront (K.taken sink.old) (K.taken sink.new) (text_of self.old.names.items self.old.blocks message)) }
+        ensures cause { IfErr result (HasStopCause (K.faults sink.old) (K.faults sink.new)) }
+        ensures later { K.faults sink.old ≤ K.faults sink.new }
+    {
+        match message {
+            None => Ok(()),
+            Some(Message::Block(name, parents)) => self.keep(alloc, name, parents, sink),
+            Some(Message::Vote(x, y)) => self.tell(alloc, x, y, sink),
+        }
+    }
+}
+
+/// Writes the line of a fault.
+#[tactic(auto, using(sp_io::proofs::Stops::stops_at_start))]
+fn write_fault<K: Sink>(alloc: Global, number: u32, why: Why, sink: &mut K) -> Result<(), Stop>
+    ensures ok { OnOk result (Appends (K.taken sink.old) (K.taken sink.new) (fault_line number why)) }
+    ensures err { OnErr result (AppendsFront (K.taken sink.old) (K.taken sink.new) (fault_line number why)) }
+    ensures cause { IfErr result (HasStopCause (K.faults sink.old) (K.faults sink.new)) }
+    ensures later { K.faults sink.old ≤ K.faults sink.new }
+{
+    let line = lines::fault_line(alloc, number, why)?;
+    write_whole(sink, &line)?;
+    Ok(())
+}
+
+/// Plays a scenario up to its first fault, and writes that fault's line.
+pub fn play_text<K: Sink>(alloc: Global, text: &[u8], sink: &mut K) -> Result<Ending, Stop>
+    requires { length text.now < 16777216 }
+    ensures ok { OnOk result (Appends (K.taken sink.old) (K.taken sink.new) (played text.now)) }
+    ensures ending { IfOk result (EndsAs text.now) }
+    ensures err { OnErr result (AppendsFront (K.taken sink.old) (K.taken sink.new) (played text.now)) }
+    ensures cause { IfErr result (HasStopCause (K.faults sink.old) (K.faults sink.new)) }
+    ensures later { K.faults sink.old ≤ K.faults sink.new }
+{
+    let mut table = Table::new(alloc)?;
+    let mut rest = Some(text);
+    let mut number = 1u32;
+    'lines: loop {
+        let Some(bytes) = rest else {
+            return Ok(Ending::Whole);
+        };
+        let (line, after) = first_line(bytes);
+        match table.message(alloc, line)? {
+            Ok(message) => table.answer(alloc, message, sink)?,
+            Err(why) => {
+                write_fault(alloc, number, why, sink)?;
+                return Ok(Ending::Faulty);
+            }
+        }
+        number += 1;
+        rest = after;
+    }
+}
