@@ -1,0 +1,62 @@
+//! The edge where bytes go out: a writer of the standard library as a sink. What a file, a
+//! socket or a terminal does with them is trusted here, and nowhere above.
+
+ghost use Rattle.std.specs.Prelude.{◌≡◌, ℕ, ◌≤◌, ◌<◌, List, length, IfOk, Option};
+ghost use Rattle.std.specs.Io.KnownBytes.{WriteAppends};
+ghost use Rattle.sp_io.specs.Causes.{CountsFault, HasCause};
+
+use crate::failed::Failed;
+use crate::sink::Sink;
+use std::io::Write;
+
+/// A sink over a writer of the standard library.
+#[derive(Drop)]
+pub struct StdSink<W> {
+    writer: W,
+    faults: u64,
+}
+
+impl<W: Write> StdSink<W> {
+    /// A sink that passes all on to the writer. It adds no buffer and never flushes: pass a
+    /// buffered writer as `&mut`, and flush it afterwards.
+    pub fn new(writer: W) -> StdSink<W>
+        ensures taken { ⟦<StdSink<W> as Sink>⟧.taken result ≡ W.contents writer }
+        ensures faults { ⟦<StdSink<W> as Sink>⟧.faults result ≡ 0 }
+    {
+        StdSink { writer, faults: 0 }
+    }
+}
+
+impl<W: Write> Sink for StdSink<W> {
+    ghost taken = { λ s. W.contents s.writer };
+
+    ghost faults = { λ s. s.faults };
+
+    /// One call of the writer. The count of faults stays at 2^64 - 1 once it is there.
+    ///
+    /// # Errors
+    ///
+    /// `Failed` at each error of the writer, whatever its kind, and where it takes nothing of a
+    /// piece that isn't empty.
+    fn write(&mut self, piece: &[u8]) -> Result<usize, Failed>
+        ensures bound { IfOk result (λ n. n ≤ length piece.now) }
+        ensures progress { IfOk result (λ n. 0 < length piece.now → 0 < n) }
+        ensures bytes { WriteAppends
+            (⟦<StdSink<W> as Sink>⟧.taken self.old)
+            (⟦<StdSink<W> as Sink>⟧.taken self.new) result piece.now }
+        ensures cause { HasCause
+            (⟦<StdSink<W> as Sink>⟧.faults self.old)
+            (⟦<StdSink<W> as Sink>⟧.faults self.new) result }
+        ensures fault { CountsFault
+            (⟦<StdSink<W> as Sink>⟧.faults self.old)
+            (⟦<StdSink<W> as Sink>⟧.faults self.new) result }
+    {
+        match self.writer.write(piece) {
+            Ok(count) if 0 < count || piece.is_empty() => Ok(count),
+            _ => {
+                self.faults = self.faults.saturating_add(1);
+                Err(Failed)
+            }
+        }
+    }
+}

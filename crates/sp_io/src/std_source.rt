@@ -1,0 +1,61 @@
+//! The edge where bytes come in: a reader of the standard library as a source. What a file, a
+//! socket or a terminal gives is trusted here, and nowhere above.
+
+ghost use Rattle.std.specs.Prelude.{◌≡◌, ℕ, List, Option};
+ghost use Rattle.std.specs.Io.{ReadsAtMost};
+ghost use Rattle.std.specs.Io.KnownBytes.{ReadConsumes};
+ghost use Rattle.sp_io.specs.Causes.{CountsFault, HasCause};
+
+use crate::failed::Failed;
+use crate::source::Source;
+use std::io::Read;
+
+/// A source over a reader of the standard library.
+#[derive(Drop)]
+pub struct StdSource<R> {
+    reader: R,
+    faults: u64,
+}
+
+impl<R: Read> StdSource<R> {
+    /// A source that gives what the reader gives. It adds no buffer.
+    pub fn new(reader: R) -> StdSource<R>
+        ensures left { ⟦<StdSource<R> as Source>⟧.left result ≡ R.remaining reader }
+        ensures faults { ⟦<StdSource<R> as Source>⟧.faults result ≡ 0 }
+    {
+        StdSource { reader, faults: 0 }
+    }
+}
+
+impl<R: Read> Source for StdSource<R> {
+    ghost left = { λ s. R.remaining s.reader };
+
+    ghost faults = { λ s. s.faults };
+
+    /// One call of the reader. The count of faults stays at 2^64 - 1 once it is there.
+    ///
+    /// # Errors
+    ///
+    /// `Failed` at each error of the reader, whatever its kind: a call that was interrupted isn't
+    /// tried again.
+    fn read(&mut self, out: &mut [u8]) -> Result<usize, Failed>
+        ensures bound { ReadsAtMost result out.new }
+        ensures bytes { ReadConsumes
+            (⟦<StdSource<R> as Source>⟧.left self.old)
+            (⟦<StdSource<R> as Source>⟧.left self.new) result out.new }
+        ensures cause { HasCause
+            (⟦<StdSource<R> as Source>⟧.faults self.old)
+            (⟦<StdSource<R> as Source>⟧.faults self.new) result }
+        ensures fault { CountsFault
+            (⟦<StdSource<R> as Source>⟧.faults self.old)
+            (⟦<StdSource<R> as Source>⟧.faults self.new) result }
+    {
+        match self.reader.read(out) {
+            Ok(count) => Ok(count),
+            Err(_) => {
+                self.faults = self.faults.saturating_add(1);
+                Err(Failed)
+            }
+        }
+    }
+}
