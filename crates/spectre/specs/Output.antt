@@ -2,6 +2,7 @@
 use Rattle.std.specs.Prelude.{ℕ, ◌==◌, ◌&&◌, Bool, if◌then◌else◌, List, [], ◌++◌, length, nat_le, slice_index_or, codes, map, string_bytes, String}
 use Rattle.std.specs.Global.{Global}
 use Rattle.std.specs.Str.{bytes_eq}
+use Rattle.spectre.specs.Words.{scenario_limit}
 use Rattle.spectre.specs.Scenario.{scene, first_names}
 use Rattle.spectre.specs.Answers.{answers, first_blocks, fault_text, too_long_line}
 
@@ -17,9 +18,8 @@ is_play words = (length words == 1) && bytes_eq (slice_index_or words 0 []) (cod
 abbrev pub played : List ℕ → List ℕ
 played text = answers first_names first_blocks (scene text).messages ++ fault_text (scene text).fault
 
--- a scenario has fewer than 16,777,216 bytes
 abbrev pub is_too_long : List ℕ → Bool
-is_too_long input = nat_le 16777216 (length input)
+is_too_long input = nat_le scenario_limit (length input)
 
 abbrev pub output : List (List ℕ) → List ℕ → List ℕ
 output words input = if is_play words then (if is_too_long input then too_long_line else played input) else []

@@ -2,6 +2,7 @@
 use Rattle.std.specs.Prelude.{◌≡◌, ℕ, List, length, Option}
 use Rattle.std.specs.Io.KnownBytes.{Consumes}
 use Rattle.sp_io.specs.Causes.{Rose}
+use Rattle.spectre.specs.Words.{scenario_limit}
 use Rattle.spectre.specs.declared.scenario.reading.ScenarioFault.{ScenarioFault}
 use Rattle.spectre.specs.declared.scenario.reading.ScenarioFault.TheVariants.{ReadFault, TooLong, Memory}
 
@@ -12,5 +13,5 @@ Took old new n = (bytes : List ℕ) × Consumes old new bytes × (length bytes �
 -- the count rose, or the limit was taken
 abbrev pub HasReadCause : Option (List ℕ) → Option (List ℕ) → ℕ → ℕ → ScenarioFault → Type 0
 HasReadCause old new before now ReadFault = Rose before now
-HasReadCause old new before now (TooLong taken) = (taken ≡ 16777216) × Took old new 16777216
+HasReadCause old new before now (TooLong taken) = (taken ≡ scenario_limit) × Took old new scenario_limit
 HasReadCause old new before now Memory = Unit {0}

@@ -4,6 +4,7 @@ ghost use Rattle.std.specs.Prelude.{◌⊎◌, ◌-◌, ◌^◌, ◌≡◌, ◌�
 ghost use Rattle.std.specs.Io.KnownBytes.{Appends, IsAtEnd, Keeps};
 ghost use Rattle.sp_io.specs.Causes.{Rose};
 ghost use Rattle.sp_io.specs.Whole.{AppendsFront};
+ghost use Rattle.spectre.specs.Words.{scenario_limit};
 ghost use Rattle.spectre.specs.Scenario.{scene};
 ghost use Rattle.spectre.specs.Answers.{too_long_line};
 ghost use Rattle.spectre.specs.Output.{output, is_play, texts};
@@ -16,12 +17,14 @@ use crate::status::Status;
 use sp_io::{Sink, Source, write_whole};
 use std::alloc::Global;
 
+/// Whether the words are the one word `play`.
 fn asks_to_play(words: &[String]) -> bool
     ensures { result ≡ is_play (texts words.now) }
 {
     words.len() == 1 && words[0].as_bytes() == b"play".as_slice()
 }
 
+/// Writes the line of a scenario that is too long.
 #[tactic(auto, unfolding(crate::specs::Answers::too_long_line))]
 fn write_too_long<K: Sink>(sink: &mut K) -> Status
     ensures too_long { result ≡ Status.TooLong → Appends (K.taken sink.old) (K.taken sink.new) too_long_line }
@@ -35,7 +38,9 @@ fn write_too_long<K: Sink>(sink: &mut K) -> Status
     }
 }
 
-/// Runs the program on the words after its name.
+/// Runs the program on the words after its name, and answers how the run ended. `play` reads its scenario from `source`
+/// to the end before it writes the first line to `sink`. It takes time in proportion to the scenario's bytes, and for n
+/// blocks at most n^4 steps for each block and for each question that follows one.
 pub fn run<S: Source, K: Sink>(
     alloc: Global,
     words: &[String],
@@ -44,7 +49,7 @@ pub fn run<S: Source, K: Sink>(
 ) -> Status
     // Where the run is done, the sink took the output and nothing else, and the scenario has no fault.
     ensures done { result ≡ Status.Done → IfSome (S.left source.old) (λ input.
-        Appends (K.taken sink.old) (K.taken sink.new) (output (texts words.now) input) × IsNone (scene input).fault × (length input < 16777216)) }
+        Appends (K.taken sink.old) (K.taken sink.new) (output (texts words.now) input) × IsNone (scene input).fault × (length input < scenario_limit)) }
     ensures done_end { result ≡ Status.Done → IsAtEnd (S.left source.new) }
 
     // Where the words are wrong, nothing was read or written.
@@ -54,9 +59,9 @@ pub fn run<S: Source, K: Sink>(
 
     // Where the scenario is at fault or too long, the sink took the output, which ends with that fault's line.
     ensures malformed { result ≡ Status.Malformed → IfSome (S.left source.old) (λ input.
-        Appends (K.taken sink.old) (K.taken sink.new) (output (texts words.now) input) × IsSome (scene input).fault × (length input < 16777216)) }
+        Appends (K.taken sink.old) (K.taken sink.new) (output (texts words.now) input) × IsSome (scene input).fault × (length input < scenario_limit)) }
     ensures too_long { result ≡ Status.TooLong → IfSome (S.left source.old) (λ input.
-        Appends (K.taken sink.old) (K.taken sink.new) (output (texts words.now) input) × (16777216 ≤ length input)) }
+        Appends (K.taken sink.old) (K.taken sink.new) (output (texts words.now) input) × (scenario_limit ≤ length input)) }
 
     // Where something failed, the sink took a front of the output, and nothing where it was a read.
     ensures read_fault { result ≡ Status.ReadFault → sink.new ≡ sink.old }
@@ -70,7 +75,7 @@ pub fn run<S: Source, K: Sink>(
     // Where nothing failed and the scenario is short and without a fault, the run is done, or memory was refused.
     ensures complete { is_play (texts words.now) ≡ true
         → ¬ Rose (S.faults source.old) (S.faults source.new) → ¬ Rose (K.faults sink.old) (K.faults sink.new)
-        → IfSome (S.left source.old) (λ input. length input < 16777216 → IsNone (scene input).fault → (result ≡ Status.Done) ⊎ (result ≡ Status.Memory)) }
+        → IfSome (S.left source.old) (λ input. length input < scenario_limit → IsNone (scene input).fault → (result ≡ Status.Done) ⊎ (result ≡ Status.Memory)) }
 
     // The other statuses never come.
     ensures among { Comes result }

@@ -3,6 +3,7 @@
 ghost use Rattle.std.specs.Prelude.{◌≡◌, ◌<◌, ◌≤◌, ℕ, length, IfOk, IfErr, OnOk, OnErr, vec_len};
 ghost use Rattle.std.specs.Io.KnownBytes.{Appends};
 ghost use Rattle.sp_io.specs.Whole.{AppendsFront};
+ghost use Rattle.spectre.specs.Words.{scenario_limit};
 ghost use Rattle.spectre.specs.Scenario as meant;
 ghost use Rattle.spectre.specs.Answers.{first_blocks, fault_line};
 ghost use Rattle.spectre.specs.Output.{played};
@@ -140,7 +141,7 @@ fn write_fault<K: Sink>(alloc: Global, number: u32, why: Why, sink: &mut K) -> R
 
 /// Plays a scenario up to its first fault, and writes that fault's line.
 pub fn play_text<K: Sink>(alloc: Global, text: &[u8], sink: &mut K) -> Result<Ending, Stop>
-    requires { length text.now < 16777216 }
+    requires { length text.now < scenario_limit }
     ensures ok { OnOk result (Appends (K.taken sink.old) (K.taken sink.new) (played text.now)) }
     ensures ending { IfOk result (EndsAs text.now) }
     ensures err { OnErr result (AppendsFront (K.taken sink.old) (K.taken sink.new) (played text.now)) }

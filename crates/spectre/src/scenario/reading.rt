@@ -3,6 +3,7 @@
 ghost use Rattle.std.specs.Prelude.{◌≡◌, ◌<◌, ◌≤◌, ℕ, IfOk, IfErr, vec_len};
 ghost use Rattle.std.specs.Io.KnownBytes.{Consumes, IsAtEnd};
 ghost use Rattle.spectre.specs.Reading.{HasReadCause};
+ghost use Rattle.spectre.specs.Words.{scenario_limit};
 
 use sp_io::Source;
 use std::alloc::{AllocError, Global};
@@ -39,7 +40,7 @@ const PIECE: usize = 4096;
 pub fn read_scenario<S: Source>(alloc: Global, source: &mut S) -> Result<Vec<u8>, ScenarioFault>
     ensures bytes { IfOk result (λ text. Consumes (S.left source.old) (S.left source.new) text.items) }
     ensures end { IfOk result (λ _. IsAtEnd (S.left source.new)) }
-    ensures short { IfOk result (λ text. vec_len text < 16777216) }
+    ensures short { IfOk result (λ text. vec_len text < scenario_limit) }
     ensures cause { IfErr result (HasReadCause (S.left source.old) (S.left source.new) (S.faults source.old) (S.faults source.new)) }
     ensures later { S.faults source.old ≤ S.faults source.new }
 {

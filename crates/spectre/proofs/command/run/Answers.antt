@@ -2,6 +2,7 @@ use Rattle.std.proofs.Common.{◌≡◌, ◌<◌, ℕ, List, true, ap, subst, le
 use Rattle.std.proofs.lemmas.Grind.{common_steps}
 use Rattle.std.proofs.Common.{arith}
 use Rattle.sp_io.specs.Whole.{AppendsFront}
+use Rattle.spectre.specs.Words.{scenario_limit}
 use Rattle.spectre.specs.Output.{is_play, played, texts}
 use Rattle.spectre.proofs.Outputs.{on_played, on_too_long, on_nothing}
 use Rattle.spectre.proofs.command.run.Goals as goal
@@ -24,7 +25,7 @@ returns-in-Err-WriteFault-clause-write_fault g c = λ _.
     let b = g.K.Sink.taken c.play_text.new.sink in
     let words = texts c.args.words.now in
     let plays : is_play words ≡ true = grind (arith, common_steps) in
-    let short : length c.in-Ok.text.items < 16777216 = omega (arith, ap length c.deref.ensures.value, c.deref.ensures.len, c.in-Ok.ensures.short) in
+    let short : length c.in-Ok.text.items < scenario_limit = omega (arith, ap length c.deref.ensures.value, c.deref.ensures.len, c.in-Ok.ensures.short) in
     let P : List ℕ → Type 0 = λ text. AppendsFront a b (played text) in
     on_played (AppendsFront a b) words (g.S.Source.left c.args.source.now) (g.S.Source.left c.read_scenario.new.source) c.in-Ok.text.items plays c.in-Ok.ensures.bytes c.in-Ok.ensures.end short (subst P c.deref.ensures.value c.in-Err-WriteFault.ensures.err)
 
@@ -34,6 +35,6 @@ returns-clause-memory g c = λ _.
     let b = g.K.Sink.taken c.play_text.new.sink in
     let words = texts c.args.words.now in
     let plays : is_play words ≡ true = grind (arith, common_steps) in
-    let short : length c.in-Ok.text.items < 16777216 = omega (arith, ap length c.deref.ensures.value, c.deref.ensures.len, c.in-Ok.ensures.short) in
+    let short : length c.in-Ok.text.items < scenario_limit = omega (arith, ap length c.deref.ensures.value, c.deref.ensures.len, c.in-Ok.ensures.short) in
     let P : List ℕ → Type 0 = λ text. AppendsFront a b (played text) in
     on_played (AppendsFront a b) words (g.S.Source.left c.args.source.now) (g.S.Source.left c.read_scenario.new.source) c.in-Ok.text.items plays c.in-Ok.ensures.bytes c.in-Ok.ensures.end short (subst P c.deref.ensures.value c.in-Err-Memory-play_text.ensures.err)
