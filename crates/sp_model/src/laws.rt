@@ -1,5 +1,5 @@
-//! Laws of pasts and votes, over the definitions alone. Each is the contract of a function that does nothing, so that the
-//! check proves it.
+//! Laws of pasts and votes, over the definitions alone. Each is the contract of a function that
+//! does nothing, so that the check proves it.
 
 ghost use Rattle.std.specs.Prelude.{◌≡◌, ◌==◌, ◌||◌, ◌↔◌, ℕ, List, [], ◌∷◌, IsTrue};
 ghost use Rattle.std.specs.List.{list_any};
@@ -20,7 +20,8 @@ pub fn completeness()
         (z : ℕ) → IsTrue (has (complete graph) z) → IsTrue (has set z) }
 {}
 
-/// The past of a complete block is its parents and their pasts, and a path of any length leads into it.
+/// The past of a complete block is its parents and their pasts, and a path of any length leads into
+/// it.
 #[tactic(auto, using(crate::proofs::Pasts::in_past_step, crate::proofs::Paths::in_past_by_path))]
 pub fn past_by_steps()
     ensures parents { (graph : Graph) (a z : ℕ) → IsTrue (has (complete graph) z) →
@@ -29,7 +30,8 @@ pub fn past_by_steps()
         IsTrue (reaches_within steps graph a z) → IsTrue (in_past graph a z) }
 {}
 
-/// The vote of a member of a downset is given by the first case that applies, with no bound on how deep the recursion goes.
+/// The vote of a member of a downset is given by the first case that applies, with no bound on how
+/// deep the recursion goes.
 #[tactic(auto, using(crate::proofs::Recursion::vote_is))]
 pub fn vote_by_cases()
     ensures { (graph : Graph) (set : List ℕ) (z x y : ℕ) → IsDownset graph set → IsTrue (has set z) →

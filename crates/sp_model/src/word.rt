@@ -1,4 +1,5 @@
-//! The answer to a question on two blocks, apart from the laws since the program's crates hold it as a value.
+//! The answer to a question on two blocks, apart from the laws since the program's crates hold it
+//! as a value.
 
 /// What the blocks of a set say of two blocks, the first and the second one asked for.
 #[derive(Clone, Copy, Debug, PartialEq, Eq)]

@@ -27,10 +27,13 @@ is_line_byte b = (b == 9) || (nat_le 32 b && nat_le b 126)
 
 -- letters, digits, `_` and `-`
 abbrev pub is_name_byte : ℕ → Bool
-is_name_byte b = (nat_le 97 b && nat_le b 122) || (nat_le 65 b && nat_le b 90) || (nat_le 48 b && nat_le b 57) || (b == 95) || (b == 45)
+is_name_byte b =
+    (nat_le 97 b && nat_le b 122) || (nat_le 65 b && nat_le b 90) || (nat_le 48 b && nat_le b 57) || (b == 95) || (b == 45)
 
 abbrev pub is_key_word : List ℕ → Bool
-is_key_word word = is_word (codes "on") word || is_word (codes "carries") word || is_word (codes "spends") word || is_word (codes "with") word || is_word (codes "pays") word || is_word (codes "to") word
+is_key_word word =
+    is_word (codes "on") word || is_word (codes "carries") word || is_word (codes "spends") word
+    || is_word (codes "with") word || is_word (codes "pays") word || is_word (codes "to") word
 
 -- a well-formed name
 unfoldable pub is_name : List ℕ → Bool
@@ -53,11 +56,14 @@ new_name names word =
 unfoldable pub parents_of : List (List ℕ) → List ℕ → List (List ℕ) → Result (List ℕ) Why
 parents_of names found [] = Ok found
 parents_of names found (word ∷ words) =
-    known names word >>= λ place. if list_any (λ p. p == place) found then Err why.Repeat else parents_of names (found ++ place ∷ []) words
+    known names word >>= λ place.
+    if list_any (λ p. p == place) found then Err why.Repeat else parents_of names (found ++ place ∷ []) words
 
 -- `block NAME on NAME ..`, with no `carries`
 abbrev pub is_block_form : List (List ℕ) → Bool
-is_block_form words = nat_lt 3 (length words) && is_word (codes "on") (word_at words 2) && not (list_any (is_word (codes "carries")) (drop 3 words))
+is_block_form words =
+    nat_lt 3 (length words) && is_word (codes "on") (word_at words 2)
+    && not (list_any (is_word (codes "carries")) (drop 3 words))
 
 -- a line `block`: its form, its words from left to right, at most 64 parents, and at most 63 blocks beside genesis
 unfoldable pub block_of : List (List ℕ) → List (List ℕ) → Result (Option Message) Why

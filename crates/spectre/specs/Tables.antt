@@ -35,7 +35,8 @@ members_of row = filter (λ z. slice_index_or row z false) (numbers_below (lengt
 -- the votes on x and y of the members from a place on stand in the list
 abbrev pub AreVotesFrom : Graph → List Bool → ℕ → ℕ → ℕ → List ℤ → Type 0
 AreVotesFrom graph row x y from votes =
-    (w : ℕ) → from ≤ w → w < length row → slice_index_or row w false ≡ true → slice_index_or votes w (pos 0) ≡ vote graph (members_of row) w x y
+    (w : ℕ) → from ≤ w → w < length row → slice_index_or row w false ≡ true
+    → slice_index_or votes w (pos 0) ≡ vote graph (members_of row) w x y
 
 -- the last block is present, and it is the one that became present
 pub record BecomesPresent (before after : List (List ℕ)) : Type 0 where

@@ -27,8 +27,10 @@ fn asks_to_play(words: &[String]) -> bool
 /// Writes the line of a scenario that is too long.
 #[tactic(auto, unfolding(crate::specs::Answers::too_long_line))]
 fn write_too_long<K: Sink>(sink: &mut K) -> Status
-    ensures too_long { result ≡ Status.TooLong → Appends (K.taken sink.old) (K.taken sink.new) too_long_line }
-    ensures write_fault { result ≡ Status.WriteFault → AppendsFront (K.taken sink.old) (K.taken sink.new) too_long_line }
+    ensures too_long { result ≡ Status.TooLong →
+        Appends (K.taken sink.old) (K.taken sink.new) too_long_line }
+    ensures write_fault { result ≡ Status.WriteFault →
+        AppendsFront (K.taken sink.old) (K.taken sink.new) too_long_line }
     ensures cause { result ≡ Status.WriteFault → Rose (K.faults sink.old) (K.faults sink.new) }
     ensures among { result ≢ Status.TooLong → result ≡ Status.WriteFault }
 {
@@ -38,18 +40,21 @@ fn write_too_long<K: Sink>(sink: &mut K) -> Status
     }
 }
 
-/// Runs the program on the words after its name, and answers how the run ended. `play` reads its scenario from `source`
-/// to the end before it writes the first line to `sink`. It takes time in proportion to the scenario's bytes, and for n
-/// blocks at most n^4 steps for each block and for each question that follows one.
+/// Runs the program on the words after its name, and answers how the run ended. `play` reads its
+/// scenario from `source` to the end before it writes the first line to `sink`. It takes time in
+/// proportion to the scenario's bytes, and for n blocks at most n^4 steps for each block and for
+/// each question that follows one.
 pub fn run<S: Source, K: Sink>(
     alloc: Global,
     words: &[String],
     source: &mut S,
     sink: &mut K,
 ) -> Status
-    // Where the run is done, the sink took the output and nothing else, and the scenario has no fault.
+    // Where the run is done, the sink took the output and nothing else, and the scenario has no
+    // fault.
     ensures done { result ≡ Status.Done → IfSome (S.left source.old) (λ input.
-        Appends (K.taken sink.old) (K.taken sink.new) (output (texts words.now) input) × IsNone (scene input).fault × (length input < scenario_limit)) }
+        Appends (K.taken sink.old) (K.taken sink.new) (output (texts words.now) input)
+        × IsNone (scene input).fault × (length input < scenario_limit)) }
     ensures done_end { result ≡ Status.Done → IsAtEnd (S.left source.new) }
 
     // Where the words are wrong, nothing was read or written.
@@ -57,11 +62,14 @@ pub fn run<S: Source, K: Sink>(
     ensures unread { result ≡ Status.Usage → source.new ≡ source.old }
     ensures unwritten { result ≡ Status.Usage → sink.new ≡ sink.old }
 
-    // Where the scenario is at fault or too long, the sink took the output, which ends with that fault's line.
+    // Where the scenario is at fault or too long, the sink took the output, which ends with that
+    // fault's line.
     ensures malformed { result ≡ Status.Malformed → IfSome (S.left source.old) (λ input.
-        Appends (K.taken sink.old) (K.taken sink.new) (output (texts words.now) input) × IsSome (scene input).fault × (length input < scenario_limit)) }
+        Appends (K.taken sink.old) (K.taken sink.new) (output (texts words.now) input)
+        × IsSome (scene input).fault × (length input < scenario_limit)) }
     ensures too_long { result ≡ Status.TooLong → IfSome (S.left source.old) (λ input.
-        Appends (K.taken sink.old) (K.taken sink.new) (output (texts words.now) input) × (scenario_limit ≤ length input)) }
+        Appends (K.taken sink.old) (K.taken sink.new) (output (texts words.now) input)
+        × (scenario_limit ≤ length input)) }
 
     // Where something failed, the sink took a front of the output, and nothing where it was a read.
     ensures read_fault { result ≡ Status.ReadFault → sink.new ≡ sink.old }
@@ -72,10 +80,13 @@ pub fn run<S: Source, K: Sink>(
     ensures read_cause { result ≡ Status.ReadFault → Rose (S.faults source.old) (S.faults source.new) }
     ensures write_cause { result ≡ Status.WriteFault → Rose (K.faults sink.old) (K.faults sink.new) }
 
-    // Where nothing failed and the scenario is short and without a fault, the run is done, or memory was refused.
+    // Where nothing failed and the scenario is short and without a fault, the run is done, or
+    // memory was refused.
     ensures complete { is_play (texts words.now) ≡ true
-        → ¬ Rose (S.faults source.old) (S.faults source.new) → ¬ Rose (K.faults sink.old) (K.faults sink.new)
-        → IfSome (S.left source.old) (λ input. length input < scenario_limit → IsNone (scene input).fault → (result ≡ Status.Done) ⊎ (result ≡ Status.Memory)) }
+        → ¬ Rose (S.faults source.old) (S.faults source.new)
+        → ¬ Rose (K.faults sink.old) (K.faults sink.new)
+        → IfSome (S.left source.old) (λ input. length input < scenario_limit
+        → IsNone (scene input).fault → (result ≡ Status.Done) ⊎ (result ≡ Status.Memory)) }
 
     // The other statuses never come.
     ensures among { Comes result }

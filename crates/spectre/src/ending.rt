@@ -1,4 +1,5 @@
-//! How the playing of a scenario ends, shared by the functions that write and by `run`, which turns it into a status.
+//! How the playing of a scenario ends, shared by the functions that write and by `run`, which turns
+//! it into a status.
 
 use sp_ids::Memory as Refused;
 use sp_io::Failed;

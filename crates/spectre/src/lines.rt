@@ -27,9 +27,11 @@ fn word_text(word: Word) -> &'static [u8]
     }
 }
 
-/// The line of a block that is kept and present, and of the number of blocks that became present with it.
+/// The line of a block that is kept and present, and of the number of blocks that became present
+/// with it.
 pub fn kept_line(alloc: Global, name: &Name, present: u32) -> Result<Vec<u8>, Memory>
-    ensures { IfOk result (λ line. line.items ≡ codes "kept " ++ name.now ++ codes " present " ++ decimal present ++ 10 ∷ []) }
+    ensures { IfOk result (λ line. line.items ≡
+        codes "kept " ++ name.now ++ codes " present " ++ decimal present ++ 10 ∷ []) }
 {
     let digits = present.to_string(alloc)?;
     let mut line = Vec::with_capacity(alloc, LONGEST)?;

@@ -1,4 +1,5 @@
-//! The playing of a scenario: line by line up to its first fault, each answer written before the next line is read.
+//! The playing of a scenario: line by line up to its first fault, each answer written before the
+//! next line is judged.
 
 ghost use Rattle.std.specs.Prelude.{◌≡◌, ◌<◌, ◌≤◌, ℕ, length, IfOk, IfErr, OnOk, OnErr, vec_len};
 ghost use Rattle.std.specs.Io.KnownBytes.{Appends};
@@ -23,7 +24,7 @@ use std::alloc::Global;
 
 /// The blocks so far, each with its name.
 #[derive(Drop)]
-pub struct Table {
+struct Table {
     names: Vec<Name>,
     blocks: Poll,
     ghost few: { vec_len names ≤ 64 },
@@ -70,11 +71,14 @@ impl Table {
         sink: &mut K,
     ) -> Result<(), Stop>
         requires room { vec_len self.old.names < 64 }
-        requires before { (parent : ℕ) → has parents parent ≡ true → parent < vec_len self.old.names }
-        ensures ok { OnOk result (Appends (K.taken sink.old) (K.taken sink.new) (line self.old.names.items self.old.blocks (Message.Block name parents))) }
+        requires before { (parent : ℕ) → has parents parent ≡ true →
+            parent < vec_len self.old.names }
+        ensures ok { OnOk result (Appends (K.taken sink.old) (K.taken sink.new)
+            (line self.old.names.items self.old.blocks (Message.Block name parents))) }
         ensures names { OnOk result (self.new.names.items ≡ self.old.names.items ++ name ∷ []) }
         ensures blocks { OnOk result (self.new.blocks ≡ self.old.blocks ++ parents ∷ []) }
-        ensures err { OnErr result (AppendsFront (K.taken sink.old) (K.taken sink.new) (line self.old.names.items self.old.blocks (Message.Block name parents))) }
+        ensures err { OnErr result (AppendsFront (K.taken sink.old) (K.taken sink.new)
+            (line self.old.names.items self.old.blocks (Message.Block name parents))) }
         ensures cause { IfErr result (HasStopCause (K.faults sink.old) (K.faults sink.new)) }
         ensures later { K.faults sink.old ≤ K.faults sink.new }
     {
@@ -91,10 +95,12 @@ impl Table {
     fn tell<K: Sink>(&mut self, alloc: Global, x: u16, y: u16, sink: &mut K) -> Result<(), Stop>
         requires first { x < vec_len self.old.names }
         requires second { y < vec_len self.old.names }
-        ensures ok { OnOk result (Appends (K.taken sink.old) (K.taken sink.new) (line self.old.names.items self.old.blocks (Message.Vote x y))) }
+        ensures ok { OnOk result (Appends (K.taken sink.old) (K.taken sink.new)
+            (line self.old.names.items self.old.blocks (Message.Vote x y))) }
         ensures names { self.new.names.items ≡ self.old.names.items }
         ensures blocks { self.new.blocks ≡ self.old.blocks }
-        ensures err { OnErr result (AppendsFront (K.taken sink.old) (K.taken sink.new) (line self.old.names.items self.old.blocks (Message.Vote x y))) }
+        ensures err { OnErr result (AppendsFront (K.taken sink.old) (K.taken sink.new)
+            (line self.old.names.items self.old.blocks (Message.Vote x y))) }
         ensures cause { IfErr result (HasStopCause (K.faults sink.old) (K.faults sink.new)) }
         ensures later { K.faults sink.old ≤ K.faults sink.new }
     {
@@ -111,10 +117,13 @@ impl Table {
         sink: &mut K,
     ) -> Result<(), Stop>
         requires { Fits (vec_len self.old.names) message }
-        ensures ok { OnOk result (Appends (K.taken sink.old) (K.taken sink.new) (text_of self.old.names.items self.old.blocks message)) }
-        ensures names { OnOk result (self.new.names.items ≡ meant.names_after self.old.names.items message) }
+        ensures ok { OnOk result (Appends (K.taken sink.old) (K.taken sink.new)
+            (text_of self.old.names.items self.old.blocks message)) }
+        ensures names { OnOk result
+            (self.new.names.items ≡ meant.names_after self.old.names.items message) }
         ensures blocks { OnOk result (self.new.blocks ≡ blocks_after self.old.blocks message) }
-        ensures err { OnErr result (AppendsFront (K.taken sink.old) (K.taken sink.new) (text_of self.old.names.items self.old.blocks message)) }
+        ensures err { OnErr result (AppendsFront (K.taken sink.old) (K.taken sink.new)
+            (text_of self.old.names.items self.old.blocks message)) }
         ensures cause { IfErr result (HasStopCause (K.faults sink.old) (K.faults sink.new)) }
         ensures later { K.faults sink.old ≤ K.faults sink.new }
     {
@@ -129,8 +138,10 @@ impl Table {
 /// Writes the line of a fault.
 #[tactic(auto, using(sp_io::proofs::Stops::stops_at_start))]
 fn write_fault<K: Sink>(alloc: Global, number: u32, why: Why, sink: &mut K) -> Result<(), Stop>
-    ensures ok { OnOk result (Appends (K.taken sink.old) (K.taken sink.new) (fault_line number why)) }
-    ensures err { OnErr result (AppendsFront (K.taken sink.old) (K.taken sink.new) (fault_line number why)) }
+    ensures ok { OnOk result
+        (Appends (K.taken sink.old) (K.taken sink.new) (fault_line number why)) }
+    ensures err { OnErr result
+        (AppendsFront (K.taken sink.old) (K.taken sink.new) (fault_line number why)) }
     ensures cause { IfErr result (HasStopCause (K.faults sink.old) (K.faults sink.new)) }
     ensures later { K.faults sink.old ≤ K.faults sink.new }
 {

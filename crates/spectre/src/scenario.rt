@@ -1,4 +1,5 @@
-//! The reading of a scenario: its bytes from a source, its lines and words, and the message that each line is.
+//! The reading of a scenario: its bytes from a source, its lines and words, and the message that
+//! each line is.
 
 pub mod message;
 pub mod name;

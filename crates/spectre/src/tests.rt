@@ -1,5 +1,6 @@
-//! Tests of the whole program by its top call, over sources and sinks in memory: what the contracts rest on and can't say,
-//! that the definitions are the rules. Every expected answer was worked out by hand from the rules.
+//! Tests of the whole program by its top call, over sources and sinks in memory: what the contracts
+//! rest on and can't say, that the definitions are the rules. Every expected answer was worked out
+//! by hand from the rules.
 
 mod answered;
 mod faults;

@@ -1,5 +1,5 @@
-//! The votes on a scenario's blocks, by the plainest means: for each block the matrix of the virtual votes of its past, and
-//! one matrix of those of all blocks.
+//! The votes on a scenario's blocks, by the plainest means: for each block the matrix of the
+//! virtual votes of its past, and one matrix of those of all blocks.
 
 pub mod ballots;
 pub mod dag;

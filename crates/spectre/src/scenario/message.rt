@@ -1,4 +1,5 @@
-//! The message that a line of a scenario is: the line's words judged in the order of the scenario language's rules.
+//! The message that a line of a scenario is: the line's words judged in the order of the scenario
+//! language's rules.
 
 ghost use Rattle.std.specs.Prelude.{◌≡◌, ◌+◌, ◌==◌, ◌<◌, ◌≤◌, ℕ, List, [], ◌∷◌, ◌++◌, length, drop, true, IfOk, IfSome};
 ghost use Rattle.std.specs.Bool.{OnFalse};
@@ -26,24 +27,28 @@ pub enum Message {
 /// The most blocks with genesis, and the most parents of one.
 const MOST: usize = 64;
 
+/// Whether a name may hold the byte.
 fn is_name_byte(byte: u8) -> bool
     ensures { result ≡ meant.is_name_byte byte }
 {
     matches!(byte, b'a'..=b'z' | b'A'..=b'Z' | b'0'..=b'9' | b'_' | b'-')
 }
 
+/// Whether a line that isn't skipped may hold the byte.
 fn is_line_byte(byte: u8) -> bool
     ensures { result ≡ meant.is_line_byte byte }
 {
     matches!(byte, b'\t' | b' '..=b'~')
 }
 
+/// Whether a line holds only such bytes.
 fn has_line_bytes(line: &[u8]) -> bool
     ensures { result ≡ list_all meant.is_line_byte line.now }
 {
     line.iter().all(|byte| is_line_byte(*byte))
 }
 
+/// Whether a word has a meaning of its own in the language, so that it names nothing.
 fn is_key_word(word: &[u8]) -> bool
     ensures { result ≡ meant.is_key_word word.now }
 {
@@ -55,12 +60,14 @@ fn is_key_word(word: &[u8]) -> bool
         || word == b"to".as_slice()
 }
 
+/// Whether a word holds only bytes of names.
 fn has_name_bytes(word: &[u8]) -> bool
     ensures { result ≡ list_all meant.is_name_byte word.now }
 {
     word.iter().all(|byte| is_name_byte(*byte))
 }
 
+/// Whether a word is a well-formed name.
 #[tactic(auto, unfolding(crate::specs::Scenario::is_name))]
 fn is_name(word: &[u8]) -> bool
     ensures { result ≡ meant.is_name word.now }
@@ -68,6 +75,7 @@ fn is_name(word: &[u8]) -> bool
     1 <= word.len() && word.len() <= 32 && has_name_bytes(word) && !is_key_word(word)
 }
 
+/// The place of the block of this name, found by looking at each.
 fn place_of(names: &[Name], word: &[u8]) -> Option<usize>
     ensures value { result ≡ meant.place_of names.now word.now }
     ensures within { IfSome result (λ place. place < length names.now) }
@@ -75,6 +83,7 @@ fn place_of(names: &[Name], word: &[u8]) -> Option<usize>
     names.iter().position(|name| name.as_slice() == word)
 }
 
+/// The place of the known block that a word names.
 #[tactic(auto, unfolding(crate::specs::Scenario::known))]
 fn known(names: &[Name], word: &[u8]) -> Result<u16, LineError>
     requires { length names.now ≤ 64 }
@@ -87,6 +96,7 @@ fn known(names: &[Name], word: &[u8]) -> Result<u16, LineError>
     }
 }
 
+/// The new name that a word is.
 #[tactic(auto, unfolding(crate::specs::Scenario::new_name))]
 fn new_name(alloc: Global, names: &[Name], word: &[u8]) -> Result<Name, LineError>
     ensures { Gives result (meant.new_name names.now word.now) }
@@ -111,7 +121,8 @@ fn parents_of(
     requires few { length names.now ≤ 64 }
     requires within { from ≤ length words.now }
     ensures gives { Gives result (meant.parents_of names.now [] (drop from words.now)) }
-    ensures there { IfOk result (λ found. (parent : ℕ) → has found parent ≡ true → parent < length names.now) }
+    ensures there { IfOk result (λ found. (parent : ℕ) → has found parent ≡ true →
+        parent < length names.now) }
 {
     let mut found = Places::new(alloc);
     for place in from..words.len() {
@@ -124,6 +135,7 @@ fn parents_of(
     Ok(found)
 }
 
+/// Whether one of the words from a place on is this text.
 fn has_word(words: &Words, text: &[u8], from: usize) -> bool
     requires { from ≤ length words.now }
     ensures { result ≡ list_any (meant.is_word text.now) (drop from words.now) }
@@ -136,12 +148,14 @@ fn has_word(words: &Words, text: &[u8], from: usize) -> bool
     false
 }
 
+/// Whether the words have the form `block NAME on NAME ..`, with no `carries`.
 fn is_block_form(words: &Words) -> bool
     ensures { result ≡ meant.is_block_form words.now }
 {
     3 < words.len() && words.at(2) == b"on".as_slice() && !has_word(words, b"carries".as_slice(), 3)
 }
 
+/// The message of a line `block`.
 #[tactic(auto, unfolding(crate::specs::Scenario::block_of))]
 fn block_of(alloc: Global, names: &[Name], words: &Words) -> Result<Option<Message>, LineError>
     requires { length names.now ≤ 64 }
@@ -159,6 +173,7 @@ fn block_of(alloc: Global, names: &[Name], words: &Words) -> Result<Option<Messa
     Ok(Some(Message::Block(name, parents)))
 }
 
+/// The message of a line `vote`.
 #[tactic(auto, unfolding(crate::specs::Scenario::vote_of))]
 fn vote_of(names: &[Name], words: &Words) -> Result<Option<Message>, LineError>
     requires { length names.now ≤ 64 }
@@ -173,6 +188,7 @@ fn vote_of(names: &[Name], words: &Words) -> Result<Option<Message>, LineError>
     Ok(Some(Message::Vote(x, y)))
 }
 
+/// Whether a line is skipped: it has no words, or the first one begins with `#`.
 #[tactic(auto, unfolding(crate::specs::Scenario::is_skipped))]
 fn is_skipped(words: &Words) -> bool
     ensures value { result ≡ meant.is_skipped words.now }
@@ -181,7 +197,8 @@ fn is_skipped(words: &Words) -> bool
     words.len() == 0 || words.at(0).first() == Some(&b'#')
 }
 
-/// The message that a line is where blocks of these names are known, none where the line is skipped.
+/// The message that a line is where blocks of these names are known, none where the line is
+/// skipped.
 #[tactic(auto, unfolding(crate::specs::Scenario::message_of))]
 pub fn message_of(alloc: Global, names: &[Name], line: &[u8]) -> Result<Option<Message>, LineError>
     requires { length names.now ≤ 64 }

@@ -9,14 +9,17 @@ use sp_ids::Memory;
 use std::alloc::{AllocError, Global};
 use std::marker::Model;
 
+/// The byte that ends a line.
 const LINE_END: u8 = b'\n';
 
+/// The place of the first line end.
 fn line_end(text: &[u8]) -> Option<usize>
     ensures { result ≡ position is_line_end text.now }
 {
     text.iter().position(|byte| *byte == LINE_END)
 }
 
+/// A line without one byte 13 at its end.
 fn without_return(line: &[u8]) -> &[u8]
     ensures { result.now ≡ strip_carriage_return line.now }
 {
@@ -37,20 +40,24 @@ pub fn first_line(text: &[u8]) -> (&[u8], Option<&[u8]>)
     }
 }
 
+/// Whether a byte separates words.
 fn is_space_or_tab(byte: u8) -> bool
     ensures { result ≡ is_blank byte }
 {
     byte == b' ' || byte == b'\t'
 }
 
+/// The parts of a line between spaces and tabs, empty ones too.
 fn parts_of(alloc: Global, line: &[u8]) -> Result<Vec<&[u8]>, AllocError>
     ensures { IfOk result (λ parts. map (λ part. part.now) parts.items ≡ slice_split is_blank line.now) }
 {
     line.split(|byte| is_space_or_tab(*byte)).collect(alloc)
 }
 
+/// The parts that aren't empty.
 fn without_empty<'a>(alloc: Global, parts: &[&'a [u8]]) -> Result<Vec<&'a [u8]>, AllocError>
-    ensures { IfOk result (λ kept. map (λ part. part.now) kept.items ≡ filter (λ part. not (length part == 0)) (map (λ part. part.now) parts.now)) }
+    ensures { IfOk result (λ kept. map (λ part. part.now) kept.items
+        ≡ filter (λ part. not (length part == 0)) (map (λ part. part.now) parts.now)) }
 {
     let mut kept = Vec::new(alloc);
     for part in parts {
@@ -74,6 +81,7 @@ impl<'a> Model for Words<'a> {
 }
 
 impl<'a> Words<'a> {
+    /// The words of a line, in time in proportion to its bytes.
     pub fn of(alloc: Global, line: &'a [u8]) -> Result<Words<'a>, Memory>
         ensures { IfOk result (λ words. words ≡ words_of line.now) }
     {
@@ -82,12 +90,14 @@ impl<'a> Words<'a> {
         Ok(Words { list })
     }
 
+    /// The number of words.
     pub fn len(&self) -> usize
         ensures { result ≡ length self.now }
     {
         self.list.len()
     }
 
+    /// The word at a place, counted from 0.
     pub fn at(&self, place: usize) -> &'a [u8]
         requires { place < length self.now }
         ensures rest { drop place self.now ≡ result.now ∷ drop (place + 1) self.now }

@@ -1,4 +1,5 @@
-//! Scenarios that break a rule: each reason, and lines that break two rules at once, which show the order of judgement.
+//! Scenarios that break a rule: each reason, and lines that break two rules at once, which show the
+//! order of judgement.
 
 use crate::tests::Case;
 

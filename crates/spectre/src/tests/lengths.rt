@@ -56,7 +56,8 @@ fn long_texts(rt: HostRuntime) -> Result<(), Fail> {
             output,
         )?;
     }
-    // Of a longer text the rest stays unread. Where its line can't be written whole, the write is at fault.
+    // Of a longer text the rest stays unread. Where its line can't be written whole, the write is
+    // at fault.
     let text = after_line_ends(alloc, LIMIT - 8, b"vote G G\n")?;
     let source = MemSource::new(text, 65535, Fails::Never);
     let mut ended = ran(

@@ -7,7 +7,8 @@ use std::alloc::Global;
 use std::process::Abort;
 use std::test::Fail;
 
-/// Plays a text while each call of the source, each call of the sink and each lack of room comes in turn.
+/// Plays a text while each call of the source, each call of the sink and each lack of room comes in
+/// turn.
 fn fails_in_turn(
     rt: &impl Abort,
     alloc: Global,

@@ -40,7 +40,8 @@ enum Shape {
     Ladder,
     /// All before.
     Full,
-    /// The one before the one before, so that the odd ones are a chain of 32, and the even ones a chain of 31.
+    /// The one before the one before, so that the odd ones are a chain of 32, and the even ones a
+    /// chain of 31.
     TwoChains,
 }
 
@@ -58,8 +59,8 @@ impl Shape {
         }
     }
 
-    /// The answer to a vote. An ancestor is before its descendants, blocks alone on genesis are in a tie,
-    /// and every block of the longer chain is before every block of the shorter.
+    /// The answer to a vote. An ancestor is before its descendants, blocks alone on genesis are in
+    /// a tie, and every block of the longer chain is before every block of the shorter.
     fn word(self, x: u8, y: u8) -> &'static str {
         let related = match self {
             Shape::Chain | Shape::Ladder | Shape::Full => true,

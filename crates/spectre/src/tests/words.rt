@@ -25,8 +25,8 @@ const NO_COMMAND: [&[u8]; 14] = [
     b"--\nplay\n",
 ];
 
-/// Runs the program on these words. The first call of its source and of its sink would fail, so that it shows
-/// afterwards that none was made.
+/// Runs the program on these words. The first call of its source and of its sink would fail, so
+/// that it shows afterwards that none was made.
 fn is_refused_unread(rt: &impl Abort, alloc: Global, lines: &[u8]) -> Result<(), Fail> {
     let source = MemSource::new(Vec::from_slice(alloc, SAMPLE)?, 7, fails_at(alloc, 0)?);
     let sink = MemSink::new(alloc, 4096, 7, fails_at(alloc, 0)?)?;

@@ -87,7 +87,8 @@ fn vote_of(dag: &Dag, members: &[bool], votes: &[i8], z: usize, x: usize, y: usi
     sign_of(sum_of_future(dag, members, votes, z))
 }
 
-/// The votes of the members on `x` and `y`, found from the highest member down; 0 for a block that is no member.
+/// The votes of the members on `x` and `y`, found from the highest member down; 0 for a block that
+/// is no member.
 fn votes_of(
     alloc: Global,
     dag: &Dag,
@@ -111,7 +112,8 @@ fn votes_of(
     Ok(votes)
 }
 
-/// The virtual vote of the members on `x` and `y`. It takes as many steps as the square of the number of blocks at most.
+/// The virtual vote of the members on `x` and `y`. It takes as many steps as the square of the
+/// number of blocks at most.
 pub fn virt_of(alloc: Global, dag: &Dag, members: &[bool], x: usize, y: usize) -> Result<i8, Memory>
     requires width { length members.now ≡ length dag.now }
     requires x_in { x < length members.now }

@@ -1,4 +1,5 @@
-//! The graph of a scenario's blocks with its tables: which blocks are in whose past, and the virtual votes of each past.
+//! The graph of a scenario's blocks with its tables: which blocks are in whose past, and the
+//! virtual votes of each past.
 
 ghost use Rattle.std.specs.Prelude.{◌≡◌, ◌≤◌, ◌<◌, ◌++◌, ℕ, List, [], ◌∷◌, map, length, true, IfOk, OnOk, OnErr};
 ghost use Rattle.sp_model.specs.Graph.{has, in_past, past};
@@ -13,7 +14,8 @@ use sp_ids::Memory;
 use std::alloc::Global;
 use std::marker::Model;
 
-/// Blocks in the order of making, genesis first. Contracts see the parents of each, by their places.
+/// Blocks in the order of making, genesis first. Contracts see the parents of each, by their
+/// places.
 #[derive(Drop)]
 pub struct Dag {
     parents: Vec<Places>,

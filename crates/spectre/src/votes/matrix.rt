@@ -1,4 +1,5 @@
-//! A matrix of virtual votes, a type of its own so that contracts see a list of lists in a list of them.
+//! A matrix of virtual votes, a type of its own so that contracts see a list of lists in a list of
+//! them.
 
 ghost use Rattle.std.specs.Prelude.{◌≡◌, ◌++◌, ◌<◌, List, ℤ, pos, [], ◌∷◌, length, slice_index_or, OnOk, OnErr};
 
@@ -6,8 +7,8 @@ use sp_ids::Memory;
 use std::alloc::Global;
 use std::marker::Model;
 
-/// The virtual votes on each two blocks of a front of the blocks, row by row: of n blocks the one on x and y stands at
-/// x * n + y. -1 is for x before y, +1 for y before x, and 0 is a tie.
+/// The virtual votes on each two blocks of a front of the blocks, row by row: of n blocks the one
+/// on x and y stands at x * n + y. -1 is for x before y, +1 for y before x, and 0 is a tie.
 #[derive(Drop)]
 pub struct Matrix {
     list: Vec<i8>,

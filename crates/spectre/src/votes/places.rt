@@ -45,12 +45,14 @@ impl Places {
         self.list.contains(&place)
     }
 
+    /// The number of places.
     pub fn len(&self) -> usize
         ensures { result ≡ length self.now }
     {
         self.list.len()
     }
 
+    /// The places in order.
     pub fn as_slice(&self) -> &[u16]
         ensures { result.now ≡ self.now }
     {

@@ -1,5 +1,6 @@
-//! The blocks of a scenario and what they say of two of them: the graph with its tables, and the matrix of the virtual votes
-//! of all blocks, which is made at the first question after a block and kept until the next block.
+//! The blocks of a scenario and what they say of two of them: the graph with its tables, and the
+//! matrix of the virtual votes of all blocks, which is made at the first question after a block and
+//! kept until the next block.
 
 ghost use Rattle.std.specs.Prelude.{◌≡◌, ◌≤◌, ◌<◌, ◌++◌, ℕ, ℤ, List, [], ◌∷◌, map, length, true, IfOk, OnOk, OnErr};
 ghost use Rattle.sp_model.specs.Graph.{has, complete};
@@ -65,7 +66,8 @@ fn word_of(vote: i8) -> Word
     }
 }
 
-/// Blocks in the order of making, genesis first. Contracts see the parents of each, by their places.
+/// Blocks in the order of making, genesis first. Contracts see the parents of each, by their
+/// places.
 #[derive(Drop)]
 pub struct Poll {
     dag: Dag,
@@ -95,7 +97,8 @@ impl Poll {
         Ok(Poll { dag, all: None })
     }
 
-    /// Adds a block, which is present at once since its parents stand before it. It takes as many steps as the fourth power of the number of blocks at most.
+    /// Adds a block, which is present at once since its parents stand before it. It takes as many
+    /// steps as the fourth power of the number of blocks at most.
     pub fn add(&mut self, alloc: Global, parents: Places) -> Result<(), Memory>
         requires room { length self.old < 64 }
         requires before { (parent : ℕ) → has parents parent ≡ true → parent < length self.old }
@@ -110,7 +113,8 @@ impl Poll {
         self.dag.push(parents, row, virts)
     }
 
-    /// The matrix of the virtual votes of all blocks: the one that is kept, which is taken out, or else a new one.
+    /// The matrix of the virtual votes of all blocks: the one that is kept, which is taken out, or
+    /// else a new one.
     fn take_matrix(&mut self, alloc: Global) -> Result<Matrix, Memory>
         ensures matrix { IfOk result (λ matrix. matrix ≡ virts_in (graph_of self.old) (complete (graph_of self.old)) (length self.old)) }
         ensures same { self.new ≡ self.old }
@@ -121,8 +125,8 @@ impl Poll {
         virts_of_all(alloc, &self.dag)
     }
 
-    /// What all blocks say of two of them. It takes as many steps as the fourth power of the number of blocks at most where
-    /// a block was added since the last question, else a few.
+    /// What all blocks say of two of them. It takes as many steps as the fourth power of the number
+    /// of blocks at most where a block was added since the last question, else a few.
     pub fn word(&mut self, alloc: Global, x: usize, y: usize) -> Result<Word, Memory>
         requires x_in { x < length self.old }
         requires y_in { y < length self.old }

@@ -1,4 +1,5 @@
-//! A row of truth values, a type of its own so that contracts see a list of lists in a list of them.
+//! A row of truth values, a type of its own so that contracts see a list of lists in a list of
+//! them.
 
 ghost use Rattle.std.specs.Prelude.{◌≡◌, ◌++◌, ◌<◌, List, Bool, [], ◌∷◌, length, false, slice_index_or, OnOk, OnErr};
 
@@ -45,6 +46,7 @@ impl Row {
         self.list[place]
     }
 
+    /// The values in order of the blocks.
     pub fn as_slice(&self) -> &[bool]
         ensures { result.now ≡ self.now }
     {
