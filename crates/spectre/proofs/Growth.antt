@@ -16,13 +16,13 @@ use Rattle.spectre.proofs.Numbers.{length-numbers_below, has-numbers_below, has-
 use Rattle.spectre.proofs.InOrder.{keys-graph_of, parents_of-graph_of, all_complete, complete-graph_of, distinct_keys, past_before, past_is_below}
 use Rattle.spectre.proofs.Grids.{grid_same}
 
-length-more : (ps : List (List ℕ)) (p : List ℕ) → length (ps ++ p ∷ []) ≡ length ps + 1
+pub length-more : (ps : List (List ℕ)) (p : List ℕ) → length (ps ++ p ∷ []) ≡ length ps + 1
 length-more ps p = omega (arith, length-append ps (p ∷ []))
 
-parents_at_end : (ps : List (List ℕ)) (p : List ℕ) → get_or (ps ++ p ∷ []) (length ps) [] ≡ p
+pub parents_at_end : (ps : List (List ℕ)) (p : List ℕ) → get_or (ps ++ p ∷ []) (length ps) [] ≡ p
 parents_at_end ps p = get_or_at ps p [] [] (length ps) refl
 
-parents_before : (ps : List (List ℕ)) (p : List ℕ) (z : ℕ) → z < length ps → get_or (ps ++ p ∷ []) z [] ≡ get_or ps z []
+pub parents_before : (ps : List (List ℕ)) (p : List ℕ) (z : ℕ) → z < length ps → get_or (ps ++ p ∷ []) z [] ≡ get_or ps z []
 parents_before ps p z lt = get_or_append_left ps (p ∷ []) [] z lt
 
 pub order_more : (ps : List (List ℕ)) (p : List ℕ) → AreInOrder ps → ((q : ℕ) → has p q ≡ true → q < length ps) → AreInOrder (ps ++ p ∷ [])

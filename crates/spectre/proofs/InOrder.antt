@@ -73,7 +73,7 @@ past_before ps a z order lt h = go (suc z) ps a z order (omega arith) lt h
           | inr there ↦ (let r : a < found.0 = go k ps a found.0 order (omega arith) (omega arith) there in omega arith)
         ]
 
-nil_from_none : (xs : List ℕ) → ((z : ℕ) → has xs z ≡ true → ⊥) → [] ≡ xs
+pub nil_from_none : (xs : List ℕ) → ((z : ℕ) → has xs z ≡ true → ⊥) → [] ≡ xs
 nil_from_none [] h = refl
 nil_from_none (x ∷ xs) h = absurd (h x (or_left (eqb x x) (has xs x) (eq-eqb x x refl)))
 

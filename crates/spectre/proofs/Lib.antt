@@ -10,3 +10,5 @@ pub mod NextLine
 pub mod Progress
 pub mod Outputs
 pub mod KeptLine
+pub mod SaidBlocks
+pub mod SceneGraphs

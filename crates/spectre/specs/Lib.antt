@@ -8,3 +8,4 @@ pub mod Reading
 pub mod Tables
 pub mod Ends
 pub mod Codes
+pub mod Made

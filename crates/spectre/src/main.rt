@@ -5,6 +5,7 @@
 
 mod command;
 mod ending;
+mod laws;
 mod lines;
 mod play;
 mod scenario;
