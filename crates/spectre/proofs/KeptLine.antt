@@ -2,7 +2,7 @@
 use Rattle.std.proofs.Common.{◌≡◌, ℕ, ◌+◌, ◌-◌, List, [], ◌∷◌, ◌++◌, refl, arith}
 use Rattle.std.specs.Prelude.{codes}
 use Rattle.std.specs.Fmt.{decimal}
-use Rattle.spectre.specs.Answers.{kept_line, line}
+use Rattle.spectre.specs.Lines.{kept_line, line}
 use Rattle.spectre.specs.Tables.{BecomesPresent}
 use Rattle.spectre.specs.declared.scenario.message.Message.TheVariants.{Block}
 

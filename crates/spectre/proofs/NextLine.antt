@@ -1,7 +1,7 @@
 -- What the next line of a scenario adds to what is written.
 use Rattle.std.proofs.Common.{◌≡◌, ℕ, ◌+◌, List, [], ◌∷◌, ◌++◌, Option, Some, None, Result, Ok, Err, refl, ap, ◌∙◌, append_assoc}
 use Rattle.spectre.specs.Scenario.{Scene, scene_at, scene_from, message_of, names_after, messages_of}
-use Rattle.spectre.specs.Answers.{answers, blocks_after, fault_line, fault_text}
+use Rattle.spectre.specs.Lines.{answers, blocks_after, fault_line, fault_text}
 use Rattle.spectre.specs.Ends.{rest_of, text_of}
 use Rattle.spectre.specs.declared.scenario.message.Message.{Message}
 use Rattle.spectre.specs.declared.scenario.why.Why.{Why}

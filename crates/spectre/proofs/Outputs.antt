@@ -4,7 +4,7 @@ use Rattle.std.proofs.lemmas.List.{append-nil}
 use Rattle.std.specs.Io.KnownBytes.{Consumes, IsAtEnd}
 use Rattle.sp_io.specs.Whole.{AppendsFront, wrote_none}
 use Rattle.spectre.specs.Words.{scenario_limit}
-use Rattle.spectre.specs.Answers.{too_long_line}
+use Rattle.spectre.specs.Lines.{too_long_line}
 use Rattle.spectre.specs.Output.{output, played, is_play, is_too_long}
 use Rattle.spectre.specs.Reading.{Took}
 

@@ -5,7 +5,7 @@ use Rattle.std.specs.Io.KnownBytes.{Appends}
 use Rattle.sp_io.specs.Whole.{Wrote, AppendsFront, wrote_none, wrote_more, wrote_stops, wrote_all}
 use Rattle.spectre.specs.Words.{lines_of}
 use Rattle.spectre.specs.Scenario.{Fault, scene, scene_from, message_of, names_after, first_names}
-use Rattle.spectre.specs.Answers.{blocks_after, first_blocks, fault_line}
+use Rattle.spectre.specs.Lines.{blocks_after, first_blocks, fault_line}
 use Rattle.spectre.specs.Output.{played}
 use Rattle.spectre.specs.Ends.{rest_of, text_of}
 use Rattle.spectre.specs.declared.scenario.message.Message.{Message}

@@ -5,7 +5,7 @@ use Rattle.sp_model.specs.Graph.{IsGraph, AreDistinct, has, keys, parents_of, co
 use Rattle.spectre.specs.Blocks.{graph_of, AreInOrder}
 use Rattle.spectre.specs.Words.{lines_of}
 use Rattle.spectre.specs.Scenario.{scene_at, scene_from, message_of, names_after, messages_of, first_names}
-use Rattle.spectre.specs.Answers.{blocks_after, first_blocks}
+use Rattle.spectre.specs.Lines.{blocks_after, first_blocks}
 use Rattle.spectre.specs.Made.{made, blocks_of}
 use Rattle.spectre.specs.declared.scenario.message.Message.{Message}
 use Rattle.spectre.specs.declared.scenario.message.Message.TheVariants.{Block, Vote}

@@ -3,7 +3,7 @@ use Rattle.std.specs.Prelude.{◌≡◌, ◌<◌, ℕ, true, List, [], ◌++◌,
 use Rattle.sp_io.specs.Causes.{Rose}
 use Rattle.sp_model.specs.Graph.{has}
 use Rattle.spectre.specs.Scenario.{scene, scene_from}
-use Rattle.spectre.specs.Answers.{line, answers, fault_text}
+use Rattle.spectre.specs.Lines.{line, answers, fault_text}
 use Rattle.spectre.specs.declared.scenario.message.Message.{Message}
 use Rattle.spectre.specs.declared.scenario.message.Message.TheVariants.{Block, Vote}
 use Rattle.spectre.specs.declared.status.Status.{Status}

@@ -1,7 +1,7 @@
 pub mod Words
 pub mod Blocks
 pub mod Scenario
-pub mod Answers
+pub mod Lines
 pub mod Output
 pub mod Gives
 pub mod Reading

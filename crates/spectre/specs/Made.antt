@@ -1,7 +1,7 @@
 -- The blocks that a scenario makes.
 use Rattle.std.specs.Prelude.{ℕ, List, [], ◌∷◌, Some}
 use Rattle.spectre.specs.Scenario.{scene}
-use Rattle.spectre.specs.Answers.{blocks_after, first_blocks}
+use Rattle.spectre.specs.Lines.{blocks_after, first_blocks}
 use Rattle.spectre.specs.declared.scenario.message.Message.{Message}
 
 -- the parents of each block after these messages

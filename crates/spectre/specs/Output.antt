@@ -4,7 +4,7 @@ use Rattle.std.specs.Global.{Global}
 use Rattle.std.specs.Str.{bytes_eq}
 use Rattle.spectre.specs.Words.{scenario_limit}
 use Rattle.spectre.specs.Scenario.{scene, first_names}
-use Rattle.spectre.specs.Answers.{answers, first_blocks, fault_text, too_long_line}
+use Rattle.spectre.specs.Lines.{answers, first_blocks, fault_text, too_long_line}
 
 -- the words after the program's name, as lists of bytes
 abbrev pub texts : List (String Global) → List (List ℕ)

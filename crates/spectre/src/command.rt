@@ -6,7 +6,7 @@ ghost use Rattle.sp_io.specs.Causes.{Rose};
 ghost use Rattle.sp_io.specs.Whole.{AppendsFront};
 ghost use Rattle.spectre.specs.Words.{scenario_limit};
 ghost use Rattle.spectre.specs.Scenario.{scene};
-ghost use Rattle.spectre.specs.Answers.{too_long_line};
+ghost use Rattle.spectre.specs.Lines.{too_long_line};
 ghost use Rattle.spectre.specs.Output.{output, is_play, texts};
 ghost use Rattle.spectre.specs.Ends.{Comes};
 
@@ -25,7 +25,7 @@ fn asks_to_play(words: &[String]) -> bool
 }
 
 /// Writes the line of a scenario that is too long.
-#[tactic(auto, unfolding(crate::specs::Answers::too_long_line))]
+#[tactic(auto, unfolding(crate::specs::Lines::too_long_line))]
 fn write_too_long<K: Sink>(sink: &mut K) -> Status
     ensures too_long { result ≡ Status.TooLong →
         Appends (K.taken sink.old) (K.taken sink.new) too_long_line }

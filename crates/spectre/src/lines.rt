@@ -3,7 +3,7 @@
 ghost use Rattle.std.specs.Prelude.{◌≡◌, ◌<◌, ◌++◌, [], ◌∷◌, codes, length, IfOk};
 ghost use Rattle.std.specs.Fmt.{decimal};
 ghost use Rattle.spectre.specs.Blocks.{graph_of};
-ghost use Rattle.spectre.specs.Answers as meant;
+ghost use Rattle.spectre.specs.Lines as meant;
 
 use crate::scenario::name::Name;
 use crate::scenario::why::Why;
@@ -44,7 +44,7 @@ pub fn kept_line(alloc: Global, name: &Name, present: u32) -> Result<Vec<u8>, Me
 }
 
 /// The line that answers a question on two blocks.
-#[tactic(auto, unfolding(crate::specs::Answers::vote_line))]
+#[tactic(auto, unfolding(crate::specs::Lines::vote_line))]
 pub fn vote_line(
     alloc: Global,
     names: &[Name],
@@ -73,7 +73,7 @@ pub fn vote_line(
 }
 
 /// The line of a scenario's fault.
-#[tactic(auto, unfolding(crate::specs::Answers::fault_line))]
+#[tactic(auto, unfolding(crate::specs::Lines::fault_line))]
 pub fn fault_line(alloc: Global, number: u32, why: Why) -> Result<Vec<u8>, Memory>
     ensures { IfOk result (λ line. line.items ≡ meant.fault_line number why) }
 {

@@ -6,7 +6,7 @@ ghost use Rattle.std.specs.Io.KnownBytes.{Appends};
 ghost use Rattle.sp_io.specs.Whole.{AppendsFront};
 ghost use Rattle.spectre.specs.Words.{scenario_limit};
 ghost use Rattle.spectre.specs.Scenario as meant;
-ghost use Rattle.spectre.specs.Answers.{first_blocks, fault_line};
+ghost use Rattle.spectre.specs.Lines.{first_blocks, fault_line};
 ghost use Rattle.spectre.specs.Output.{played};
 ghost use Rattle.spectre.specs.Ends.{HasStopCause, EndsAs};
 
@@ -34,7 +34,7 @@ struct Table {
 impl Table {
     ghost use Rattle.std.specs.Prelude.{◌++◌, [], ◌∷◌, true};
     ghost use Rattle.sp_model.specs.Graph.{has};
-    ghost use Rattle.spectre.specs.Answers.{line, blocks_after};
+    ghost use Rattle.spectre.specs.Lines.{line, blocks_after};
     ghost use Rattle.spectre.specs.Ends.{Fits, text_of};
 
     /// Genesis alone.
@@ -91,7 +91,7 @@ impl Table {
     }
 
     /// Writes the line of a question on two blocks.
-    #[tactic(auto, using(sp_io::proofs::Stops::stops_at_start), unfolding(crate::specs::Answers::line))]
+    #[tactic(auto, using(sp_io::proofs::Stops::stops_at_start), unfolding(crate::specs::Lines::line))]
     fn tell<K: Sink>(&mut self, alloc: Global, x: u16, y: u16, sink: &mut K) -> Result<(), Stop>
         requires first { x < vec_len self.old.names }
         requires second { y < vec_len self.old.names }

@@ -25,7 +25,7 @@ pub enum Why {
 
 impl Why {
     ghost use Rattle.std.specs.Prelude.{◌≡◌};
-    ghost use Rattle.spectre.specs.Answers.{reason};
+    ghost use Rattle.spectre.specs.Lines.{reason};
 
     /// The word of a reason in a fault line.
     pub fn text(&self) -> &'static [u8]
