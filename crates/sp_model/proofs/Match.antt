@@ -119,17 +119,6 @@ has-map r (x ∷ xs) y h =
       | inr there ↦ (let found : (z : ℕ) × (has xs z ≡ true) × (r z ≡ y) = has-map r xs y there in (found.0, or_right (eqb x found.0) (has xs found.0) found.1, found.2))
     ]
 
-has-map_from : (r : ℕ → ℕ) (xs : List ℕ) (x : ℕ) → has xs x ≡ true → has (map r xs) (r x) ≡ true
-has-map_from r [] x h = absurd (false≢true h)
-has-map_from r (y ∷ ys) x h =
-    elim (or_cases (eqb y x) (has ys x) h) [
-      | inl same ↦ or_left (eqb (r y) (r x)) (has (map r ys) (r x)) (eq-eqb (r y) (r x) (ap r (eqb-true y x same)))
-      | inr there ↦ or_right (eqb (r y) (r x)) (has (map r ys) (r x)) (has-map_from r ys x there)
-    ]
-
-pub Matched-map : (r : ℕ → ℕ) (xs : List ℕ) → Matched r xs (map r xs)
-Matched-map r xs = record { into = λ x h. has-map_from r xs x h; onto = λ y h. has-map r xs y h }
-
 member_parent : (g : Graph) (s : List ℕ) (z p : ℕ) → IsDownset g s → has s z ≡ true → has (parents_of g z) p ≡ true → has s p ≡ true
 member_parent g s z p down h parent = down.closed z p h (parent_in_past g p z (down.all_complete z h) parent)
 

@@ -1,7 +1,7 @@
 //! Laws of pasts and votes, over the definitions alone. Each is the contract of a function that
 //! does nothing, so that the check proves it.
 
-ghost use Rattle.std.specs.Prelude.{◌≡◌, ◌==◌, ◌||◌, ◌↔◌, ℕ, List, [], ◌∷◌, IsTrue};
+ghost use Rattle.std.specs.Prelude.{◌≡◌, ◌==◌, ◌||◌, ℕ, List, [], ◌∷◌, IsTrue};
 ghost use Rattle.std.specs.List.{list_any};
 ghost use Rattle.sp_model.specs.declared.word.Word.TheVariants.{Before, After, Tie, Same, Absent};
 ghost use Rattle.sp_model.specs.Graph.{Graph, IsDownset, AreDistinct, has, parents_of, round, complete, reaches_within, in_past, past, bar, future, related, anticone};
@@ -20,14 +20,16 @@ pub fn completeness()
         (z : ℕ) → IsTrue (has (complete graph) z) → IsTrue (has set z) }
 {}
 
-/// The past of a complete block is its parents and their pasts, and a path of any length leads into
-/// it.
-#[tactic(auto, using(crate::proofs::Pasts::in_past_step, crate::proofs::Paths::in_past_by_path))]
+/// The past of a complete block is its parents and their pasts, a path of any length leads into it,
+/// and the block itself isn't in it.
+#[tactic(auto, using(crate::proofs::Pasts::in_past_step, crate::proofs::Paths::in_past_by_path, crate::proofs::Pasts::not_in_own_past))]
 pub fn past_by_steps()
     ensures parents { (graph : Graph) (a z : ℕ) → IsTrue (has (complete graph) z) →
         in_past graph a z ≡ list_any (λ parent. (parent == a) || in_past graph a parent) (parents_of graph z) }
     ensures path { (graph : Graph) (steps a z : ℕ) → IsTrue (has (complete graph) z) →
         IsTrue (reaches_within steps graph a z) → IsTrue (in_past graph a z) }
+    ensures apart { (graph : Graph) (z : ℕ) → IsTrue (has (complete graph) z) →
+        ¬ IsTrue (in_past graph z z) }
 {}
 
 /// The vote of a member of a downset is given by the first case that applies, with no bound on how

@@ -25,10 +25,6 @@ at_start a text names blocks e f =
     subst P (sym e) (subst Q (sym f) (record { wrote = wrote_none a (played text); fault = refl }))
 
 module _ {a b : Option (List ℕ)} {text : List ℕ} {names blocks : List (List ℕ)} {number : ℕ} {lines : List (List ℕ)} where
-  -- memory was refused
-  pub so_far : Progress a b text names blocks number lines → AppendsFront a b (played text)
-  so_far p = (rest_of names blocks number lines, p.wrote)
-
   next_wrote : {line : List ℕ} {more : List (List ℕ)} (piece rest : List ℕ) → Progress a b text names blocks number lines → lines ≡ line ∷ more → rest_of names blocks number (line ∷ more) ≡ piece ++ rest → Wrote a b (played text) (piece ++ rest)
   next_wrote piece rest p e f =
       let P : List ℕ → Type 0 = Wrote a b (played text) in

@@ -1,7 +1,7 @@
 //! The top call: all that the program does, with the theorem as its contract.
 
-ghost use Rattle.std.specs.Prelude.{◌⊎◌, ◌-◌, ◌^◌, ◌≡◌, ◌↔◌, ◌<◌, ◌≤◌, ℕ, ◌≢◌, false, true, length, IfSome, IfErr, OnOk, OnErr, IsNone, IsSome};
-ghost use Rattle.std.specs.Io.KnownBytes.{Appends, IsAtEnd, Keeps};
+ghost use Rattle.std.specs.Prelude.{◌⊎◌, ◌≡◌, ◌↔◌, ◌<◌, ◌≤◌, ◌≢◌, false, true, length, IfSome, IsNone, IsSome};
+ghost use Rattle.std.specs.Io.KnownBytes.{Appends, IsAtEnd};
 ghost use Rattle.sp_io.specs.Causes.{Rose};
 ghost use Rattle.sp_io.specs.Whole.{AppendsFront};
 ghost use Rattle.spectre.specs.Words.{scenario_limit};

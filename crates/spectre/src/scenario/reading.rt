@@ -1,6 +1,6 @@
 //! The reading of a whole scenario from a source, up to the limit of its bytes.
 
-ghost use Rattle.std.specs.Prelude.{◌≡◌, ◌<◌, ◌≤◌, ℕ, IfOk, IfErr, vec_len};
+ghost use Rattle.std.specs.Prelude.{◌≡◌, ◌<◌, ◌≤◌, IfOk, IfErr, vec_len};
 ghost use Rattle.std.specs.Io.KnownBytes.{Consumes, IsAtEnd};
 ghost use Rattle.spectre.specs.Reading.{HasReadCause};
 ghost use Rattle.spectre.specs.Words.{scenario_limit};

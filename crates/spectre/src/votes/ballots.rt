@@ -1,6 +1,6 @@
 //! The votes of the members of one set on one pair of blocks, and the sign of their sum.
 
-ghost use Rattle.std.specs.Prelude.{◌≡◌, ◌≤◌, ◌<◌, ◌+◌, ℕ, length, IfOk, IsTrue, slice_index_or, pos, false};
+ghost use Rattle.std.specs.Prelude.{◌≡◌, ◌≤◌, ◌<◌, ◌+◌, length, IfOk, IsTrue, slice_index_or, pos, false};
 ghost use Rattle.sp_model.specs.Graph.{IsDownset, future};
 ghost use Rattle.sp_model.specs.Votes.{vote, virt, sgn, total};
 ghost use Rattle.spectre.specs.Blocks.{graph_of};

@@ -2,7 +2,7 @@
 //! matrix of the virtual votes of all blocks, which is made at the first question after a block and
 //! kept until the next block.
 
-ghost use Rattle.std.specs.Prelude.{◌≡◌, ◌≤◌, ◌<◌, ◌++◌, ℕ, ℤ, List, [], ◌∷◌, map, length, true, IfOk, OnOk, OnErr};
+ghost use Rattle.std.specs.Prelude.{◌≡◌, ◌<◌, ◌++◌, ℕ, List, [], ◌∷◌, map, length, true, IfOk, OnOk, OnErr};
 ghost use Rattle.sp_model.specs.Graph.{has, complete};
 ghost use Rattle.sp_model.specs.Votes as meant;
 ghost use Rattle.spectre.specs.Blocks.{graph_of, numbers_below};
