@@ -93,15 +93,9 @@ pub fn plays_all(
     cases: &[Case],
     status: Status,
 ) -> Result<(), Fail> {
-    for (name, text, output) in cases {
-        plays(
-            rt,
-            alloc,
-            name,
-            Vec::from_slice(alloc, text)?,
-            status,
-            output,
-        )?;
+    for case in cases {
+        let text = Vec::from_slice(alloc, case.1)?;
+        plays(rt, alloc, case.0, text, status, case.2)?;
     }
     Ok(())
 }

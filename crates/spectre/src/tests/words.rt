@@ -25,20 +25,29 @@ const NO_COMMAND: [&[u8]; 14] = [
     b"--\nplay\n",
 ];
 
-/// Runs the program on these words. The first call of its source and of its sink would fail, so
-/// that it shows afterwards that none was made.
+/// The first read of the source is still to come, and fails; the next one gives the first bytes.
+fn is_unread(rt: &impl Abort, mut source: MemSource) {
+    let mut piece = [0u8; 7];
+    assert_eq!(rt; source.read(&mut piece), Err(Failed));
+    assert_eq!(rt; source.read(&mut piece), Ok(7));
+    assert_eq!(rt; piece, *b"block A");
+}
+
+/// The first write to the sink is still to come, and fails.
+fn is_unwritten(rt: &impl Abort, mut sink: MemSink) {
+    assert_eq!(rt; sink.bytes(), b"".as_slice());
+    assert_eq!(rt; sink.write(b"x"), Err(Failed));
+}
+
+/// Runs the program on these words. The first call of its source and of its sink would fail, which
+/// shows afterwards that none was made.
 fn is_refused_unread(rt: &impl Abort, alloc: Global, lines: &[u8]) -> Result<(), Fail> {
     let source = MemSource::new(Vec::from_slice(alloc, SAMPLE)?, 7, fails_at(alloc, 0)?);
     let sink = MemSink::new(alloc, 4096, 7, fails_at(alloc, 0)?)?;
-    let mut ended = ran(alloc, lines, source, sink)?;
-    let words = str::from_utf8(lines)?;
-    assert_eq!(rt; ended.status, Status::Usage, "{words:?}");
-    assert_eq!(rt; ended.sink.bytes(), b"".as_slice(), "{words:?}");
-    let mut piece = [0u8; 7];
-    assert_eq!(rt; ended.source.read(&mut piece), Err(Failed), "{words:?}");
-    assert_eq!(rt; ended.source.read(&mut piece), Ok(7), "{words:?}");
-    assert_eq!(rt; piece, *b"block A", "{words:?}");
-    assert_eq!(rt; ended.sink.write(b"x"), Err(Failed), "{words:?}");
+    let ended = ran(alloc, lines, source, sink)?;
+    assert_eq!(rt; ended.status, Status::Usage, "{:?}", str::from_utf8(lines)?);
+    is_unread(rt, ended.source);
+    is_unwritten(rt, ended.sink);
     Ok(())
 }
 
