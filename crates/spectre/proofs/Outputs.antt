@@ -2,7 +2,8 @@
 use Rattle.std.proofs.Common.{◌≡◌, ◌<◌, ◌≤◌, ℕ, List, [], ◌++◌, Option, Some, None, IfSome, true, false, cond, length, nat_le, ap, ◌∙◌, sym, subst, arith, length-append}
 use Rattle.std.proofs.lemmas.List.{append-nil}
 use Rattle.std.specs.Io.KnownBytes.{Consumes, IsAtEnd}
-use Rattle.sp_io.specs.Whole.{AppendsFront, wrote_none}
+use Rattle.sp_io.specs.Whole.{AppendsFront}
+use Rattle.sp_io.proofs.Writing.{wrote_none}
 use Rattle.spectre.specs.Words.{scenario_limit}
 use Rattle.spectre.specs.Lines.{too_long_line}
 use Rattle.spectre.specs.Output.{output, played, is_play, is_too_long}

@@ -2,7 +2,8 @@
 use Rattle.std.proofs.Common.{◌≡◌, ℕ, ◌+◌, List, [], ◌∷◌, ◌++◌, Option, IsSome, IsNone, Ok, Err, refl, ap, ◌∙◌, sym, subst}
 use Rattle.std.proofs.lemmas.List.{append-nil}
 use Rattle.std.specs.Io.KnownBytes.{Appends}
-use Rattle.sp_io.specs.Whole.{Wrote, AppendsFront, wrote_none, wrote_more, wrote_stops, wrote_all}
+use Rattle.sp_io.specs.Whole.{Wrote, AppendsFront}
+use Rattle.sp_io.proofs.Writing.{wrote_none, wrote_more, wrote_stops, wrote_all}
 use Rattle.spectre.specs.Words.{lines_of}
 use Rattle.spectre.specs.Scenario.{Fault, scene, scene_from, message_of, names_after, first_names}
 use Rattle.spectre.specs.Lines.{blocks_after, first_blocks, fault_line}
