@@ -12,9 +12,10 @@ use sp_ids::Memory;
 use sp_model::Word;
 use std::alloc::Global;
 
-/// No line is longer.
+/// Room for the longest line.
 const LONGEST: usize = 192;
 
+/// The word of an answer to a question on two blocks.
 fn word_text(word: Word) -> &'static [u8]
     ensures { result.now ≡ meant.word_text word }
 {

@@ -68,6 +68,7 @@ fn vote_of(dag: &Dag, members: &[bool], votes: &[i8], z: usize, x: usize, y: usi
     requires above { AreVotesFrom (graph_of dag.now) members.now x y (z + 1) votes.now }
     ensures { result ≡ vote (graph_of dag.now) (members_of members.now) z x y }
 {
+    // Tells the proof that the blocks stand in order.
     let _blocks = dag.len();
     if z == x {
         return if dag.in_past(y, x) { 1 } else { -1 };
@@ -121,6 +122,7 @@ pub fn virt_of(alloc: Global, dag: &Dag, members: &[bool], x: usize, y: usize) -
     requires whole { IsDownset (graph_of dag.now) (members_of members.now) }
     ensures ok { IfOk result (λ v. v ≡ virt (graph_of dag.now) (members_of members.now) x y) }
 {
+    // Tells the proof that there are at most 64 blocks, so that the sum fits.
     let _blocks = dag.len();
     let votes = votes_of(alloc, dag, members, x, y)?;
     Ok(sign_of(sum_of_members(members, &votes)))

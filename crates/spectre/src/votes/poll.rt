@@ -106,6 +106,7 @@ impl Poll {
         ensures present { OnOk result (BecomesPresent self.old self.new) }
         ensures err { OnErr result (self.new ≡ self.old) }
     {
+        // Tells the proof that the blocks stand in order.
         let _blocks = self.dag.len();
         self.all = None;
         let row = row_of(alloc, &self.dag, parents.as_slice())?;
