@@ -1,0 +1,5 @@
+pub mod Bytes
+pub mod Form
+pub mod Values
+pub mod Reading
+pub mod Turns

@@ -1,0 +1,5 @@
+pub mod Key
+pub mod Digits
+pub mod Digest
+pub mod Bits
+pub mod Hex

@@ -1,0 +1,13 @@
+//! Outputs by name.
+
+use crate::tx_id::TxId;
+
+/// An output of a transaction. Outpoints are ordered by the transaction's id, and then by the
+/// output's place there.
+#[derive(Clone, Copy, Debug, PartialEq, Eq, PartialOrd, Ord, Hash)]
+pub struct Outpoint {
+    /// The transaction that has the output.
+    pub tx: TxId,
+    /// The place of the output in the transaction, counted from 0.
+    pub index: u8,
+}

@@ -1,0 +1,4 @@
+pub mod Fronts
+pub mod Spelled
+pub mod Judged
+pub mod Whole

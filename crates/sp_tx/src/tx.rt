@@ -1,0 +1,74 @@
+//! Transactions.
+
+ghost use Rattle.std.specs.Prelude.{◌≡◌, ◌≤◌, ◌++◌, ℕ, drop, length, IfErr, IfOk, OnOk, Ok, Err};
+ghost use Rattle.sp_tx.specs.Parts.{Transaction};
+ghost use Rattle.sp_form.specs.Reading.{Answers, IsCause};
+ghost use Rattle.sp_tx.specs.Reading.{read_at};
+ghost use Rattle.sp_tx.specs.Spelling.{HasPartsFault, HasTxFault, IsMadeOf, IsTx, SpellsBetween};
+ghost use Rattle.sp_tx.specs.declared.fault.TxFault.{TxFault};
+
+use crate::check::check;
+use crate::fault::{TxFault, TxReadFault};
+use crate::list::{Inputs, Outputs};
+use crate::reader::Reader;
+use std::alloc::Global;
+use std::marker::Model;
+
+/// A transfer: the outputs that it spends and those that it makes. Some bytes spell it.
+#[derive(Debug, Drop)]
+pub struct Tx {
+    pub inputs: Inputs,
+    pub outputs: Outputs,
+}
+
+impl Model for Tx {
+    ghost use Rattle.sp_tx.specs.Parts.{Transaction};
+    ghost use Rattle.sp_tx.specs.Spelling.{IsTx};
+
+    ghost Value = { Transaction };
+
+    ghost view = { λ t. record { inputs = t.inputs; outputs = t.outputs } };
+
+    ghost invariant = { λ t. IsTx (record { inputs = t.inputs; outputs = t.outputs }) };
+}
+
+impl Tx {
+    /// A transaction of these parts, the inputs sorted by outpoint. The faults are those that a reader of its
+    /// bytes would find first, counts and lengths taken as whole numbers.
+    pub fn new(alloc: Global, inputs: Inputs, outputs: Outputs) -> Result<Tx, TxReadFault>
+        ensures made { IfOk result (IsMadeOf inputs outputs) }
+        ensures valid { IfOk result IsTx }
+        ensures fault { IfErr result (IsCause (HasPartsFault inputs outputs)) }
+    {
+        let inputs = inputs.sorted(alloc)?;
+        match check(inputs.as_slice(), outputs.as_slice()) {
+            Ok(()) => Ok(Tx { inputs, outputs }),
+            Err(fault) => Err(TxReadFault::Fault(fault)),
+        }
+    }
+}
+
+/// The transaction at a place, and the place behind it.
+fn tx_at(alloc: Global, bytes: &[u8], at: usize) -> Result<(Tx, usize), TxReadFault>
+    requires { at ≤ length bytes.now }
+    ensures { Answers result (read_at bytes.now at) }
+{
+    let (_, from_here) = bytes.split_at(at);
+    let mut reader = Reader::new(from_here);
+    let tx = reader.tx(alloc)?;
+    Ok((tx, bytes.len() - reader.len()))
+}
+
+/// The transaction that the bytes from a place begin with, and the place behind it; otherwise their first fault.
+pub fn read_tx(alloc: Global, bytes: &[u8], at: usize) -> Result<(Tx, usize), TxReadFault>
+    requires { at ≤ length bytes.now }
+    // What is answered stands there.
+    ensures found { IfOk result (λ found. SpellsBetween bytes.now at found.1 found.0) }
+    ensures fault { IfErr result (IsCause (HasTxFault (drop at bytes.now))) }
+
+    // What stands there is answered, unless memory runs out.
+    ensures only { (t : Transaction) (end : ℕ) → SpellsBetween bytes.now at end t → Answers result (Ok (t, end)) }
+    ensures only_fault { (fault : TxFault) → HasTxFault (drop at bytes.now) fault → Answers result (Err fault) }
+{
+    tx_at(alloc, bytes, at)
+}
