@@ -1,0 +1,5 @@
+pub mod Format
+pub mod Spelling
+pub mod Block
+pub mod Ascending
+pub mod Draft

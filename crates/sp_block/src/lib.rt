@@ -1,0 +1,15 @@
+//! Blocks and their bytes: the format, reading, drafts, and proof of work.
+//!
+//! `specs/Format.antt` is the table of the format, a line for each field. From it stands what it means
+//! that bytes spell a block, and what the first fault of bytes is; `read_block` answers by these alone.
+#![tactic(auto)]
+
+mod block;
+mod draft;
+mod fault;
+mod list;
+
+pub use block::{Block, check_work};
+pub use draft::Draft;
+pub use fault::{BlockFault, ReadBlockFault};
+pub use list::{Blocks, Parents};
