@@ -59,9 +59,9 @@ tx_count_form = value_form 2 Short (from_le_bytes w16) (λ count. rule (nat_le c
 abbrev pub fits_kind : Bool → Transaction → Bool
 fits_kind genesis t = if genesis then length t.inputs == 0 else nat_le 1 (length t.inputs)
 
--- one of the earlier transactions has its id
+-- its id is one of theirs
 abbrev pub has_known_id : List Transaction → Transaction → Bool
-has_known_id earlier t = list_any (λ other. id_of other == id_of t) earlier
+has_known_id earlier t = list_any (λ id. id_of t == id) (map id_of earlier)
 
 abbrev pub same_outpoint : Outpoint → Outpoint → Bool
 same_outpoint a b = a.tx == b.tx && a.index == b.index

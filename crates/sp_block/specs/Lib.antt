@@ -3,3 +3,5 @@ pub mod Spelling
 pub mod Block
 pub mod Ascending
 pub mod Draft
+pub mod Seen
+pub mod Reading

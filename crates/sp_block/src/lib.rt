@@ -8,6 +8,8 @@ mod block;
 mod draft;
 mod fault;
 mod list;
+mod reader;
+mod seen;
 
 pub use block::{Block, check_work};
 pub use draft::Draft;

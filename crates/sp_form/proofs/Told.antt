@@ -1,10 +1,11 @@
 -- Formats whose faults are told as others, and rules that are judged where they stand.
-use Rattle.std.proofs.Common.{◌≡◌, ℕ, Bool, true, false, cond, ltb, List, [], ◌∷◌, ◌++◌, length, map, take, drop, Option, Some, None, Result, Ok, Err, refl, sym, ap, ◌∙◌, arith}
+use Rattle.std.proofs.Common.{◌≡◌, ℕ, Bool, true, false, cond, ltb, List, [], ◌∷◌, ◌++◌, length, map, take, drop, Option, Some, None, Result, Ok, Err, refl, sym, ap, subst, ◌∙◌, arith}
 use Rattle.std.proofs.lemmas.Bool.{le-ltb}
 use Rattle.sp_form.specs.Bytes.{IsBytes}
-use Rattle.sp_form.specs.Form.{Form, whole, field, Rule, first_broken, told, told_rule}
+use Rattle.sp_form.specs.Form.{bind, Form, whole, field, Rule, first_broken, told, told_rule}
 use Rattle.sp_form.specs.Reading.{read, unless}
 use Rattle.sp_form.specs.Values.{judged}
+use Rattle.sp_form.proofs.FormLaws.{ok_pair, read_then, steps}
 use Rattle.sp_form.proofs.Taking.{Spelled, Takes}
 
 -- the same answer, its fault told so
@@ -66,4 +67,20 @@ judged_spelled short rules next text meets s = record {
       let t = s.takes list x rest bytes u.1 in
       (t.0, (u.0, t.1));
   again = λ x rest m. read_judged short rules next (text x ++ rest) ∙ rw m.0 (s.again x rest m.1);
+}
+
+-- A value, and rules of no byte that are judged behind it.
+pub ruled_spelled : {E A : Type 0} (form : Form E A) (short : E) (rules : A → List (Rule E)) (text : A → List ℕ) (meets : A → Type 0) → Spelled form text meets → Spelled (bind form (λ x. judged short (rules x) (whole x))) text (λ x. meets x × (first_broken (rules x) ≡ None))
+unfolding read
+ruled_spelled {E} {A} form short rules text meets s = record {
+  takes = λ list x rest bytes e.
+      let a = steps form (λ v. judged short (rules v) (whole v)) list x rest e in
+      let first = s.takes list a.value a.behind bytes a.first in
+      let u = unless_ok (first_broken (rules a.value)) (Ok (a.value, a.behind)) (x, rest) (sym (read_judged short (rules a.value) (whole a.value) a.behind) ∙ a.second) in
+      let p = ok_pair {E = E} a.value x a.behind rest u.1 in
+      subst (λ (r : List ℕ). Takes list (text x) r × (meets x × (first_broken (rules x) ≡ None))) p.1
+      (subst (λ (v : A). Takes list (text v) a.behind × (meets v × (first_broken (rules v) ≡ None))) p.0 (first.0, (first.1, u.0)));
+  again = λ x rest m.
+      read_then form (λ v. judged short (rules v) (whole v)) (text x ++ rest)
+      ∙ rw (s.again x rest m.0) (read_judged short (rules x) (whole x) rest ∙ rw m.1 refl);
 }

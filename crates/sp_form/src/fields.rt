@@ -45,6 +45,13 @@ impl<'a> Fields<'a> {
         self.left.is_empty()
     }
 
+    /// What is left, without taking it.
+    pub fn rest(&self) -> &'a [u8]
+        ensures { result.now ≡ self.now }
+    {
+        self.left
+    }
+
     /// Takes the next `width` bytes; `None` where fewer are left, and then nothing is taken. Constant time.
     pub fn take(&mut self, width: usize) -> Option<&'a [u8]>
         ensures field { IfSome result (λ field. field.now ≡ take width self.old) }

@@ -6,10 +6,12 @@
 //! Readers take their fields off a slice by `Fields`.
 #![tactic(auto)]
 
+mod array;
 mod fault;
 mod fields;
 pub mod laws;
 
+pub use array::array_of;
 pub use fault::ReadFault;
 pub use fields::Fields;
 

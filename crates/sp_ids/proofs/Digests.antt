@@ -1,5 +1,5 @@
 -- A digest is 32 bytes, so its number and its bytes give one another back.
-use Rattle.std.proofs.Common.{◌≡◌, ℕ, zero, suc, ◌-◌, ◌/◌, ◌^◌, ◌<◌, List, ◌++◌, length, inl, inr, refl, arith}
+use Rattle.std.proofs.Common.{get_or, ◌≡◌, ℕ, zero, suc, ◌-◌, ◌/◌, ◌^◌, ◌<◌, List, ◌++◌, length, inl, inr, refl, arith}
 use Rattle.std.proofs.lemmas.Bool.{cases_lt}
 use Rattle.std.proofs.lemmas.List.{get_or_append_left, get_or-append_right}
 use Rattle.std.proofs.lemmas.Nat.{mod_below}
@@ -7,10 +7,15 @@ use Rattle.std.specs.Int.{bytes_high_first, byte_at, to_be_bytes, w32}
 use Rattle.std.specs.Prelude.{slice_index}
 use Rattle.sha2.specs.Sha256.{digest_bytes, sha256}
 use Rattle.sha2.proofs.Facts256.{length-sha256}
-use Rattle.sp_ids.specs.Digest.{IsBytes, sha256_number}
+use Rattle.sp_ids.specs.Digest.{sha256_number}
 use Rattle.sp_ids.specs.Digits.{bytes_of_number, number_of-bound}
 use Rattle.sp_ids.specs.Key.{AreBytes, bytes_of}
 
+-- a byte at each place
+abbrev pub IsBytes : List ℕ → Type 0
+IsBytes list = (place : ℕ) → get_or list place 0 < 256
+
+-- bytes behind bytes are bytes
 IsBytes-append : (front back : List ℕ) → IsBytes front → IsBytes back → IsBytes (front ++ back)
 IsBytes-append front back f b place =
     elim (cases_lt place (length front)) [
@@ -18,15 +23,18 @@ IsBytes-append front back f b place =
       | inr past ↦ rw (get_or-append_right front back (length front) place 0 refl past) (b (place - length front))
     ]
 
+-- a byte of a number is below 256
 byte_at-small : (place n : ℕ) → byte_at place n < 256
 byte_at-small zero n = omega arith
 byte_at-small (suc place) n = mod_below (n / 256 ^ suc place) 256 (omega arith)
 
+-- so are all of its bytes
 IsBytes-bytes_high_first : (count n : ℕ) → IsBytes (bytes_high_first count n)
 IsBytes-bytes_high_first zero n place = omega arith
 IsBytes-bytes_high_first (suc count) n zero = byte_at-small count n
 IsBytes-bytes_high_first (suc count) n (suc place) = IsBytes-bytes_high_first count n place
 
+-- the bytes of some words are bytes
 IsBytes-digest_bytes : (words : List ℕ) (count : ℕ) → IsBytes (digest_bytes words count)
 unfolding digest_bytes
 IsBytes-digest_bytes words zero place = omega arith

@@ -1,10 +1,9 @@
 -- The numbers of two ids are the same, and ordered, as their bytes are.
-use Rattle.std.proofs.Common.{◌≡◌, ℕ, suc, ◌+◌, ◌*◌, ◌^◌, ◌<◌, ◌≤◌, List, [], ◌∷◌, length, get_or, eqb, refl, sym, ap, ◌∙◌, arith}
+use Rattle.std.proofs.Common.{◌≡◌, ℕ, suc, ◌+◌, ◌*◌, ◌^◌, ◌<◌, ◌≤◌, List, [], ◌∷◌, length, get_or, Ordering, eqb, refl, sym, ap, ◌∙◌, arith}
 use Rattle.std.proofs.Math.Nat.{mul-le-mul_right}
 use Rattle.std.specs.Bool.{Decides}
 use Rattle.std.specs.Cmp.{nat_cmp_is}
 use Rattle.std.specs.Cmp.Lexicographic.{pointwise, slice_cmp}
-use Rattle.std.proofs.Common.{Ordering}
 use Rattle.std.specs.Ordering.{MatchOrdering, nat_cmp, ordering_then}
 use Rattle.std.specs.declared.cmp.Ordering.TheVariants.{Less, Equal, Greater}
 use Rattle.std.proofs.lemmas.Bool.Decides.{same_from_decides, Decides-eqb}
@@ -25,12 +24,13 @@ same_number xs ys left right =
     let by_number : Decides (eqb (number_of xs) (number_of ys)) (number_of xs ≡ number_of ys) = Decides-eqb (number_of xs) (number_of ys) in
     same_from_decides {P = xs ≡ ys} (pointwise eqb xs ys) (eqb (number_of xs) (number_of ys)) by_bytes (λ e. same (by_number.0 e), λ e. by_number.1 (ap number_of e))
 
--- a number below p and x times p are ordered by x first
+-- x times p and a number below p are ordered by x first
 below_by_first : (x y p a b : ℕ) → x < y → a < p → x * p + a < y * p + b
 below_by_first x y p a b less small =
     let most : (x + 1) * p ≤ y * p = mul-le-mul_right p (omega arith) in
     omega arith
 
+-- so the first parts decide, and the rest where they are the same
 first_decides : (x y p a b : ℕ) (first rest : Ordering) → a < p → b < p → MatchOrdering first (x < y) (x ≡ y) (y < x) → MatchOrdering rest (a < b) (a ≡ b) (b < a)
     → ordering_then first rest ≡ nat_cmp (x * p + a) (y * p + b)
 first_decides x y p a b Less rest left right h g = nat_cmp_is (x * p + a) (y * p + b) Less (below_by_first x y p a b h left)

@@ -56,32 +56,40 @@ Spells (Err hex.OutOfMemory) place text = ⊥
 abbrev with_pair : ℕ → ℕ → ℕ → Option ℕ → Option ℕ → Result (List ℕ) FromHexError → Result (List ℕ) FromHexError
 with_pair high low place x y others = (digit_or_error high place x >>= λ h. digit_or_error low (place + 1) y >>= λ l. Ok (h * 16 + l)) >>= λ byte. others >>= λ bytes. Ok (byte ∷ bytes)
 
+-- the first element passes the test
 found : (t : ℕ → Bool) (place x : ℕ) (xs : List ℕ) → t x ≡ true → position_from t place (x ∷ xs) ≡ Some place
 found t place x xs h = rw h refl
 
+-- it fails
 passed : (t : ℕ → Bool) (place x : ℕ) (xs : List ℕ) → t x ≡ false → position_from t place (x ∷ xs) ≡ position_from t (place + 1) xs
 passed t place x xs h = rw h refl
 
+-- what has no value is no digit
 bad : (c : ℕ) → hex_digit_value c ≡ None → is_bad c ≡ true
 bad c e = ap (λ (o : Option ℕ). not (is_some o)) e
 
+-- what has a value is one
 good : (c v : ℕ) → hex_digit_value c ≡ Some v → is_bad c ≡ false
 good c v e = ap (λ (o : Option ℕ). not (is_some o)) e
 
+-- its value counts
 valued : (number c v : ℕ) → hex_digit_value c ≡ Some v → with_digit number c ≡ number * 16 + v
 valued number c v e = ap (λ (o : Option ℕ). number * 16 + unwrap_or o 0) e
 
+-- two digits are passed over
 both_passed : (place high low h l : ℕ) (rest : List ℕ) → hex_digit_value high ≡ Some h → hex_digit_value low ≡ Some l → position_from is_bad place (high ∷ low ∷ rest) ≡ position_from is_bad (place + 2) rest
 both_passed place high low h l rest a b =
     let twice : place + 1 + 1 ≡ place + 2 = omega arith in
     passed is_bad place high (low ∷ rest) (good high h a) ∙ passed is_bad (place + 1) low rest (good low l b) ∙ ap (λ (at : ℕ). position_from is_bad at rest) twice
 
+-- and are worth their byte
 both_valued : (number high low h l : ℕ) → hex_digit_value high ≡ Some h → hex_digit_value low ≡ Some l → with_digit (with_digit number high) low ≡ with_byte number (h * 16 + l)
 both_valued number high low h l a b =
     let first = valued number high h a in
     let second = valued (with_digit number high) low l b in
     second ∙ ap (λ (n : ℕ). n * 16 + l) first ∙ omega arith
 
+-- what one pair says, before what the others say
 one_pair : (high low place : ℕ) (rest : List ℕ) (x y : Option ℕ) (others : Result (List ℕ) FromHexError) → hex_digit_value high ≡ x → hex_digit_value low ≡ y → Spells others (place + 2) rest
     → Spells (with_pair high low place x y others) place (high ∷ low ∷ rest)
 one_pair high low place rest None y others a b s = (found is_bad place high (low ∷ rest) (bad high a), omega arith)
@@ -96,6 +104,7 @@ one_pair high low place rest (Some h) (Some l) (Err hex.OddLength) a b s = absur
 one_pair high low place rest (Some h) (Some l) (Err hex.InvalidStringLength) a b s = absurd s
 one_pair high low place rest (Some h) (Some l) (Err hex.OutOfMemory) a b s = absurd s
 
+-- what decoding pairs says
 spells : (place : ℕ) (text : List ℕ) → length text % 2 ≡ 0 → Spells (decode_pairs place text) place text
 unfolding decode_pairs
 spells place [] even = (refl, λ number. refl)
@@ -105,10 +114,12 @@ spells place (high ∷ low ∷ rest) even =
 
 -- ---- the whole text
 
+-- bytes that follow others, one at a time
 folded : (bytes front : List ℕ) → number_up (reverse_aux bytes front) ≡ fold with_byte (number_up front) bytes
 folded [] front = refl
 folded (byte ∷ bytes) front = folded bytes (byte ∷ front)
 
+-- the number of some bytes, one at a time
 number_of-fold : (bytes : List ℕ) → number_of bytes ≡ fold with_byte 0 bytes
 unfolding number_of
 number_of-fold bytes = folded bytes []
@@ -121,6 +132,7 @@ Tells (Err hex.InvalidStringLength) text = hex_of text ≡ Err WrongLength
 Tells (Err (hex.InvalidHexCharacter c at)) text = (hex_of text ≡ Err (BadDigit at)) × (at < 256)
 Tells (Err hex.OutOfMemory) text = ⊥
 
+-- where the length is right
 tells_pairs : (decoded : Result (List ℕ) FromHexError) (text : List ℕ) → length text ≡ 64 → Spells decoded 0 text → Tells decoded text
 tells_pairs (Ok bytes) text long s =
     hex_of-long text long ∙ ap (λ (o : Option ℕ). number_unless o (number_of_digits text)) s.0 ∙ ap Ok (s.1 0 ∙ sym (number_of-fold bytes))
@@ -130,6 +142,7 @@ tells_pairs (Err hex.OddLength) text long s = absurd s
 tells_pairs (Err hex.InvalidStringLength) text long s = absurd s
 tells_pairs (Err hex.OutOfMemory) text long s = absurd s
 
+-- whatever the length is
 tells_sized : (text : List ℕ) → Tells (decode_sized text 32) text
 tells_sized text =
     elim (cases_eq (length text % 2) 1) [

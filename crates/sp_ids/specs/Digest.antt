@@ -1,11 +1,7 @@
 -- The SHA-256 of a text as the number of an id.
-use Rattle.std.specs.Prelude.{ℕ, ◌<◌, List, get_or}
+use Rattle.std.specs.Prelude.{ℕ, List}
 use Rattle.sha2.specs.Sha256.{sha256}
 use Rattle.sp_ids.specs.Key.{number_of}
-
--- a byte at each place
-abbrev pub IsBytes : List ℕ → Type 0
-IsBytes list = (place : ℕ) → get_or list place 0 < 256
 
 -- the number of the digest of a text
 unfoldable pub sha256_number : List ℕ → ℕ

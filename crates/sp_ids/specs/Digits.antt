@@ -6,6 +6,7 @@ use Rattle.std.proofs.lemmas.List.{reverse-append, reverse-reverse, length-rever
 use Rattle.std.proofs.lemmas.Nat.{div-mul-add, mod-mul-add}
 use Rattle.sp_ids.specs.Key.{number_up, bytes_up, number_of, bytes_of, AreBytes}
 
+-- the bytes of the number of some bytes, the lowest byte first
 bytes_up-number_up : (bytes : List ℕ) → ((k : ℕ) → k < length bytes → get_or bytes k 0 < 256) → bytes_up (length bytes) (number_up bytes) ≡ bytes
 bytes_up-number_up [] small = refl
 bytes_up-number_up (byte ∷ bytes) small =
@@ -24,6 +25,7 @@ bytes_of_number bytes h =
     let e = rw long at (bytes_up-number_up (reverse bytes) small) in
     ap reverse e ∙ reverse-reverse bytes
 
+-- the number of the bytes of a number, the lowest byte first
 number_up-bytes_up : (count n : ℕ) → n < 256 ^ count → number_up (bytes_up count n) ≡ n
 number_up-bytes_up zero n h = omega arith
 number_up-bytes_up (suc count) n h =
@@ -31,10 +33,12 @@ number_up-bytes_up (suc count) n h =
     let e : number_up (bytes_up count (n / 256)) ≡ n / 256 = number_up-bytes_up count (n / 256) high in
     rw e (omega arith)
 
+-- so many bytes are so many
 length-bytes_up : (count n : ℕ) → length (bytes_up count n) ≡ count
 length-bytes_up zero n = refl
 length-bytes_up (suc count) n = ap suc (length-bytes_up count (n / 256))
 
+-- each of them is below 256
 bytes_up-small : (count n k : ℕ) → get_or (bytes_up count n) k 0 < 256
 bytes_up-small zero n k = omega arith
 bytes_up-small (suc count) n zero = omega arith
@@ -63,6 +67,7 @@ bytes_of-small n k =
 pub AreBytes-bytes_of : (n : ℕ) → AreBytes (bytes_of n)
 AreBytes-bytes_of n = record { long = length-bytes_of n; small = λ k h. bytes_of-small n k }
 
+-- a last byte is the highest
 number_up-append : (front : List ℕ) (byte : ℕ) → number_up (front ++ byte ∷ []) ≡ byte * 256 ^ length front + number_up front
 number_up-append [] byte = omega arith
 number_up-append (low ∷ front) byte =

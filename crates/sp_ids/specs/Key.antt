@@ -19,7 +19,7 @@ number_of bytes = number_up (reverse bytes)
 unfoldable pub bytes_of : ℕ → List ℕ
 bytes_of number = reverse (bytes_up 32 number)
 
--- 32 bytes
+-- the bytes of an id: 32 of them, each below 256
 pub record AreBytes (bytes : List ℕ) : Type 0 where
   pub long : length bytes ≡ 32
   pub small : (k : ℕ) → k < 32 → slice_index bytes k < 256

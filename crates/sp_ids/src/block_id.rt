@@ -34,7 +34,7 @@ impl Model for BlockId {
 }
 
 impl BlockId {
-    /// The id of the block with these bytes.
+    /// The id of the block with these bytes. The time is that of one pass over them.
     pub fn of(bytes: &[u8]) -> BlockId
         ensures { result ≡ sha256_number bytes.now }
     {

@@ -1,13 +1,13 @@
 //! What the three kinds of id share, over their 32 bytes. Each contract speaks of the number of
 //! the bytes, as contracts see an id.
 
-ghost use Rattle.std.specs.Prelude.{◌≡◌, ◌≤◌, ◌↔◌, IsTrue, Ok, Err, IfOk, MatchResult, nat_eq};
+ghost use Rattle.std.specs.Prelude.{◌≡◌, ◌≤◌, ◌↔◌, IsTrue, Ok, Err, MatchResult, nat_eq};
 ghost use Rattle.std.specs.Ordering.{nat_cmp};
 ghost use Rattle.hex.specs.Hex.{encode_lower};
 ghost use Rattle.sp_ids.specs.Bits.{BeginsWithZeros};
 ghost use Rattle.sp_ids.specs.Digest.{sha256_number};
 ghost use Rattle.sp_ids.specs.Hex.{hex_of};
-ghost use Rattle.sp_ids.specs.Key.{AreBytes, bytes_of, number_of};
+ghost use Rattle.sp_ids.specs.Key.{bytes_of, number_of};
 
 use crate::hex_fault::HexFault;
 use hex::{FromHex, FromHexError, encode_to_slice};
@@ -30,8 +30,7 @@ pub(crate) fn compare(bytes: &[u8; 32], other: &[u8; 32]) -> Ordering
 
 // The SHA-256 of a text.
 pub(crate) fn digest(text: &[u8]) -> [u8; 32]
-    ensures value { number_of result ≡ sha256_number text.now }
-    ensures bytes { AreBytes result }
+    ensures { number_of result ≡ sha256_number text.now }
 {
     Sha256::digest(text)
 }
@@ -45,10 +44,9 @@ pub(crate) fn write_hex(bytes: &[u8; 32], out: &mut [u8; 64])
 
 // The bytes that a text spells, or why it spells none.
 pub(crate) fn read_hex(text: &[u8]) -> Result<[u8; 32], HexFault>
-    ensures value { MatchResult result
+    ensures { MatchResult result
         (λ bytes. hex_of text.now ≡ Ok (number_of bytes))
         (λ fault. hex_of text.now ≡ Err fault) }
-    ensures bytes { IfOk result (λ bytes. AreBytes bytes) }
 {
     match <[u8; 32]>::from_hex(text) {
         Ok(bytes) => Ok(bytes),

@@ -34,7 +34,7 @@ impl Model for Lock {
 }
 
 impl Lock {
-    /// The lock that this preimage opens.
+    /// The lock that this preimage opens. The time is that of one pass over its bytes.
     pub fn of(preimage: &[u8]) -> Lock
         ensures { result ≡ sha256_number preimage.now }
     {

@@ -33,7 +33,7 @@ impl Model for TxId {
 }
 
 impl TxId {
-    /// The id of the transaction with these bytes.
+    /// The id of the transaction with these bytes. The time is that of one pass over them.
     pub fn of(bytes: &[u8]) -> TxId
         ensures { result ≡ sha256_number bytes.now }
     {

@@ -15,23 +15,13 @@ use crate::fault::{TxFault, TxReadFault};
 use crate::list::{Bytes, Inputs, Outputs};
 use crate::parts::{Input, Output};
 use crate::tx::Tx;
-use sp_form::Fields;
+use sp_form::{Fields, array_of};
 use sp_ids::{Lock, Outpoint, TxId};
 use std::alloc::Global;
 use std::marker::Model;
 
 /// The amounts of a transaction come to less than this.
 pub(crate) const AMOUNT_LIMIT: u64 = 1 << 63;
-
-/// A field of 32 bytes.
-fn array_of(field: &[u8]) -> [u8; 32]
-    requires { length field.now ≡ 32 }
-    ensures { result ≡ field.now }
-{
-    let mut bytes = [0; 32];
-    bytes.copy_from_slice(field);
-    bytes
-}
 
 /// The outpoint that a field holds.
 fn outpoint_of(field: &[u8]) -> Outpoint
@@ -143,9 +133,7 @@ impl<'a> Reader<'a> {
         ensures read { Gives (λ amount. (amount, self.new)) result (read (amount_form before) self.old) }
     {
         let field = self.field(8)?;
-        let amount = u64::from_le_bytes([
-            field[0], field[1], field[2], field[3], field[4], field[5], field[6], field[7],
-        ]);
+        let amount = u64::from_le_bytes(array_of(field));
         if amount == 0 {
             return Err(TxReadFault::Fault(TxFault::Amount));
         }

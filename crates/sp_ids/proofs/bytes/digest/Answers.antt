@@ -3,6 +3,6 @@ use Rattle.sp_ids.specs.Digest.{sha256_number}
 use Rattle.sp_ids.specs.Key.{number_of}
 use Rattle.sp_ids.proofs.bytes.digest.Goals as goal
 
-pub returns-clause-value : goal.returns-clause-value
+pub returns : goal.returns
 unfolding sha256_number
-returns-clause-value c = ap number_of c.digest.ensures
+returns c = ap number_of c.digest.ensures

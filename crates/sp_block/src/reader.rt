@@ -1,0 +1,257 @@
+//! Reading a block field by field.
+
+ghost use Rattle.std.specs.Prelude.{◌≡◌, ◌↔◌, IfOk, IsTrue, List, length};
+ghost use Rattle.sp_form.specs.Bytes.{IsBytes};
+ghost use Rattle.sp_form.specs.Form.{told as told_form};
+ghost use Rattle.sp_form.specs.Reading.{Gives, read};
+ghost use Rattle.sp_form.specs.Values.{bytes_form};
+ghost use Rattle.sp_tx.specs.Format.{tx_form};
+ghost use Rattle.sp_tx.specs.Parts.{Transaction};
+ghost use Rattle.sp_tx.specs.Spending.{id_of};
+ghost use Rattle.sp_block.specs.Format as format;
+ghost use Rattle.sp_block.specs.Format.{
+    carried_form, parent_count_form, parent_form, parents_form, tx_count_form, txs_form, version_form, with_one, word_form
+};
+ghost use Rattle.sp_block.specs.Reading.{block_steps, parts_in, told_as};
+ghost use Rattle.sp_block.specs.Seen.{Saw};
+ghost use Rattle.sp_block.specs.declared.fault.BlockFault.TheVariants.{Short};
+ghost use Rattle.sp_block.specs.declared.fault.BlockFault.TheVariants as faults;
+
+use crate::fault::{BlockFault, ReadBlockFault};
+use crate::list::Parents;
+use crate::seen::Seen;
+use sp_form::{Fields, array_of};
+use sp_ids::{BlockId, TxId};
+use sp_tx::{Tx, TxReadFault, Txs, read_tx};
+use std::alloc::Global;
+use std::marker::Model;
+
+/// What a block's bytes spell.
+#[derive(Drop)]
+pub(crate) struct Content {
+    pub(crate) salt: u64,
+    pub(crate) nonce: u64,
+    pub(crate) parents: Parents,
+    pub(crate) txs: Txs,
+}
+
+fn parents_fit(genesis: bool, count: u8) -> bool
+    ensures { result ≡ format.parents_fit genesis count }
+{
+    if genesis {
+        count == 0
+    } else {
+        1 <= count && count <= 64
+    }
+}
+
+fn is_above(before: Option<BlockId>, id: &BlockId) -> bool
+    ensures { result ≡ format.is_above before id.now }
+{
+    match before {
+        None => true,
+        Some(before) => before.cmp(id).is_lt(),
+    }
+}
+
+fn told(fault: TxReadFault) -> ReadBlockFault
+    ensures { result ≡ told_as fault }
+{
+    match fault {
+        TxReadFault::Fault(fault) => ReadBlockFault::Fault(BlockFault::Tx(fault)),
+        TxReadFault::Memory => ReadBlockFault::Memory,
+    }
+}
+
+/// A block's bytes, read field by field.
+#[derive(Drop)]
+pub(crate) struct Reader<'a> {
+    fields: Fields<'a>,
+}
+
+impl<'a> Model for Reader<'a> {
+    ghost use Rattle.std.specs.Prelude.{List, ℕ};
+
+    ghost Value = { List ℕ };
+
+    ghost view = { λ r. r.fields };
+}
+
+impl<'a> Reader<'a> {
+    /// A reader of all of these bytes.
+    pub(crate) fn new(bytes: &'a [u8]) -> Reader<'a>
+        ensures all { result ≡ bytes.now }
+        ensures bytes { IsBytes result }
+    {
+        Reader {
+            fields: Fields::of(bytes),
+        }
+    }
+
+    /// Whether no byte is left.
+    pub(crate) fn is_empty(&self) -> bool
+        ensures { IsTrue result ↔ (length self.now ≡ 0) }
+    {
+        self.fields.is_empty()
+    }
+
+    /// The next so many bytes.
+    #[tactic(auto, unfolding(sp_form::specs::Reading::read))]
+    fn field(&mut self, width: usize) -> Result<&'a [u8], ReadBlockFault>
+        ensures size { IfOk result (λ field. length field.now ≡ width) }
+        ensures read { Gives (λ field. (field.now, self.new)) result (read (bytes_form width Short) self.old) }
+    {
+        match self.fields.take(width) {
+            Some(field) => Ok(field),
+            None => Err(ReadBlockFault::Fault(BlockFault::Short)),
+        }
+    }
+
+    /// The version, which is 1.
+    #[tactic(auto, unfolding(sp_form::specs::Reading::read))]
+    fn version(&mut self) -> Result<u8, ReadBlockFault>
+        ensures { Gives (λ version. (version, self.new)) result (read version_form self.old) }
+    {
+        let field = self.field(1)?;
+        let version = field[0];
+        if version != 1 {
+            return Err(ReadBlockFault::Fault(BlockFault::Version));
+        }
+        Ok(version)
+    }
+
+    /// The salt or the nonce.
+    #[tactic(auto, unfolding(sp_form::specs::Reading::read))]
+    fn word(&mut self) -> Result<u64, ReadBlockFault>
+        ensures { Gives (λ word. (word, self.new)) result (read word_form self.old) }
+    {
+        let field = self.field(8)?;
+        Ok(u64::from_le_bytes(array_of(field)))
+    }
+
+    /// None in genesis, 1 to 64 in other blocks.
+    #[tactic(auto, unfolding(sp_form::specs::Reading::read))]
+    fn parent_count(&mut self, genesis: bool) -> Result<u8, ReadBlockFault>
+        ensures { Gives (λ count. (count, self.new)) result (read (parent_count_form genesis) self.old) }
+    {
+        let field = self.field(1)?;
+        let count = field[0];
+        if !parents_fit(genesis, count) {
+            return Err(ReadBlockFault::Fault(BlockFault::ParentCount));
+        }
+        Ok(count)
+    }
+
+    /// The id of a parent, strictly above the one before.
+    #[tactic(auto, unfolding(sp_form::specs::Reading::read))]
+    fn parent(&mut self, before: Option<BlockId>) -> Result<BlockId, ReadBlockFault>
+        ensures { Gives (λ id. (id, self.new)) result (read (parent_form before) self.old) }
+    {
+        let field = self.field(32)?;
+        let id = BlockId::from_bytes(array_of(field));
+        if !is_above(before, &id) {
+            return Err(ReadBlockFault::Fault(BlockFault::ParentOrder));
+        }
+        Ok(id)
+    }
+
+    /// So many parents, their ids ascending.
+    fn parents(&mut self, alloc: Global, count: u8) -> Result<Parents, ReadBlockFault>
+        ensures { Gives (λ parents. (parents, self.new)) result (read (parents_form count) self.old) }
+    {
+        let mut parents = Vec::new(alloc);
+        let mut before = None;
+        'parents: for _ in 0..count {
+            let id = self.parent(before)?;
+            before = Some(id);
+            parents.push(id)?;
+        }
+        Ok(Parents::of(parents))
+    }
+
+    /// At most 256.
+    #[tactic(auto, unfolding(sp_form::specs::Reading::read))]
+    fn tx_count(&mut self) -> Result<u16, ReadBlockFault>
+        ensures { Gives (λ count. (count, self.new)) result (read tx_count_form self.old) }
+    {
+        let field = self.field(2)?;
+        let count = u16::from_le_bytes(array_of(field));
+        if count > 256 {
+            return Err(ReadBlockFault::Fault(BlockFault::TxCount));
+        }
+        Ok(count)
+    }
+
+    /// The next transaction and its id. It isn't judged against the others.
+    fn tx(&mut self, alloc: Global) -> Result<(Tx, TxId), ReadBlockFault>
+        requires { IsBytes self.old }
+        ensures id { IfOk result (λ found. found.1 ≡ id_of found.0) }
+        ensures bytes { IsBytes self.new }
+        ensures read { Gives (λ found. (found.0, self.new)) result (read (told_form faults.Tx tx_form) self.old) }
+    {
+        match read_tx(alloc, self.fields.rest(), 0) {
+            Ok((tx, width)) => {
+                let text = self.field(width)?;
+                Ok((tx, TxId::of(text)))
+            }
+            Err(fault) => Err(told(fault)),
+        }
+    }
+
+    /// The next transaction, judged against the earlier ones, which then has it, too.
+    fn carried(&mut self, alloc: Global, genesis: bool, seen: &mut Seen) -> Result<Tx, ReadBlockFault>
+        requires { IsBytes self.old }
+        ensures bytes { IsBytes self.new }
+        ensures read {
+            (earlier : List Transaction) → Saw seen.old earlier
+            → Gives (λ tx. (tx, self.new)) result (read (carried_form genesis earlier) self.old)
+        }
+        ensures saw {
+            (earlier : List Transaction) → Saw seen.old earlier
+            → IfOk result (λ tx. Saw seen.new (with_one earlier tx))
+        }
+    {
+        let (tx, id) = self.tx(alloc)?;
+        if let Err(fault) = seen.judge(genesis, &tx, &id) {
+            return Err(ReadBlockFault::Fault(fault));
+        }
+        if seen.add(&tx, id).is_err() {
+            return Err(ReadBlockFault::Memory);
+        }
+        Ok(tx)
+    }
+
+    /// So many transactions.
+    fn txs(&mut self, alloc: Global, genesis: bool, count: u16) -> Result<Txs, ReadBlockFault>
+        requires { IsBytes self.old }
+        ensures { Gives (λ txs. (txs, self.new)) result (read (txs_form genesis count) self.old) }
+    {
+        let mut txs = Vec::new(alloc);
+        let mut seen = Seen::new(alloc);
+        'txs: for _ in 0..count {
+            let tx = self.carried(alloc, genesis, &mut seen)?;
+            txs.push(tx)?;
+        }
+        Ok(Txs::of(txs))
+    }
+
+    /// All that a block's bytes spell.
+    pub(crate) fn block(&mut self, alloc: Global, genesis: bool) -> Result<Content, ReadBlockFault>
+        requires { IsBytes self.old }
+        ensures { Gives (λ content. (parts_in content, self.new)) result (block_steps genesis self.old) }
+    {
+        let _version = self.version()?;
+        let salt = self.word()?;
+        let nonce = self.word()?;
+        let count = self.parent_count(genesis)?;
+        let parents = self.parents(alloc, count)?;
+        let count = self.tx_count()?;
+        let txs = self.txs(alloc, genesis, count)?;
+        Ok(Content {
+            salt,
+            nonce,
+            parents,
+            txs,
+        })
+    }
+}
