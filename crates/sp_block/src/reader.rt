@@ -1,12 +1,13 @@
 //! Reading a block field by field.
 
-ghost use Rattle.std.specs.Prelude.{◌≡◌, ◌↔◌, IfOk, IsTrue, List, length};
+ghost use Rattle.std.specs.Prelude.{◌≡◌, ◌↔◌, Err, IfErr, IfOk, IsTrue, List, length};
 ghost use Rattle.sp_form.specs.Bytes.{IsBytes};
 ghost use Rattle.sp_form.specs.Form.{told as told_form};
-ghost use Rattle.sp_form.specs.Reading.{Gives, read};
+ghost use Rattle.sp_form.specs.Reading.{Gives, IsCause, read};
 ghost use Rattle.sp_form.specs.Values.{bytes_form};
 ghost use Rattle.sp_tx.specs.Format.{tx_form};
 ghost use Rattle.sp_tx.specs.Parts.{Transaction};
+ghost use Rattle.sp_tx.specs.Spelling.{SpellsBetween};
 ghost use Rattle.sp_tx.specs.Spending.{id_of};
 ghost use Rattle.sp_block.specs.Format as format;
 ghost use Rattle.sp_block.specs.Format.{
@@ -71,10 +72,13 @@ pub(crate) struct Reader<'a> {
 
 impl<'a> Model for Reader<'a> {
     ghost use Rattle.std.specs.Prelude.{List, ℕ};
+    ghost use Rattle.sp_form.specs.Bytes.{IsBytes};
 
     ghost Value = { List ℕ };
 
     ghost view = { λ r. r.fields };
+
+    ghost invariant = { λ r. IsBytes r.fields };
 }
 
 impl<'a> Reader<'a> {
@@ -182,26 +186,30 @@ impl<'a> Reader<'a> {
         Ok(count)
     }
 
-    /// The next transaction and its id. It isn't judged against the others.
-    fn tx(&mut self, alloc: Global) -> Result<(Tx, TxId), ReadBlockFault>
-        requires { IsBytes self.old }
-        ensures id { IfOk result (λ found. found.1 ≡ id_of found.0) }
-        ensures bytes { IsBytes self.new }
-        ensures read { Gives (λ found. (found.0, self.new)) result (read (told_form faults.Tx tx_form) self.old) }
+    /// The transaction that is next, and how many bytes it has. Nothing is taken.
+    fn next_tx(&self, alloc: Global) -> Result<(Tx, usize), ReadBlockFault>
+        ensures found { IfOk result (λ found. SpellsBetween self.now 0 found.1 found.0) }
+        ensures fault { IfErr result (IsCause (λ fault. read (told_form faults.Tx tx_form) self.now ≡ Err fault)) }
+        ensures bytes { IsBytes self.now }
     {
         match read_tx(alloc, self.fields.rest(), 0) {
-            Ok((tx, width)) => {
-                let text = self.field(width)?;
-                Ok((tx, TxId::of(text)))
-            }
+            Ok(found) => Ok(found),
             Err(fault) => Err(told(fault)),
         }
     }
 
+    /// The next transaction and its id. It isn't judged against the others.
+    fn tx(&mut self, alloc: Global) -> Result<(Tx, TxId), ReadBlockFault>
+        ensures id { IfOk result (λ found. found.1 ≡ id_of found.0) }
+        ensures read { Gives (λ found. (found.0, self.new)) result (read (told_form faults.Tx tx_form) self.old) }
+    {
+        let (tx, width) = self.next_tx(alloc)?;
+        let text = self.field(width)?;
+        Ok((tx, TxId::of(text)))
+    }
+
     /// The next transaction, judged against the earlier ones, which then has it, too.
     fn carried(&mut self, alloc: Global, genesis: bool, seen: &mut Seen) -> Result<Tx, ReadBlockFault>
-        requires { IsBytes self.old }
-        ensures bytes { IsBytes self.new }
         ensures read {
             (earlier : List Transaction) → Saw seen.old earlier
             → Gives (λ tx. (tx, self.new)) result (read (carried_form genesis earlier) self.old)
@@ -212,18 +220,17 @@ impl<'a> Reader<'a> {
         }
     {
         let (tx, id) = self.tx(alloc)?;
-        if let Err(fault) = seen.judge(genesis, &tx, &id) {
-            return Err(ReadBlockFault::Fault(fault));
+        match seen.judge(genesis, &tx, &id) {
+            Err(fault) => Err(ReadBlockFault::Fault(fault)),
+            Ok(()) => {
+                seen.add(&tx, id)?;
+                Ok(tx)
+            }
         }
-        if seen.add(&tx, id).is_err() {
-            return Err(ReadBlockFault::Memory);
-        }
-        Ok(tx)
     }
 
     /// So many transactions.
     fn txs(&mut self, alloc: Global, genesis: bool, count: u16) -> Result<Txs, ReadBlockFault>
-        requires { IsBytes self.old }
         ensures { Gives (λ txs. (txs, self.new)) result (read (txs_form genesis count) self.old) }
     {
         let mut txs = Vec::new(alloc);
@@ -237,7 +244,6 @@ impl<'a> Reader<'a> {
 
     /// All that a block's bytes spell.
     pub(crate) fn block(&mut self, alloc: Global, genesis: bool) -> Result<Content, ReadBlockFault>
-        requires { IsBytes self.old }
         ensures { Gives (λ content. (parts_in content, self.new)) result (block_steps genesis self.old) }
     {
         let _version = self.version()?;

@@ -13,9 +13,9 @@ ghost use Rattle.sp_block.specs.Seen.{fault_in, HasOutpoints, Saw};
 ghost use Rattle.sp_ids.specs.declared.outpoint.Outpoint.{Outpoint};
 
 use crate::fault::BlockFault;
-use sp_ids::{Memory, Outpoint, TxId};
+use sp_ids::{Outpoint, TxId};
 use sp_tx::{Input, Tx};
-use std::alloc::Global;
+use std::alloc::{AllocError, Global};
 use std::collections::BTreeSet;
 
 /// The ids and outpoints of transactions, for look-ups in logarithmic time.
@@ -31,7 +31,7 @@ fn is_spent(outpoints: &BTreeSet<Outpoint>, inputs: &[Input]) -> bool
     inputs.iter().any(|input| outpoints.contains(&input.from))
 }
 
-fn add_outpoints(outpoints: &mut BTreeSet<Outpoint>, inputs: &[Input]) -> Result<(), Memory>
+fn add_outpoints(outpoints: &mut BTreeSet<Outpoint>, inputs: &[Input]) -> Result<(), AllocError>
     ensures {
         OnOk result ((spent : List Outpoint) → HasOutpoints outpoints.old spent
         → HasOutpoints outpoints.new (spent ++ map (λ input. input.from) inputs.now))
@@ -82,7 +82,7 @@ impl Seen {
     }
 
     /// Notes a transaction, too.
-    pub(crate) fn add(&mut self, tx: &Tx, id: TxId) -> Result<(), Memory>
+    pub(crate) fn add(&mut self, tx: &Tx, id: TxId) -> Result<(), AllocError>
         requires { id ≡ id_of tx.now }
         ensures {
             OnOk result ((earlier : List Transaction) → Saw self.old earlier
