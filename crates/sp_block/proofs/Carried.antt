@@ -1,10 +1,10 @@
 -- Reading the next transaction of a block.
-use Rattle.std.proofs.Common.{◌≡◌, ◌-◌, ℕ, ◌≤◌, Bool, false, ltb, List, [], ◌++◌, length, take, drop, Option, Some, None, Result, Ok, Err, refl, sym, ap, subst, ◌∙◌, arith}
+use Rattle.std.proofs.Common.{◌≡◌, ◌-◌, ℕ, ◌≤◌, Bool, false, ltb, List, length, take, drop, Some, None, Result, Ok, Err, refl, sym, ap, subst, ◌∙◌, arith}
 use Rattle.std.specs.Prelude.{slice_range}
 use Rattle.std.proofs.lemmas.Bool.{le-ltb}
 use Rattle.std.proofs.lemmas.List.{take-append-drop}
 use Rattle.sp_form.specs.Bytes.{IsBytes}
-use Rattle.sp_form.specs.Form.{bind, first_broken, Form, told, whole}
+use Rattle.sp_form.specs.Form.{first_broken, told, whole}
 use Rattle.sp_form.specs.Reading.{Fails, IsCause, read, unless}
 use Rattle.sp_form.specs.Values.{bytes_form, judged}
 use Rattle.sp_form.specs.declared.fault.ReadFault.{ReadFault}

@@ -1,3 +1,6 @@
+pub mod Ascent
+pub mod Nonces
 pub mod Spelled
 pub mod Sets
 pub mod Carried
+pub mod Whole

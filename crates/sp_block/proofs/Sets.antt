@@ -16,11 +16,10 @@ use Rattle.sp_ids.specs.declared.outpoint.Outpoint.{Outpoint}
 use Rattle.sp_tx.specs.declared.parts.Input.{Input}
 use Rattle.sp_tx.specs.Parts.{outpoint_cmp, Transaction}
 use Rattle.sp_tx.specs.Spending.{id_of}
-use Rattle.sp_block.specs.declared.fault.BlockFault.{BlockFault}
-use Rattle.sp_block.specs.declared.fault.BlockFault.TheVariants.{Grant, SameTx, SameOutpoint}
+use Rattle.sp_block.specs.declared.fault.BlockFault.TheVariants.{SameTx, SameOutpoint}
 use Rattle.sp_block.specs.declared.seen.Seen.{Seen}
 use Rattle.sp_block.specs.Format.{carried_rules, fits_kind, has_known_id, outpoints, same_outpoint, shares_outpoint, with_one}
-use Rattle.sp_block.specs.Seen.{HasIds, HasOutpoints, is_any_spent, Saw}
+use Rattle.sp_block.specs.Seen.{HasOutpoints, is_any_spent, Saw}
 
 -- ---- look-ups
 

@@ -1,5 +1,5 @@
 -- What each part of a block's format spells, and the whole.
-use Rattle.std.proofs.Common.{◌≡◌, ℕ, ◌+◌, ◌*◌, ◌<◌, ◌≤◌, ◌^◌, Bool, true, false, not, eqb, ltb, leb, List, [], ◌∷◌, ◌++◌, length, Option, Some, None, refl, sym, ap, subst, ◌∙◌, arith, get_or}
+use Rattle.std.proofs.Common.{◌≡◌, ℕ, ◌<◌, ◌≤◌, ◌^◌, Bool, true, false, not, eqb, leb, List, [], ◌∷◌, ◌++◌, length, Option, None, refl, sym, arith}
 use Rattle.std.specs.List.{flat_map}
 use Rattle.std.specs.Int.{w16, w64, to_le_bytes, from_le_bytes}
 use Rattle.std.proofs.lemmas.Bool.{eqb-true, leb-true, le-leb}
@@ -9,7 +9,7 @@ use Rattle.sp_form.specs.Form.{Form, whole, bind, rule, first_broken, told}
 use Rattle.sp_form.specs.Turns.{InTurn}
 use Rattle.sp_form.specs.Values.{byte}
 use Rattle.sp_form.proofs.Simple.{one_byte, rule_met}
-use Rattle.sp_form.proofs.Taking.{AreRows, bind_spelled, last_spelled, rows_spelled, said_so, Spelled, value_spelled, Written}
+use Rattle.sp_form.proofs.Taking.{AreRows, bind_spelled, last_spelled, rows_spelled, said_so, Spelled, value_spelled}
 use Rattle.sp_form.proofs.Told.{ruled_spelled, told_spelled}
 use Rattle.sp_ids.specs.Digits.{bytes_of_number, length-bytes_of, number_of_bytes, number_of-bound}
 use Rattle.sp_ids.specs.Key.{AreBytes, bytes_of, number_of}
@@ -24,7 +24,7 @@ use Rattle.sp_block.specs.Spelling.{block_text, IsCarried, IsParent, MeetsRules}
 
 -- ---- fields of the head
 
-version_spelled : Spelled version_form (λ version. version ∷ []) (λ version. version ≡ 1)
+pub version_spelled : Spelled version_form (λ version. version ∷ []) (λ version. version ≡ 1)
 version_spelled = value_spelled 1 Short byte (λ version. rule (eqb version 1) Version ∷ []) (λ version. version ∷ []) (λ version. version ≡ 1) (record {
   only = λ bytes size small met. (one_byte bytes size, eqb-true _ _ (rule_met (eqb (byte bytes) 1) Version None met).0);
   size = λ version m. refl;
@@ -108,7 +108,7 @@ module _ (genesis : Bool) where
   abbrev CarriedInTurn : Parts → Type 0
   CarriedInTurn p = InTurn (IsCarried genesis) with_one [] p.txs
 
-  abbrev txs_text : Parts → List ℕ
+  abbrev pub txs_text : Parts → List ℕ
   txs_text p = flat_map spelling p.txs
 
   abbrev last_step : ℕ → ℕ → List ℕ → ℕ → Form BlockFault Parts
@@ -124,7 +124,7 @@ module _ (genesis : Bool) where
   abbrev TxsMet : Parts → Type 0
   TxsMet p = (length p.txs ≤ 256) × CarriedInTurn p
 
-  abbrev count_text : Parts → List ℕ
+  abbrev pub count_text : Parts → List ℕ
   count_text p = to_le_bytes w16 (length p.txs) ++ txs_text p
 
   abbrev behind_parents : ℕ → ℕ → List ℕ → Form BlockFault Parts
@@ -136,7 +136,7 @@ module _ (genesis : Bool) where
       said_so (behind_parents salt nonce parents) count_text (λ (p : Parts). (length p.txs ≤ 256) × (Head salt nonce parents p × CarriedInTurn p)) (λ (p : Parts). (p.parents ≡ parents) × (((p.salt ≡ salt) × (p.nonce ≡ nonce)) × TxsMet p))
       (λ p h. (h.1.0.parents_are, ((h.1.0.salt_is, h.1.0.nonce_is), (h.0, h.1.1)))) (λ p h. (h.1.1.0, (record { salt_is = h.1.0.0; nonce_is = h.1.0.1; parents_are = h.0 }, h.1.1.1))) counted
 
-  abbrev parents_text : Parts → List ℕ
+  abbrev pub parents_text : Parts → List ℕ
   parents_text p = flat_map bytes_of p.parents ++ count_text p
 
   abbrev behind_parent_count : ℕ → ℕ → ℕ → Form BlockFault Parts
@@ -155,7 +155,7 @@ module _ (genesis : Bool) where
   abbrev ListsMet : Parts → Type 0
   ListsMet p = (parents_fit genesis (length p.parents) ≡ true) × (ParentsInTurn p × TxsMet p)
 
-  abbrev lists_text : Parts → List ℕ
+  abbrev pub lists_text : Parts → List ℕ
   lists_text p = length p.parents ∷ parents_text p
 
   abbrev behind_nonce : ℕ → ℕ → Form BlockFault Parts
@@ -171,7 +171,7 @@ module _ (genesis : Bool) where
   abbrev behind_salt : ℕ → Form BlockFault Parts
   behind_salt salt = bind word_form (behind_nonce salt)
 
-  abbrev nonce_text : Parts → List ℕ
+  abbrev pub nonce_text : Parts → List ℕ
   nonce_text p = to_le_bytes w64 p.nonce ++ lists_text p
 
   salt_known : (salt : ℕ) → Spelled (behind_salt salt) nonce_text (λ (p : Parts). (p.salt ≡ salt) × ((p.nonce < 2 ^ 64) × ListsMet p))
@@ -180,7 +180,7 @@ module _ (genesis : Bool) where
       said_so (behind_salt salt) nonce_text (λ (p : Parts). (p.nonce < 2 ^ 64) × ((p.salt ≡ salt) × ListsMet p)) (λ (p : Parts). (p.salt ≡ salt) × ((p.nonce < 2 ^ 64) × ListsMet p))
       (λ p h. (h.1.0, (h.0, h.1.1))) (λ p h. (h.1.0, (h.0, h.1.1))) nonce
 
-  abbrev salt_text : Parts → List ℕ
+  abbrev pub salt_text : Parts → List ℕ
   salt_text p = to_le_bytes w64 p.salt ++ nonce_text p
 
   abbrev WordsMet : Parts → Type 0

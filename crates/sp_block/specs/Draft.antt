@@ -1,5 +1,5 @@
 -- The bytes of a draft, and the search for a nonce.
-use Rattle.std.specs.Prelude.{◌≡◌, ℕ, ◌<◌, List, Option, Some, None}
+use Rattle.std.specs.Prelude.{ℕ, ◌<◌, List, Option, Some, None}
 use Rattle.sp_ids.specs.Bits.{BeginsWithZeros}
 use Rattle.sp_ids.specs.Digest.{sha256_number}
 use Rattle.sp_block.specs.declared.draft.Draft.{Draft}

@@ -3,7 +3,7 @@
 use Rattle.std.specs.Prelude.{ℕ, Bool, true, not, ◌==◌, ◌&&◌, nat_le, nat_lt, List, [], ◌∷◌, ◌++◌, length, map, Option, Some, None, if◌then◌else◌}
 use Rattle.std.specs.Int.{w16, w64, from_le_bytes}
 use Rattle.std.specs.List.{flat_map, list_any}
-use Rattle.sp_form.specs.Form.{Form, whole, bind, ◌>>=◌, rows, Rule, rule, told}
+use Rattle.sp_form.specs.Form.{Form, whole, ◌>>=◌, rows, Rule, rule, told}
 use Rattle.sp_form.specs.Values.{byte, judged, value_form}
 use Rattle.sp_ids.specs.Key.{number_of}
 use Rattle.sp_ids.specs.declared.outpoint.Outpoint.{Outpoint}

@@ -1,6 +1,6 @@
 -- Reading a block from left to right, as the private functions do. What is promised of it stands in Format
 -- and Spelling.
-use Rattle.std.specs.Prelude.{ℕ, Bool, List, Result, Ok, Err}
+use Rattle.std.specs.Prelude.{ℕ, Bool, List, Result, Ok}
 use Rattle.sp_form.specs.declared.fault.ReadFault.{ReadFault}
 use Rattle.sp_form.specs.declared.fault.ReadFault.TheVariants.{Fault, Memory}
 use Rattle.sp_form.specs.Reading.{read, ◌then◌}

@@ -7,11 +7,14 @@
 mod block;
 mod draft;
 mod fault;
+pub mod laws;
 mod list;
+mod read;
 mod reader;
 mod seen;
 
 pub use block::{Block, check_work};
-pub use draft::Draft;
+pub use draft::{Draft, draft_bytes, seek_nonce};
 pub use fault::{BlockFault, ReadBlockFault};
 pub use list::{Blocks, Parents};
+pub use read::read_block;

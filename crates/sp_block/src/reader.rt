@@ -11,7 +11,15 @@ ghost use Rattle.sp_tx.specs.Spelling.{SpellsBetween};
 ghost use Rattle.sp_tx.specs.Spending.{id_of};
 ghost use Rattle.sp_block.specs.Format as format;
 ghost use Rattle.sp_block.specs.Format.{
-    carried_form, parent_count_form, parent_form, parents_form, tx_count_form, txs_form, version_form, with_one, word_form
+  carried_form,
+  parent_count_form,
+  parent_form,
+  parents_form,
+  tx_count_form,
+  txs_form,
+  version_form,
+  with_one,
+  word_form,
 };
 ghost use Rattle.sp_block.specs.Reading.{block_steps, parts_in, told_as};
 ghost use Rattle.sp_block.specs.Seen.{Saw};
@@ -209,15 +217,16 @@ impl<'a> Reader<'a> {
     }
 
     /// The next transaction, judged against the earlier ones, which then has it, too.
-    fn carried(&mut self, alloc: Global, genesis: bool, seen: &mut Seen) -> Result<Tx, ReadBlockFault>
-        ensures read {
-            (earlier : List Transaction) → Saw seen.old earlier
-            → Gives (λ tx. (tx, self.new)) result (read (carried_form genesis earlier) self.old)
-        }
-        ensures saw {
-            (earlier : List Transaction) → Saw seen.old earlier
-            → IfOk result (λ tx. Saw seen.new (with_one earlier tx))
-        }
+    fn carried(
+        &mut self,
+        alloc: Global,
+        genesis: bool,
+        seen: &mut Seen,
+    ) -> Result<Tx, ReadBlockFault>
+        ensures read { (earlier : List Transaction) → Saw seen.old earlier
+            → Gives (λ tx. (tx, self.new)) result (read (carried_form genesis earlier) self.old) }
+        ensures saw { (earlier : List Transaction) → Saw seen.old earlier
+            → IfOk result (λ tx. Saw seen.new (with_one earlier tx)) }
     {
         let (tx, id) = self.tx(alloc)?;
         match seen.judge(genesis, &tx, &id) {

@@ -32,10 +32,8 @@ fn is_spent(outpoints: &BTreeSet<Outpoint>, inputs: &[Input]) -> bool
 }
 
 fn add_outpoints(outpoints: &mut BTreeSet<Outpoint>, inputs: &[Input]) -> Result<(), AllocError>
-    ensures {
-        OnOk result ((spent : List Outpoint) → HasOutpoints outpoints.old spent
-        → HasOutpoints outpoints.new (spent ++ map (λ input. input.from) inputs.now))
-    }
+    ensures { OnOk result ((spent : List Outpoint) → HasOutpoints outpoints.old spent
+        → HasOutpoints outpoints.new (spent ++ map (λ input. input.from) inputs.now)) }
 {
     'inputs: for input in inputs {
         outpoints.insert(input.from)?;
@@ -64,10 +62,8 @@ impl Seen {
     /// The first rule that a transaction breaks, given those before it.
     pub(crate) fn judge(&self, genesis: bool, tx: &Tx, id: &TxId) -> Result<(), BlockFault>
         requires { id.now ≡ id_of tx.now }
-        ensures {
-            (earlier : List Transaction) → Saw self.now earlier
-            → fault_in result ≡ first_broken (carried_rules genesis earlier tx.now)
-        }
+        ensures { (earlier : List Transaction) → Saw self.now earlier
+            → fault_in result ≡ first_broken (carried_rules genesis earlier tx.now) }
     {
         if !fits_kind(genesis, tx) {
             return Err(BlockFault::Grant);
@@ -84,10 +80,8 @@ impl Seen {
     /// Notes a transaction, too.
     pub(crate) fn add(&mut self, tx: &Tx, id: TxId) -> Result<(), AllocError>
         requires { id ≡ id_of tx.now }
-        ensures {
-            OnOk result ((earlier : List Transaction) → Saw self.old earlier
-            → Saw self.new (with_one earlier tx.now))
-        }
+        ensures { OnOk result ((earlier : List Transaction) → Saw self.old earlier
+            → Saw self.new (with_one earlier tx.now)) }
     {
         self.ids.insert(id)?;
         add_outpoints(&mut self.outpoints, tx.inputs.as_slice())

@@ -1,10 +1,9 @@
 -- What the fields that most formats are made of spell.
-use Rattle.std.proofs.Common.{◌≡◌, ℕ, ◌<◌, ◌≤◌, Bool, true, false, cond, leb, ◌&&◌, List, [], ◌∷◌, length, Option, Some, None, refl, arith, slice_index}
+use Rattle.std.proofs.Common.{◌≡◌, ℕ, ◌≤◌, Bool, true, false, cond, leb, ◌&&◌, List, [], ◌∷◌, length, Option, Some, None, refl, arith}
 use Rattle.std.proofs.lemmas.Bool.{leb-true, le-leb}
-use Rattle.sp_form.specs.Bytes.{IsBytes}
-use Rattle.sp_form.specs.Form.{Form, Rule, rule, first_broken}
+use Rattle.sp_form.specs.Form.{rule}
 use Rattle.sp_form.specs.Values.{byte, bytes_form, count_form}
-use Rattle.sp_form.proofs.Taking.{Spelled, value_spelled, Written}
+use Rattle.sp_form.proofs.Taking.{Spelled, value_spelled}
 
 -- a rule that was met
 pub rule_met : {E : Type 0} (b : Bool) (fault : E) (rest : Option E) → cond b rest (Some fault) ≡ None → (b ≡ true) × (rest ≡ None)

@@ -1,9 +1,9 @@
 -- What a format takes from the front of a list of bytes, and that what is written by it is read again.
-use Rattle.std.proofs.Common.{◌≡◌, ℕ, zero, suc, ◌+◌, ◌<◌, ◌≤◌, List, [], ◌∷◌, ◌++◌, length, Option, Some, None, Result, Ok, Err, refl, sym, ap, subst, ◌∙◌, append_assoc, arith}
+use Rattle.std.proofs.Common.{◌≡◌, ℕ, zero, suc, List, [], ◌∷◌, ◌++◌, length, None, Ok, refl, sym, ap, subst, ◌∙◌, append_assoc, arith}
 use Rattle.std.specs.List.{flat_map}
 use Rattle.std.proofs.lemmas.List.Concat.{flat_map-cons}
 use Rattle.sp_form.specs.Bytes.{IsBytes}
-use Rattle.sp_form.specs.Form.{Form, whole, field, bind, rows, Rule, first_broken}
+use Rattle.sp_form.specs.Form.{Form, whole, bind, rows, Rule, first_broken}
 use Rattle.sp_form.specs.Reading.{read}
 use Rattle.sp_form.specs.Turns.{InTurn}
 use Rattle.sp_form.specs.Values.{value_form}

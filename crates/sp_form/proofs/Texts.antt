@@ -1,5 +1,5 @@
 -- A value that meets the rules of its format has one spelling, its text, and no other value has any.
-use Rattle.std.proofs.Common.{◌≡◌, ℕ, List, [], ◌++◌, Ok, sym, ap, subst, ◌∙◌}
+use Rattle.std.proofs.Common.{◌≡◌, ℕ, List, [], Ok, sym, ap, subst, ◌∙◌}
 use Rattle.std.proofs.lemmas.List.{append-nil}
 use Rattle.sp_form.specs.Bytes.{IsBytes}
 use Rattle.sp_form.specs.Form.{Form, Spells}

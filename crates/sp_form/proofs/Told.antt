@@ -1,7 +1,6 @@
 -- Formats whose faults are told as others, and rules that are judged where they stand.
 use Rattle.std.proofs.Common.{◌≡◌, ℕ, Bool, true, false, cond, ltb, List, [], ◌∷◌, ◌++◌, length, map, take, drop, Option, Some, None, Result, Ok, Err, refl, sym, ap, subst, ◌∙◌, arith}
 use Rattle.std.proofs.lemmas.Bool.{le-ltb}
-use Rattle.sp_form.specs.Bytes.{IsBytes}
 use Rattle.sp_form.specs.Form.{bind, Form, whole, field, Rule, first_broken, told, told_rule}
 use Rattle.sp_form.specs.Reading.{read, unless}
 use Rattle.sp_form.specs.Values.{judged}

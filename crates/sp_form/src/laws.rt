@@ -5,10 +5,8 @@ ghost use Rattle.sp_form.specs.Form.{Begins, Form, HasFault, Spells};
 
 /// A list spells at most one value, and no spelling is a proper front of another's.
 pub fn one_value<E, A>()
-    ensures {
-        (form : Form E A) (a b r s : List ℕ) (x y : A) → Spells form a x → Spells form b y → a ++ r ≡ b ++ s
-        → (a ≡ b) × (x ≡ y)
-    }
+    ensures { (form : Form E A) (a b r s : List ℕ) (x y : A) → Spells form a x → Spells form b y → a ++ r ≡ b ++ s
+        → (a ≡ b) × (x ≡ y) }
 {}
 
 /// A list begins with a spelled value or has a first fault, never both, and one fault alone.

@@ -1,6 +1,6 @@
 use Rattle.std.proofs.Common.{ap, sym, ◌∙◌}
 use Rattle.sp_tx.specs.Parts.{Transaction}
-use Rattle.sp_block.proofs.Sets.{breaks_id, breaks_none, breaks_outpoint}
+use Rattle.sp_block.proofs.Sets.{breaks_none, breaks_outpoint}
 use Rattle.sp_block.proofs.seen.Seen.judge.Goals as goal
 
 pub returns-then-is_spent : goal.returns-then-is_spent
