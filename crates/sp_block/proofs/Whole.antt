@@ -16,7 +16,7 @@ use Rattle.sp_form.proofs.Simple.{and_true}
 use Rattle.sp_form.proofs.Texts.{is_spelled, only_text, reads_all}
 use Rattle.sp_block.specs.declared.fault.BlockFault.{BlockFault}
 use Rattle.sp_block.specs.declared.fault.BlockFault.TheVariants.{ParentCount, Short, TooLong, Trailing}
-use Rattle.sp_block.specs.Block.{block_of, parts_of, ReadBlock}
+use Rattle.sp_block.specs.Block.{IsBlock, IsGenesis, IsOther, block_of, parts_of, ReadBlock}
 use Rattle.sp_block.specs.Format.{block_form, parent_count_form, Parts, parents_fit, version_form, word_form}
 use Rattle.sp_block.specs.Reading.{block_steps}
 use Rattle.sp_block.specs.Spelling.{block_text, HasBlockFault, behind, inside, IsSpellable, long, MeetsRules, SpellsBlock}
@@ -141,3 +141,30 @@ only_fault list genesis (Err (Fault g)) f found fault h = ap (λ (x : BlockFault
 pub IfOk-to : {X E : Type 0} (P Q : X → Type 0) (r : Result X E) → ((x : X) → P x → Q x) → IfOk r P → IfOk r Q
 IfOk-to P Q (Ok x) f h = f x h
 IfOk-to P Q (Err e) f h = tt
+
+-- ---- the kind of a block, by its parents
+
+parents_fitted : (b : ReadBlock) (genesis : Bool) → IsBytes b.bytes → SpellsBlock b.bytes genesis (parts_of b) → parents_fit genesis (length b.parents) ≡ true
+parents_fitted b genesis bytes s = (only_spelling b.bytes genesis (parts_of b) bytes s).0.rules.parent_count
+
+some_parents : (n : ℕ) → parents_fit false n ≡ true → (1 ≤ n) × (n ≤ 64)
+some_parents n e = let both = and_true (leb 1 n) (leb n 64) e in (leb-true 1 n both.0, leb-true n 64 both.1)
+
+pub kind_of : (b : ReadBlock) → IsBlock b → IsGenesis b ⊎ IsOther b
+kind_of b h = of h.genesis h.spells
+  where
+    of : (genesis : Bool) → SpellsBlock b.bytes genesis (parts_of b) → IsGenesis b ⊎ IsOther b
+    of true s = inl s
+    of false s = inr s
+
+pub genesis_parents : (b : ReadBlock) → IsBlock b → IsGenesis b → length b.parents ≡ 0
+genesis_parents b h s = eqb-true (length b.parents) 0 (parents_fitted b true h.bytes s)
+
+pub other_parents : (b : ReadBlock) → IsBlock b → IsOther b → (1 ≤ length b.parents) × (length b.parents ≤ 64)
+other_parents b h s = some_parents (length b.parents) (parents_fitted b false h.bytes s)
+
+pub genesis_by_parents : (b : ReadBlock) → IsBlock b → length b.parents ≡ 0 → IsGenesis b
+genesis_by_parents b h none = elim (kind_of b h) [ inl s ↦ s | inr s ↦ absurd (let some = (other_parents b h s).0 in omega arith) ]
+
+pub other_by_parents : (b : ReadBlock) → IsBlock b → 1 ≤ length b.parents → IsOther b
+other_by_parents b h some = elim (kind_of b h) [ inl s ↦ absurd (let none = genesis_parents b h s in omega arith) | inr s ↦ s ]

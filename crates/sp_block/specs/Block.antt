@@ -1,5 +1,6 @@
 -- A block that was read, without where it lies in memory.
-use Rattle.std.specs.Prelude.{◌≡◌, ℕ, Bool, List}
+use Rattle.std.specs.Prelude.{◌≡◌, false, true, ℕ, Bool, List}
+use Rattle.sp_form.specs.Bytes.{IsBytes}
 use Rattle.sp_ids.specs.Digest.{sha256_number}
 use Rattle.sp_tx.specs.Parts.{Transaction}
 use Rattle.sp_block.specs.Format.{of_parts, Parts}
@@ -22,6 +23,15 @@ block_of bytes p = record { id = sha256_number bytes; bytes = bytes; salt = p.sa
 
 -- Its bytes spell its parts, as those of genesis or not, and its id is their SHA-256.
 pub record IsBlock (b : ReadBlock) : Type 0 where
+  pub bytes : IsBytes b.bytes
   pub genesis : Bool
   pub spells : SpellsBlock b.bytes genesis (parts_of b)
   pub id : b.id ≡ sha256_number b.bytes
+
+-- its bytes spell a genesis block
+abbrev pub IsGenesis : ReadBlock → Type 0
+IsGenesis b = SpellsBlock b.bytes true (parts_of b)
+
+-- its bytes spell another block
+abbrev pub IsOther : ReadBlock → Type 0
+IsOther b = SpellsBlock b.bytes false (parts_of b)

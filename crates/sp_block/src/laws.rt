@@ -1,7 +1,8 @@
 //! The laws of the format, for which no call is needed.
 
-ghost use Rattle.std.specs.Prelude.{◌≡◌, ◌++◌, ◌⊎◌, false, true, Bool, ℕ, List};
+ghost use Rattle.std.specs.Prelude.{◌≡◌, ◌≤◌, ◌++◌, ◌↔◌, ◌⊎◌, false, true, Bool, ℕ, List, length};
 ghost use Rattle.sp_form.specs.Bytes.{IsBytes};
+ghost use Rattle.sp_block.specs.Block.{IsBlock, IsGenesis, IsOther, ReadBlock};
 ghost use Rattle.sp_block.specs.Format.{Parts};
 ghost use Rattle.sp_block.specs.Spelling.{block_text, HasBlockFault, IsSpellable, SpellsBlock};
 ghost use Rattle.sp_block.specs.declared.fault.BlockFault.{BlockFault};
@@ -37,4 +38,11 @@ pub fn kinds_are_told_apart()
         → HasBlockFault list false ParentCount }
     ensures other { (list : List ℕ) (parts : Parts) → IsBytes list → SpellsBlock list false parts
         → HasBlockFault list true ParentCount }
+{}
+
+/// A block is a genesis block exactly where it has no parents, else it is another one, with 1 to 64 parents.
+pub fn kinds_by_parents()
+    ensures genesis { (b : ReadBlock) → IsBlock b → IsGenesis b ↔ (length b.parents ≡ 0) }
+    ensures other { (b : ReadBlock) → IsBlock b → IsOther b ↔ ((1 ≤ length b.parents) × (length b.parents ≤ 64)) }
+    ensures either { (b : ReadBlock) → IsBlock b → IsGenesis b ⊎ IsOther b }
 {}
