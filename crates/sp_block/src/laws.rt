@@ -31,8 +31,8 @@ pub fn one_first_fault()
         → HasBlockFault list genesis g → f ≡ g }
 {}
 
-/// The bytes of a genesis block read as another one, and the other way round, have the fault of the count of
-/// parents.
+/// The bytes of a genesis block read as another one, and the other way round, have the fault of the
+/// count of parents.
 pub fn kinds_are_told_apart()
     ensures genesis { (list : List ℕ) (parts : Parts) → IsBytes list → SpellsBlock list true parts
         → HasBlockFault list false ParentCount }
@@ -40,7 +40,8 @@ pub fn kinds_are_told_apart()
         → HasBlockFault list true ParentCount }
 {}
 
-/// A block is a genesis block exactly where it has no parents, else it is another one, with 1 to 64 parents.
+/// A block is a genesis block exactly where it has no parents, else it is another one, with 1 to 64
+/// parents.
 pub fn kinds_by_parents()
     ensures genesis { (b : ReadBlock) → IsBlock b → IsGenesis b ↔ (length b.parents ≡ 0) }
     ensures other { (b : ReadBlock) → IsBlock b → IsOther b ↔ ((1 ≤ length b.parents) × (length b.parents ≤ 64)) }

@@ -1,7 +1,8 @@
 //! Blocks and their bytes: the format, reading, drafts, and proof of work.
 //!
-//! `specs/Format.antt` is the table of the format, a line for each field. From it stands what it means
-//! that bytes spell a block, and what the first fault of bytes is; `read_block` answers by these alone.
+//! `specs/Format.antt` is the table of the format, a line for each field. From it stands what it
+//! means that bytes spell a block, and what the first fault of bytes is; `read_block` answers by
+//! these alone.
 #![tactic(auto)]
 
 mod block;

@@ -1,5 +1,5 @@
-//! What the rules look back at: the ids of a block's earlier transactions, and the outpoints that they
-//! spend.
+//! What the rules look back at: the ids of a block's earlier transactions, and the outpoints that
+//! they spend.
 
 ghost use Rattle.std.specs.Prelude.{◌≡◌, ◌++◌, [], List, map, OnOk};
 ghost use Rattle.std.specs.BTreeSet.{contains};

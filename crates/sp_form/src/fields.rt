@@ -52,7 +52,8 @@ impl<'a> Fields<'a> {
         self.left
     }
 
-    /// Takes the next `width` bytes; `None` where fewer are left, and then nothing is taken. Constant time.
+    /// Takes the next `width` bytes; `None` where fewer are left, and then nothing is taken.
+    /// Constant time.
     pub fn take(&mut self, width: usize) -> Option<&'a [u8]>
         ensures field { IfSome result (λ field. field.now ≡ take width self.old) }
         ensures size { IfSome result (λ field. length field.now ≡ width) }

@@ -1,4 +1,5 @@
-//! What a reader of a transaction's bytes would find in its parts, counts and lengths as whole numbers.
+//! What a reader of a transaction's bytes would find in its parts, counts and lengths as whole
+//! numbers.
 
 ghost use Rattle.std.specs.Prelude.{◌≡◌, ◌<◌, ◌^◌, None, length};
 ghost use Rattle.std.specs.List.{flat_map};
@@ -28,7 +29,8 @@ fn check_input(before: Option<Outpoint>, input: &Input) -> Result<(), TxFault>
 }
 
 fn check_inputs(inputs: &[Input]) -> Result<(), TxFault>
-    ensures { Judges result (InTurn IsInput last_outpoint None inputs.now) (inputs_form (length inputs.now)) (flat_map input_text inputs.now) }
+    ensures { Judges result (InTurn IsInput last_outpoint None inputs.now)
+        (inputs_form (length inputs.now)) (flat_map input_text inputs.now) }
 {
     let mut before = None;
     'inputs: for input in inputs {
@@ -54,7 +56,8 @@ fn check_output(before: u64, output: &Output) -> Result<(), TxFault>
 }
 
 fn check_outputs(outputs: &[Output]) -> Result<(), TxFault>
-    ensures { Judges result (InTurn IsOutput sum_so_far 0 outputs.now) (outputs_form (length outputs.now)) (flat_map output_text outputs.now) }
+    ensures { Judges result (InTurn IsOutput sum_so_far 0 outputs.now)
+        (outputs_form (length outputs.now)) (flat_map output_text outputs.now) }
 {
     let mut sum = 0;
     'outputs: for output in outputs {
@@ -66,7 +69,8 @@ fn check_outputs(outputs: &[Output]) -> Result<(), TxFault>
 
 /// The first fault of the parts, if they have one.
 pub(crate) fn check(inputs: &[Input], outputs: &[Output]) -> Result<(), TxFault>
-    ensures { Judges result (IsTx (of_parts inputs.now outputs.now)) tx_form (spelling (of_parts inputs.now outputs.now)) }
+    ensures { Judges result (IsTx (of_parts inputs.now outputs.now))
+        tx_form (spelling (of_parts inputs.now outputs.now)) }
 {
     if 16 < inputs.len() {
         return Err(TxFault::InputCount);

@@ -1,7 +1,9 @@
-//! Transactions and their bytes: the format, reading, writing, ids, and what two transactions share.
+//! Transactions and their bytes: the format, reading, writing, ids, and what two transactions
+//! share.
 //!
-//! `specs/Format.antt` is the table of the format, a line for each field. From it stands what it means that
-//! bytes spell a transaction, and what the first fault of bytes is; `read_tx` answers by these alone.
+//! `specs/Format.antt` is the table of the format, a line for each field. From it stands what it
+//! means that bytes spell a transaction, and what the first fault of bytes is; `read_tx` answers by
+//! these alone.
 #![tactic(auto)]
 
 mod check;

@@ -8,7 +8,7 @@ use crate::tx::Tx;
 use std::alloc::{AllocError, Global};
 use std::marker::Model;
 
-/// Bytes, as a preimage.
+/// Bytes, as a preimage or a block's.
 #[derive(Debug, Drop)]
 pub struct Bytes {
     list: Vec<u8>,

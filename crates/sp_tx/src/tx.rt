@@ -15,9 +15,15 @@ use std::alloc::Global;
 use std::marker::Model;
 
 /// A transfer: the outputs that it spends and those that it makes. Some bytes spell it.
+///
+/// In bytes: the number of inputs (1 byte), the inputs, the number of outputs (1 byte), the
+/// outputs; at most 2,210 bytes. The table of the format, with each field's rule, stands in
+/// docs/FORMATS.md.
 #[derive(Debug, Drop)]
 pub struct Tx {
+    /// At most 16, their outpoints strictly ascending. A grant has none.
     pub inputs: Inputs,
+    /// 1 to 16.
     pub outputs: Outputs,
 }
 
@@ -33,8 +39,15 @@ impl Model for Tx {
 }
 
 impl Tx {
-    /// A transaction of these parts, the inputs sorted by outpoint. The faults are those that a reader of its
-    /// bytes would find first, counts and lengths taken as whole numbers.
+    /// A transaction of these parts, the inputs sorted by outpoint, those of equal outpoints in
+    /// their order.
+    ///
+    /// # Errors
+    ///
+    /// The fault that a reader of its bytes would find first, counts and lengths taken as whole
+    /// numbers: more than 16 inputs; two inputs of one outpoint; a preimage that is empty or longer
+    /// than 64 bytes; no output or more than 16; an amount of 0; amounts that come to 2^63 or more.
+    /// `Memory` where the sort found none; the parts are then dropped, as after each error.
     pub fn new(alloc: Global, inputs: Inputs, outputs: Outputs) -> Result<Tx, TxReadFault>
         ensures made { IfOk result (IsMadeOf inputs outputs) }
         ensures valid { IfOk result IsTx }
@@ -59,7 +72,15 @@ fn tx_at(alloc: Global, bytes: &[u8], at: usize) -> Result<(Tx, usize), TxReadFa
     Ok((tx, bytes.len() - reader.len()))
 }
 
-/// The transaction that the bytes from a place begin with, and the place behind it; otherwise their first fault.
+/// The transaction that the bytes from a place begin with, and the place behind it. The time is
+/// linear in the transaction's bytes.
+///
+/// # Errors
+///
+/// The first fault in the order of the format's table: bytes that end within a field or before it;
+/// more than 16 inputs; an outpoint that isn't strictly above the one before; a preimage that is
+/// empty or longer than 64 bytes; no output or more than 16; an amount of 0; amounts that come to
+/// 2^63 or more. `Memory` where the lists found none.
 pub fn read_tx(alloc: Global, bytes: &[u8], at: usize) -> Result<(Tx, usize), TxReadFault>
     requires { at ≤ length bytes.now }
     // What is answered stands there.
@@ -67,8 +88,10 @@ pub fn read_tx(alloc: Global, bytes: &[u8], at: usize) -> Result<(Tx, usize), Tx
     ensures fault { IfErr result (IsCause (HasTxFault (drop at bytes.now))) }
 
     // What stands there is answered, unless memory runs out.
-    ensures only { (t : Transaction) (end : ℕ) → SpellsBetween bytes.now at end t → Answers result (Ok (t, end)) }
-    ensures only_fault { (fault : TxFault) → HasTxFault (drop at bytes.now) fault → Answers result (Err fault) }
+    ensures only { (t : Transaction) (end : ℕ) → SpellsBetween bytes.now at end t
+        → Answers result (Ok (t, end)) }
+    ensures only_fault { (fault : TxFault) → HasTxFault (drop at bytes.now) fault
+        → Answers result (Err fault) }
 {
     tx_at(alloc, bytes, at)
 }

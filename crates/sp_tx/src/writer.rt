@@ -2,7 +2,7 @@
 
 ghost use Rattle.std.specs.Prelude.{◌≡◌, ◌≤◌, ◌∷◌, ◌++◌, All, IfOk, OnErr, OnOk, length, take};
 ghost use Rattle.std.specs.List.{flat_map};
-ghost use Rattle.sp_tx.specs.Spelling.{input_text, output_text, spelling};
+ghost use Rattle.sp_tx.specs.Spelling.{input_text, IsTx, output_text, spelling, SpellsTx};
 ghost use Rattle.sp_tx.specs.Spending.{id_of};
 
 use crate::parts::{Input, Output};
@@ -59,6 +59,7 @@ fn put_outputs(out: &mut Vec<u8>, outputs: &[Output]) -> Result<(), AllocError>
 
 fn put_tx(out: &mut Vec<u8>, tx: &Tx) -> Result<(), AllocError>
     ensures ok { OnOk result (out.new.items ≡ out.old.items ++ spelling tx.now) }
+    ensures valid { IsTx tx.now }
     ensures kept { take (length out.old.items) out.new.items ≡ out.old.items }
 {
     put_inputs(out, tx.inputs.as_slice())?;
@@ -68,6 +69,7 @@ fn put_tx(out: &mut Vec<u8>, tx: &Tx) -> Result<(), AllocError>
 /// Appends the bytes of a transaction, at most 2,210 of them. After `Memory` nothing was appended.
 pub fn write_tx(tx: &Tx, out: &mut Vec<u8>) -> Result<(), Memory>
     ensures ok { OnOk result (out.new.items ≡ out.old.items ++ spelling tx.now) }
+    ensures spells { SpellsTx (spelling tx.now) tx.now }
     ensures err { OnErr result (out.new.items ≡ out.old.items) }
 {
     let before = out.len();
