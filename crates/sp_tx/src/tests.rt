@@ -1,7 +1,6 @@
 //! Transactions and their bytes, both written down by hand from the table of the format.
 
 use super::*;
-use crate::TxFault::{Amount, InputCount, InputOrder, OutputCount, PreimageLength, Short, Sum};
 use sp_form::ReadFault;
 use sp_ids::{Lock, Outpoint, TxId};
 use std::alloc::{AllocError, Global};
@@ -12,6 +11,7 @@ use std::test::Fail;
 const LOW: [u8; 32] = [
     0, 0, 0, 0, 0, 0, 0, 0, 0, 0, 0, 0, 0, 0, 0, 0, 0, 0, 0, 0, 0, 0, 0, 0, 0, 0, 0, 0, 0, 0, 0, 9,
 ];
+
 const HIGH: [u8; 32] = [
     1, 0, 0, 0, 0, 0, 0, 0, 0, 0, 0, 0, 0, 0, 0, 0, 0, 0, 0, 0, 0, 0, 0, 0, 0, 0, 0, 0, 0, 0, 0, 0,
 ];
@@ -24,55 +24,77 @@ const LOCK: [u8; 32] = [
 
 /// Amounts, the lowest byte first. Two halves are the limit, below which a sum stays.
 const NOTHING: [u8; 8] = [0; 8];
+
 const ONE: [u8; 8] = [1, 0, 0, 0, 0, 0, 0, 0];
+
 const HUNDRED: [u8; 8] = [100, 0, 0, 0, 0, 0, 0, 0];
+
 const LESS_THAN_HALF: [u8; 8] = [0xff, 0xff, 0xff, 0xff, 0xff, 0xff, 0xff, 0x3f];
+
 const HALF: [u8; 8] = [0, 0, 0, 0, 0, 0, 0, 0x40];
+
 const MOST: [u8; 8] = [0xff, 0xff, 0xff, 0xff, 0xff, 0xff, 0xff, 0x7f];
+
 const LIMIT: [u8; 8] = [0, 0, 0, 0, 0, 0, 0, 0x80];
+
 const ALL_ONES: [u8; 8] = [0xff; 8];
 
+/// The faults.
+const SHORT: TxReadFault = ReadFault::Fault(TxFault::Short);
+
+const INPUT_COUNT: TxReadFault = ReadFault::Fault(TxFault::InputCount);
+
+const INPUT_ORDER: TxReadFault = ReadFault::Fault(TxFault::InputOrder);
+
+const PREIMAGE_LENGTH: TxReadFault = ReadFault::Fault(TxFault::PreimageLength);
+
+const OUTPUT_COUNT: TxReadFault = ReadFault::Fault(TxFault::OutputCount);
+
+const AMOUNT: TxReadFault = ReadFault::Fault(TxFault::Amount);
+
+const SUM: TxReadFault = ReadFault::Fault(TxFault::Sum);
+
 /// Bytes by their fields, and where the transaction ends that they begin with, or their fault.
-type Row = (&'static [&'static [u8]], Result<usize, TxFault>);
+type Row = (&'static [&'static [u8]], Result<usize, TxReadFault>);
 
 #[rattlefmt::skip]
-const ROWS: [Row; 32] = [
+const ROWS: &[Row] = &[
     (&[&[0], &[1], &HUNDRED, &LOCK], Ok(42)),
     (&[&[0], &[1], &HUNDRED, &LOCK, b"and so on"], Ok(42)),
     (&TWO, Ok(153)),
-    (&[], Err(Short)),
+    (&[], Err(SHORT)),
     // At most 16 inputs.
-    (&[&[16]], Err(Short)),
-    (&[&[17]], Err(InputCount)),
-    (&[&[255]], Err(InputCount)),
+    (&[&[16]], Err(SHORT)),
+    (&[&[17]], Err(INPUT_COUNT)),
+    (&[&[255]], Err(INPUT_COUNT)),
     // Outpoints ascend by the id, and then by the index. Both are read before they are judged.
-    (&[&[2], &LOW, &[1], &[1], b"a", &LOW], Err(Short)),
-    (&[&[2], &LOW, &[1], &[1], b"a", &LOW, &[0]], Err(InputOrder)),
-    (&[&[2], &LOW, &[1], &[1], b"a", &LOW, &[1]], Err(InputOrder)),
-    (&[&[2], &LOW, &[1], &[1], b"a", &LOW, &[2]], Err(Short)),
-    (&[&[2], &HIGH, &[0], &[1], b"a", &LOW, &[9]], Err(InputOrder)),
-    (&[&[2], &LOW, &[9], &[1], b"a", &HIGH, &[0]], Err(Short)),
-    (&[&[2], &LOW, &[1], &[1], b"a", &LOW, &[1], &[0]], Err(InputOrder)),
+    (&[&[2], &LOW, &[1], &[1], b"a", &LOW], Err(SHORT)),
+    (&[&[2], &LOW, &[1], &[1], b"a", &LOW, &[0]], Err(INPUT_ORDER)),
+    (&[&[2], &LOW, &[1], &[1], b"a", &LOW, &[1]], Err(INPUT_ORDER)),
+    (&[&[2], &LOW, &[1], &[1], b"a", &LOW, &[2]], Err(SHORT)),
+    (&[&[2], &HIGH, &[0], &[1], b"a", &LOW, &[9]], Err(INPUT_ORDER)),
+    (&[&[2], &LOW, &[9], &[1], b"a", &HIGH, &[0]], Err(SHORT)),
+    (&[&[2], &LOW, &[1], &[1], b"a", &LOW, &[1], &[0]], Err(INPUT_ORDER)),
     // A preimage of 1 to 64 bytes.
-    (&[&[1], &LOW, &[0], &[0]], Err(PreimageLength)),
-    (&[&[1], &LOW, &[0], &[65]], Err(PreimageLength)),
-    (&[&[1], &LOW, &[0], &[64], &[5; 63]], Err(Short)),
-    (&[&[1], &LOW, &[0], &[64], &[5; 64], &[0]], Err(OutputCount)),
+    (&[&[1], &LOW, &[0], &[0]], Err(PREIMAGE_LENGTH)),
+    (&[&[1], &LOW, &[0], &[65]], Err(PREIMAGE_LENGTH)),
+    (&[&[1], &LOW, &[0], &[64], &[5; 63]], Err(SHORT)),
+    (&[&[1], &LOW, &[0], &[64], &[5; 64], &[0]], Err(OUTPUT_COUNT)),
     (&[&[1], &LOW, &[0], &[64], &[5; 64], &[1], &ONE, &LOCK], Ok(140)),
     // 1 to 16 outputs.
-    (&[&[0], &[0]], Err(OutputCount)),
-    (&[&[0], &[17]], Err(OutputCount)),
-    (&[&[0], &[16]], Err(Short)),
+    (&[&[0], &[0]], Err(OUTPUT_COUNT)),
+    (&[&[0], &[17]], Err(OUTPUT_COUNT)),
+    (&[&[0], &[16]], Err(SHORT)),
     // Amounts of at least 1, together below 2^63, which is judged before the lock is read.
-    (&[&[0], &[1], &[0; 7]], Err(Short)),
-    (&[&[0], &[1], &NOTHING], Err(Amount)),
-    (&[&[0], &[2], &MOST, &LOCK, &NOTHING], Err(Amount)),
-    (&[&[0], &[1], &MOST], Err(Short)),
+    (&[&[0], &[1], &[0; 7]], Err(SHORT)),
+    (&[&[0], &[1], &NOTHING], Err(AMOUNT)),
+    (&[&[0], &[2], &MOST, &LOCK, &NOTHING], Err(AMOUNT)),
+    (&[&[0], &[1], &MOST], Err(SHORT)),
     (&[&[0], &[1], &MOST, &LOCK], Ok(42)),
-    (&[&[0], &[1], &LIMIT], Err(Sum)),
-    (&[&[0], &[1], &ALL_ONES], Err(Sum)),
-    (&[&[0], &[2], &ONE, &LOCK, &ALL_ONES], Err(Sum)),
-    (&[&[0], &[2], &HALF, &LOCK, &HALF], Err(Sum)),
+    (&[&[0], &[1], &LIMIT], Err(SUM)),
+    (&[&[0], &[1], &ALL_ONES], Err(SUM)),
+    (&[&[0], &[2], &ONE, &LOCK, &ALL_ONES], Err(SUM)),
+    (&[&[0], &[2], &HALF, &LOCK, &HALF], Err(SUM)),
     (&[&[0], &[2], &HALF, &LOCK, &LESS_THAN_HALF, &LOCK], Ok(82)),
 ];
 
@@ -96,9 +118,9 @@ fn read(rt: &impl Abort, alloc: Global, bytes: &[u8], at: usize) -> Result<usize
 #[test]
 fn reads(rt: HostRuntime) -> Result<(), Fail> {
     let alloc = rt.alloc();
-    for (fields, answer) in ROWS {
+    for &(fields, answer) in ROWS {
         let bytes = fields.concat(alloc)?;
-        assert_eq!(rt; read(&rt, alloc, &bytes, 0), answer.map_err(ReadFault::Fault));
+        assert_eq!(rt; read(&rt, alloc, &bytes, 0), answer);
     }
     Ok(())
 }
@@ -109,27 +131,27 @@ fn fronts(rt: HostRuntime) -> Result<(), Fail> {
     let bytes = TWO.concat(alloc)?;
     for size in 0..bytes.len() {
         let read = read(&rt, alloc, &bytes[..size], 0);
-        assert_eq!(rt; read, Err(ReadFault::Fault(Short)));
+        assert_eq!(rt; read, Err(SHORT));
     }
     Ok(())
 }
 
 /// A place among other bytes, and where the transaction ends that begins there, or the fault.
-const PLACES: [(usize, Result<usize, TxFault>); 4] = [
-    (0, Err(InputCount)),
+const PLACES: &[(usize, Result<usize, TxReadFault>)] = &[
+    (0, Err(INPUT_COUNT)),
     (3, Ok(45)),
-    (45, Err(InputCount)),
-    (46, Err(Short)),
+    (45, Err(INPUT_COUNT)),
+    (46, Err(SHORT)),
 ];
 
-const AMONG_OTHERS: [&[u8]; 6] = [b"###", &[0], &[1], &HUNDRED, &LOCK, b"#"];
+const AMONG_OTHERS: &[&[u8]] = &[b"###", &[0], &[1], &HUNDRED, &LOCK, b"#"];
 
 #[test]
 fn places(rt: HostRuntime) -> Result<(), Fail> {
     let alloc = rt.alloc();
     let bytes = AMONG_OTHERS.concat(alloc)?;
-    for (at, answer) in PLACES {
-        assert_eq!(rt; read(&rt, alloc, &bytes, at), answer.map_err(ReadFault::Fault));
+    for &(at, answer) in PLACES {
+        assert_eq!(rt; read(&rt, alloc, &bytes, at), answer);
     }
     Ok(())
 }
@@ -144,11 +166,11 @@ const SPEND: Spend = (LOW, 0, b"a");
 type Made = (
     &'static [Spend],
     &'static [u64],
-    Result<&'static [&'static [u8]], TxFault>,
+    Result<&'static [&'static [u8]], TxReadFault>,
 );
 
 #[rattlefmt::skip]
-const MADE: [Made; 20] = [
+const MADE: &[Made] = &[
     (&[], &[100], Ok(&[&[0], &[1], &HUNDRED, &LOCK])),
     // Sorted by the id, and then by the index.
     (&[(HIGH, 0, b"bc"), (LOW, 9, b"a")], &[1, 1 << 62], Ok(&TWO)),
@@ -158,23 +180,23 @@ const MADE: [Made; 20] = [
         Ok(&[&[2], &LOW, &[1], &[1], b"b", &LOW, &[2], &[1], b"a", &[1], &ONE, &LOCK]),
     ),
     // Numbers that one byte can't hold are taken whole.
-    (&[SPEND; 17], &[1], Err(InputCount)),
-    (&[SPEND; 257], &[1], Err(InputCount)),
-    (&[(LOW, 1, b"a"), (LOW, 1, b"b")], &[1], Err(InputOrder)),
-    (&[(LOW, 0, b"")], &[1], Err(PreimageLength)),
-    (&[(LOW, 0, &[5; 65])], &[1], Err(PreimageLength)),
-    (&[(LOW, 0, &[5; 300])], &[1], Err(PreimageLength)),
-    (&[], &[], Err(OutputCount)),
-    (&[], &[1; 17], Err(OutputCount)),
-    (&[], &[1; 257], Err(OutputCount)),
-    (&[], &[1, 0], Err(Amount)),
-    (&[], &[1 << 63], Err(Sum)),
-    (&[], &[1 << 62, 1 << 62], Err(Sum)),
+    (&[SPEND; 17], &[1], Err(INPUT_COUNT)),
+    (&[SPEND; 257], &[1], Err(INPUT_COUNT)),
+    (&[(LOW, 1, b"a"), (LOW, 1, b"b")], &[1], Err(INPUT_ORDER)),
+    (&[(LOW, 0, b"")], &[1], Err(PREIMAGE_LENGTH)),
+    (&[(LOW, 0, &[5; 65])], &[1], Err(PREIMAGE_LENGTH)),
+    (&[(LOW, 0, &[5; 300])], &[1], Err(PREIMAGE_LENGTH)),
+    (&[], &[], Err(OUTPUT_COUNT)),
+    (&[], &[1; 17], Err(OUTPUT_COUNT)),
+    (&[], &[1; 257], Err(OUTPUT_COUNT)),
+    (&[], &[1, 0], Err(AMOUNT)),
+    (&[], &[1 << 63], Err(SUM)),
+    (&[], &[1 << 62, 1 << 62], Err(SUM)),
     (&[], &[1 << 62, (1 << 62) - 1], Ok(&[&[0], &[2], &HALF, &LOCK, &LESS_THAN_HALF, &LOCK])),
     // The first fault in the order of reading, the inputs sorted.
-    (&[(HIGH, 0, b""), (LOW, 0, b"a"), (LOW, 0, b"b")], &[], Err(InputOrder)),
-    (&[(HIGH, 0, b""), (LOW, 0, b"a")], &[], Err(PreimageLength)),
-    (&[], &[0, 1 << 63], Err(Amount)),
+    (&[(HIGH, 0, b""), (LOW, 0, b"a"), (LOW, 0, b"b")], &[], Err(INPUT_ORDER)),
+    (&[(HIGH, 0, b""), (LOW, 0, b"a")], &[], Err(PREIMAGE_LENGTH)),
+    (&[], &[0, 1 << 63], Err(AMOUNT)),
 ];
 
 fn input(alloc: Global, (id, index, preimage): Spend) -> Result<Input, AllocError> {
@@ -211,10 +233,10 @@ fn written(alloc: Global, spends: &[Spend], amounts: &[u64]) -> Result<Vec<u8>, 
 #[test]
 fn makes(rt: HostRuntime) -> Result<(), Fail> {
     let alloc = rt.alloc();
-    for (spends, amounts, answer) in MADE {
+    for &(spends, amounts, answer) in MADE {
         let expected = match answer {
             Ok(fields) => Ok(fields.concat(alloc)?),
-            Err(fault) => Err(ReadFault::Fault(fault)),
+            Err(fault) => Err(fault),
         };
         assert_eq!(rt; written(alloc, spends, amounts), expected);
     }
@@ -255,7 +277,7 @@ type Side = (&'static [Spend], u64);
 
 /// Two transactions, and whether they conflict.
 #[rattlefmt::skip]
-const PAIRS: [(Side, Side, bool); 7] = [
+const PAIRS: &[(Side, Side, bool)] = &[
     ((&[(LOW, 1, b"a")], 1), (&[(LOW, 1, b"a")], 1), false),
     ((&[(LOW, 1, b"a")], 1), (&[(LOW, 1, b"a")], 2), true),
     ((&[(LOW, 1, b"a")], 1), (&[(LOW, 1, b"b")], 1), true),
@@ -273,7 +295,7 @@ fn conflict(alloc: Global, one: Side, other: Side) -> Result<bool, Fail> {
 
 #[test]
 fn pairs(rt: HostRuntime) -> Result<(), Fail> {
-    for (one, other, answer) in PAIRS {
+    for &(one, other, answer) in PAIRS {
         assert_eq!(rt; conflict(rt.alloc(), one, other)?, answer);
     }
     Ok(())
