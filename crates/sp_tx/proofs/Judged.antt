@@ -1,10 +1,10 @@
 -- The fault that the text of a transaction's parts has, whatever follows it.
-use Rattle.std.proofs.Common.{◌≡◌, ◌≢◌, ℕ, ◌+◌, ◌<◌, ◌≤◌, ◌^◌, true, false, ltb, leb, List, ◌∷◌, ◌++◌, [], length, Option, None, Some, Result, Ok, Err, refl, ap, ◌∙◌, append_assoc, arith, inr, ◌⊎◌}
+use Rattle.std.proofs.Common.{◌≡◌, ℕ, ◌+◌, ◌<◌, ◌≤◌, ◌^◌, true, false, ltb, leb, List, ◌∷◌, ◌++◌, [], length, Option, None, Some, Result, Ok, Err, refl, ap, ◌∙◌, append_assoc, arith, inr, ◌⊎◌}
 use Rattle.std.specs.List.{flat_map}
 use Rattle.std.specs.Int.{w64, to_le_bytes, from_le_bytes}
 use Rattle.std.proofs.lemmas.Bool.{le-ltb, lt-leb, le-leb}
 use Rattle.std.proofs.lemmas.Nat.{from_le_bytes-to_le_bytes_8}
-use Rattle.sp_form.specs.Form.{Form, whole, bind, rule, first_broken}
+use Rattle.sp_form.specs.Form.{whole, bind, rule, first_broken}
 use Rattle.sp_form.specs.Reading.{read}
 use Rattle.sp_form.specs.Turns.{InTurn}
 use Rattle.sp_form.specs.Values.{bytes_form, count_form}
@@ -17,11 +17,11 @@ use Rattle.sp_tx.specs.declared.parts.Input.{Input}
 use Rattle.sp_tx.specs.declared.parts.Output.{Output}
 use Rattle.sp_tx.specs.declared.fault.TxFault.{TxFault}
 use Rattle.sp_tx.specs.declared.fault.TxFault.TheVariants.{Short, InputCount, InputOrder, PreimageLength, OutputCount, Amount, Sum}
-use Rattle.sp_tx.specs.Format.{amount_form, input_form, inputs_form, last_outpoint, lock_form, outpoint_form, outpoint_of, output_form, outputs_form, preimage_form, sum_so_far, tx_form}
+use Rattle.sp_tx.specs.Format.{amount_form, input_form, inputs_form, last_outpoint, outpoint_form, outpoint_of, output_form, outputs_form, preimage_form, sum_so_far, tx_form}
 use Rattle.sp_tx.specs.Judging.{Judges}
 use Rattle.sp_tx.specs.Parts.{is_next, of_parts, Transaction}
 use Rattle.sp_tx.specs.Spelling.{input_text, IsInput, IsOutput, IsTx, outpoint_text, output_text, preimage_text, spelling}
-use Rattle.sp_tx.proofs.Spelled.{behind_inputs, input_spelled, made_input, made_output, outpoint_back, outpoint_size, outpoint_spelled}
+use Rattle.sp_tx.proofs.Spelled.{behind_inputs, input_spelled, made_input, outpoint_back, outpoint_size, outpoint_spelled}
 
 -- ---- inputs
 

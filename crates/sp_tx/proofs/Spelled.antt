@@ -1,5 +1,5 @@
 -- What each part of a transaction's format spells, and the whole.
-use Rattle.std.proofs.Common.{◌≡◌, ℕ, ◌+◌, ◌<◌, ◌≤◌, ◌^◌, Bool, true, ltb, leb, List, [], ◌∷◌, ◌++◌, length, take, Option, Some, None, refl, sym, ap, subst, ◌∙◌, arith, slice_index}
+use Rattle.std.proofs.Common.{◌≡◌, ℕ, ◌+◌, ◌<◌, ◌≤◌, ◌^◌, true, ltb, leb, List, [], ◌∷◌, ◌++◌, length, take, Option, None, refl, sym, subst, ◌∙◌, arith, slice_index}
 use Rattle.std.specs.List.{flat_map}
 use Rattle.std.specs.Int.{w64, to_le_bytes, from_le_bytes}
 use Rattle.std.proofs.lemmas.Bool.{ltb-true, leb-true, le-leb, lt-ltb}
@@ -10,7 +10,7 @@ use Rattle.sp_form.specs.Form.{Form, whole, bind, rule, first_broken}
 use Rattle.sp_form.specs.Turns.{InTurn}
 use Rattle.sp_form.specs.Values.{bytes_form, count_form}
 use Rattle.sp_form.proofs.Simple.{bytes_spelled, count_spelled, rule_met, Within}
-use Rattle.sp_form.proofs.Taking.{AreRows, bind_spelled, IsBytes-append_left, last_spelled, rows_spelled, said_so, Spelled, value_spelled, Written}
+use Rattle.sp_form.proofs.Taking.{AreRows, bind_spelled, IsBytes-append_left, last_spelled, rows_spelled, said_so, Spelled, value_spelled}
 use Rattle.sp_ids.specs.Digits.{bytes_of_number, length-bytes_of, number_of_bytes, number_of-bound}
 use Rattle.sp_ids.specs.Key.{AreBytes, bytes_of, number_of}
 use Rattle.sp_ids.specs.declared.outpoint.Outpoint.{Outpoint}

@@ -1,7 +1,7 @@
 -- Transactions at a place of a longer list, and what the calls answer.
 use Rattle.std.proofs.Common.{◌≡◌, ◌≢◌, ℕ, ◌≤◌, List, [], ◌∷◌, ◌++◌, All, length, take, drop, slice_range, ◌-◌, ◌+◌, None, Some, Option, Result, Ok, Err, refl, sym, ap, subst, ◌∙◌, arith}
 use Rattle.std.specs.Prelude.{IfErr, IfOk}
-use Rattle.std.specs.List.{flat_map, AllByRecursion}
+use Rattle.std.specs.List.{AllByRecursion}
 use Rattle.std.proofs.lemmas.List.Elements.{All-from_recursion}
 use Rattle.std.proofs.lemmas.List.{take_at, take-append-drop, length-append, length-drop, append-nil}
 use Rattle.sp_form.specs.Bytes.{IsBytes}

@@ -22,3 +22,6 @@ pub use parts::{Input, Output};
 pub use spending::{conflicts, opens};
 pub use tx::{Tx, read_tx};
 pub use writer::{id, write_tx};
+
+#[cfg(test)]
+mod tests;
