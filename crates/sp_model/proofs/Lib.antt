@@ -4,3 +4,7 @@ pub mod Rounds
 pub mod Paths
 pub mod Recursion
 pub mod Match
+pub mod Signs
+pub mod Exchange
+pub mod Ancestors
+pub mod Renamed

@@ -48,7 +48,7 @@ pub record Matched (r : ℕ → ℕ) (xs ys : List ℕ) : Type 0 where
   pub into : (x : ℕ) → has xs x ≡ true → has ys (r x) ≡ true
   pub onto : (y : ℕ) → has ys y ≡ true → (x : ℕ) × (has xs x ≡ true) × (r x ≡ y)
 
-total_matched : (r : ℕ → ℕ) (f f' : ℕ → ℤ) (xs ys : List ℕ) → ((a b : ℕ) → r a ≡ r b → a ≡ b) → AreDistinct xs → AreDistinct ys → Matched r xs ys
+total_matched : (r : ℕ → ℕ) (f f' : ℕ → ℤ) (xs ys : List ℕ) → ((a b : ℕ) → has xs a ≡ true → has xs b ≡ true → r a ≡ r b → a ≡ b) → AreDistinct xs → AreDistinct ys → Matched r xs ys
     → ((x : ℕ) → has xs x ≡ true → f' (r x) ≡ f x) → total f' ys ≡ total f xs
 total_matched r f f' [] ys inj d d' m same = empty ys (λ y h. let x = m.onto y h in false≢true x.1)
   where
@@ -60,18 +60,18 @@ total_matched r f f' (x ∷ xs) ys inj d d' m same =
     let first : f' (r x) ≡ f x = same x here in
     let split : total f' ys ≡ f' (r x) +ℤ total f' (filter (λ y. not (eqb y (r x))) ys) = total_without f' ys (r x) d' (m.into x here) in
     let rest : total f' (filter (λ y. not (eqb y (r x))) ys) ≡ total f xs =
-    total_matched r f f' xs (filter (λ y. not (eqb y (r x))) ys) inj d.1 (distinct_filter (λ y. not (eqb y (r x))) ys d')
+    total_matched r f f' xs (filter (λ y. not (eqb y (r x))) ys) (λ a b ha hb. inj a b (or_right (eqb x a) (has xs a) ha) (or_right (eqb x b) (has xs b) hb)) d.1 (distinct_filter (λ y. not (eqb y (r x))) ys d')
     (smaller r x xs ys inj d m)
     (λ z h. same z (or_right (eqb x z) (has xs z) h)) in
     omega (arith, ints)
   where
-    smaller : (r : ℕ → ℕ) (x : ℕ) (xs ys : List ℕ) → ((a b : ℕ) → r a ≡ r b → a ≡ b) → AreDistinct (x ∷ xs) → Matched r (x ∷ xs) ys → Matched r xs (filter (λ y. not (eqb y (r x))) ys)
+    smaller : (r : ℕ → ℕ) (x : ℕ) (xs ys : List ℕ) → ((a b : ℕ) → has (x ∷ xs) a ≡ true → has (x ∷ xs) b ≡ true → r a ≡ r b → a ≡ b) → AreDistinct (x ∷ xs) → Matched r (x ∷ xs) ys → Matched r xs (filter (λ y. not (eqb y (r x))) ys)
     smaller r x xs ys inj d m =
         record {
           into = λ z h.
               let apart : z ≡ x → ⊥ = λ e. false≢true (sym d.0 ∙ rw e at h) in
               has-filter_from (λ y. not (eqb y (r x))) ys (r z) (m.into z (or_right (eqb x z) (has xs z) h))
-              (not_from_false (eqb (r z) (r x)) (ne_eqb (r z) (r x) (λ e. apart (inj z x e))));
+              (not_from_false (eqb (r z) (r x)) (ne_eqb (r z) (r x) (λ e. apart (inj z x (or_right (eqb x z) (has xs z) h) (or_left (eqb x x) (has xs x) (eq-eqb x x refl)) e))));
           onto = λ y h. back y (has-filter (λ y. not (eqb y (r x))) ys y h) (m.onto y (has-filter (λ y. not (eqb y (r x))) ys y h).0);
         }
       where
@@ -84,18 +84,20 @@ total_matched r f f' (x ∷ xs) ys inj d d' m same =
 
 -- ---- graphs that match on a set
 
-pub record SameOn (r : ℕ → ℕ) (g g' : Graph) (s s' : List ℕ) : Type 0 where
-  pub one_to_one : (a b : ℕ) → r a ≡ r b → a ≡ b
+-- The other keys are one-to-one on the keys of a domain, which has the set.
+pub record SameOn (r : ℕ → ℕ) (D : ℕ → Type 0) (g g' : Graph) (s s' : List ℕ) : Type 0 where
+  pub one_to_one : (a b : ℕ) → D a → D b → r a ≡ r b → a ≡ b
+  pub inside : (z : ℕ) → has s z ≡ true → D z
   pub matched : Matched r s s'
   pub down : IsDownset g s
   pub keys' : (z : ℕ) → has s z ≡ true → has (keys g') (r z) ≡ true
   pub parents : (z : ℕ) → has s z ≡ true → parents_of g' (r z) ≡ map r (parents_of g z)
 
-eqb_match : (r : ℕ → ℕ) → ((a b : ℕ) → r a ≡ r b → a ≡ b) → (a b : ℕ) → eqb (r a) (r b) ≡ eqb a b
-eqb_match r inj a b =
+eqb_match : (r : ℕ → ℕ) (D : ℕ → Type 0) → ((a b : ℕ) → D a → D b → r a ≡ r b → a ≡ b) → (a b : ℕ) → D a → D b → eqb (r a) (r b) ≡ eqb a b
+eqb_match r D inj a b da db =
     elim (cases_eq a b) [
       | inl e ↦ eq-eqb (r a) (r b) (ap r e) ∙ sym (eq-eqb a b e)
-      | inr ne ↦ ne_eqb (r a) (r b) (λ e. ne (inj a b e)) ∙ sym (ne_eqb a b ne)
+      | inr ne ↦ ne_eqb (r a) (r b) (λ e. ne (inj a b da db e)) ∙ sym (ne_eqb a b ne)
     ]
 
 any_map : (r : ℕ → ℕ) (p q : ℕ → Bool) (xs : List ℕ) → ((x : ℕ) → has xs x ≡ true → q (r x) ≡ p x) → list_any q (map r xs) ≡ list_any p xs
@@ -111,7 +113,7 @@ all_map r q (x ∷ xs) h =
     and_from (q (r x)) (list_all q (map r xs)) (h x (or_left (eqb x x) (has xs x) (eq-eqb x x refl)))
     (all_map r q xs (λ y there. h y (or_right (eqb x y) (has xs y) there)))
 
-has-map : (r : ℕ → ℕ) (xs : List ℕ) (y : ℕ) → has (map r xs) y ≡ true → (x : ℕ) × (has xs x ≡ true) × (r x ≡ y)
+pub has-map : (r : ℕ → ℕ) (xs : List ℕ) (y : ℕ) → has (map r xs) y ≡ true → (x : ℕ) × (has xs x ≡ true) × (r x ≡ y)
 has-map r [] y h = absurd (false≢true h)
 has-map r (x ∷ xs) y h =
     elim (or_cases (eqb (r x) y) (has (map r xs) y) h) [
@@ -122,30 +124,30 @@ has-map r (x ∷ xs) y h =
 member_parent : (g : Graph) (s : List ℕ) (z p : ℕ) → IsDownset g s → has s z ≡ true → has (parents_of g z) p ≡ true → has s p ≡ true
 member_parent g s z p down h parent = down.closed z p h (parent_in_past g p z (down.all_complete z h) parent)
 
-rounds_match : (k : ℕ) (r : ℕ → ℕ) (g g' : Graph) (s s' : List ℕ) (z : ℕ) → SameOn r g g' s s' → has s z ≡ true → has (rounds k g) z ≡ true → has (rounds k g') (r z) ≡ true
+rounds_match : (k : ℕ) (r : ℕ → ℕ) (D : ℕ → Type 0) (g g' : Graph) (s s' : List ℕ) (z : ℕ) → SameOn r D g g' s s' → has s z ≡ true → has (rounds k g) z ≡ true → has (rounds k g') (r z) ≡ true
 unfolding rounds
-rounds_match zero r g g' s s' z same h in_it = absurd (false≢true in_it)
-rounds_match (suc k) r g g' s s' z same h in_it =
+rounds_match zero r D g g' s s' z same h in_it = absurd (false≢true in_it)
+rounds_match (suc k) r D g g' s s' z same h in_it =
     has-filter_from (λ z. list_all (λ p. has (rounds k g') p) (parents_of g' z)) (keys g') (r z) (same.keys' z h)
     (rw (same.parents z h) (all_map r (has (rounds k g')) (parents_of g z)
-    (λ p parent. rounds_match k r g g' s s' p same (member_parent g s z p same.down h parent) (round_parents g (rounds k g) z p in_it parent))))
+    (λ p parent. rounds_match k r D g g' s s' p same (member_parent g s z p same.down h parent) (round_parents g (rounds k g) z p in_it parent))))
 
-complete_match : (r : ℕ → ℕ) (g g' : Graph) (s s' : List ℕ) (z : ℕ) → SameOn r g g' s s' → has s z ≡ true → has (complete g') (r z) ≡ true
+complete_match : (r : ℕ → ℕ) (D : ℕ → Type 0) (g g' : Graph) (s s' : List ℕ) (z : ℕ) → SameOn r D g g' s s' → has s z ≡ true → has (complete g') (r z) ≡ true
 unfolding complete
-complete_match r g g' s s' z same h =
-    rounds_end (length g.blocks) g' (r z) (rounds_match (length g.blocks) r g g' s s' z same h (same.down.all_complete z h))
+complete_match r D g g' s s' z same h =
+    rounds_end (length g.blocks) g' (r z) (rounds_match (length g.blocks) r D g g' s s' z same h (same.down.all_complete z h))
 
-reach_match : (m : ℕ) (r : ℕ → ℕ) (g g' : Graph) (s s' : List ℕ) (a z : ℕ) → SameOn r g g' s s' → has s z ≡ true → reaches_within m g' a (r z) ≡ true → has s' a ≡ true
+reach_match : (m : ℕ) (r : ℕ → ℕ) (D : ℕ → Type 0) (g g' : Graph) (s s' : List ℕ) (a z : ℕ) → SameOn r D g g' s s' → has s z ≡ true → reaches_within m g' a (r z) ≡ true → has s' a ≡ true
 unfolding reaches_within
-reach_match zero r g g' s s' a z same h reached = absurd (false≢true reached)
-reach_match (suc m) r g g' s s' a z same h reached =
+reach_match zero r D g g' s s' a z same h reached = absurd (false≢true reached)
+reach_match (suc m) r D g g' s s' a z same h reached =
     let found : (p : ℕ) × (has (parents_of g' (r z)) p ≡ true) × ((eqb p a || reaches_within m g' a p) ≡ true) = any_some _ (parents_of g' (r z)) reached in
-    through found.0 (parent_match r g g' s s' z found.0 same h found.1) found.2
-    (λ q member below. reach_match m r g g' s s' a q same member below)
+    through found.0 (parent_match r D g g' s s' z found.0 same h found.1) found.2
+    (λ q member below. reach_match m r D g g' s s' a q same member below)
   where
-    parent_match : (r : ℕ → ℕ) (g g' : Graph) (s s' : List ℕ) (z p : ℕ) → SameOn r g g' s s' → has s z ≡ true → has (parents_of g' (r z)) p ≡ true
+    parent_match : (r : ℕ → ℕ) (D : ℕ → Type 0) (g g' : Graph) (s s' : List ℕ) (z p : ℕ) → SameOn r D g g' s s' → has s z ≡ true → has (parents_of g' (r z)) p ≡ true
         → (q : ℕ) × (has s q ≡ true) × (r q ≡ p)
-    parent_match r g g' s s' z p same h parent =
+    parent_match r D g g' s s' z p same h parent =
         let found : (q : ℕ) × (has (parents_of g z) q ≡ true) × (r q ≡ p) = has-map r (parents_of g z) p (rw (same.parents z h) at parent) in
         (found.0, member_parent g s z found.0 same.down h found.1, found.2)
 
@@ -157,106 +159,107 @@ reach_match (suc m) r g g' s s' a z same h reached =
           | inr below ↦ rest q.0 q.1 (ap (reaches_within m g' a) q.2 ∙ below)
         ]
 
-downset_match : (r : ℕ → ℕ) (g g' : Graph) (s s' : List ℕ) → SameOn r g g' s s' → IsDownset g' s'
+downset_match : (r : ℕ → ℕ) (D : ℕ → Type 0) (g g' : Graph) (s s' : List ℕ) → SameOn r D g g' s s' → IsDownset g' s'
 unfolding in_past
-downset_match r g g' s s' same =
+downset_match r D g g' s s' same =
     record {
       all_complete = λ y h. whole y (same.matched.onto y h);
       closed = λ y a h reached. shut y a (same.matched.onto y h) reached;
     }
   where
     whole : (y : ℕ) → (x : ℕ) × (has s x ≡ true) × (r x ≡ y) → has (complete g') y ≡ true
-    whole y x = ap (has (complete g')) (sym x.2) ∙ complete_match r g g' s s' x.0 same x.1
+    whole y x = ap (has (complete g')) (sym x.2) ∙ complete_match r D g g' s s' x.0 same x.1
 
     shut : (y a : ℕ) → (x : ℕ) × (has s x ≡ true) × (r x ≡ y) → in_past g' a y ≡ true → has s' a ≡ true
-    shut y a x reached = reach_match (length g'.blocks) r g g' s s' a x.0 same x.1 (ap (reaches_within (length g'.blocks) g' a) x.2 ∙ reached)
+    shut y a x reached = reach_match (length g'.blocks) r D g g' s s' a x.0 same x.1 (ap (reaches_within (length g'.blocks) g' a) x.2 ∙ reached)
 
 pair : {a b c d : Bool} → a ≡ c → b ≡ d → (a || b) ≡ (c || d)
 pair e f = cc
 
-pub in_past_match : (r : ℕ → ℕ) (g g' : Graph) (s s' : List ℕ) (a z : ℕ) → SameOn r g g' s s' → has s z ≡ true → in_past g' (r a) (r z) ≡ in_past g a z
+pub in_past_match : (r : ℕ → ℕ) (D : ℕ → Type 0) (g g' : Graph) (s s' : List ℕ) (a z : ℕ) → SameOn r D g g' s s' → D a → has s z ≡ true → in_past g' (r a) (r z) ≡ in_past g a z
 unfolding complete rounds
-in_past_match r g g' s s' a z same h = go (length g.blocks) z h (same.down.all_complete z h)
+in_past_match r D g g' s s' a z same da h = go (length g.blocks) z h (same.down.all_complete z h)
   where
     go : (k z : ℕ) → has s z ≡ true → has (rounds k g) z ≡ true → in_past g' (r a) (r z) ≡ in_past g a z
     go zero z h in_it = absurd (false≢true in_it)
     go (suc k) z h in_it =
-        in_past_step g' (r a) (r z) (complete_match r g g' s s' z same h)
+        in_past_step g' (r a) (r z) (complete_match r D g g' s s' z same h)
         ∙ rw (same.parents z h) (any_map r (λ p. eqb p a || in_past g a p) (λ p. eqb p (r a) || in_past g' (r a) p) (parents_of g z)
-        (λ p parent. pair (eqb_match r same.one_to_one p a) (go k p (member_parent g s z p same.down h parent) (round_parents g (rounds k g) z p in_it parent))))
+        (λ p parent. pair (eqb_match r D same.one_to_one p a (same.inside p (member_parent g s z p same.down h parent)) da) (go k p (member_parent g s z p same.down h parent) (round_parents g (rounds k g) z p in_it parent))))
         ∙ sym (in_past_step g a z (same.down.all_complete z h))
 
-past_match : (r : ℕ → ℕ) (g g' : Graph) (s s' : List ℕ) (z : ℕ) → SameOn r g g' s s' → has s z ≡ true → Matched r (past g z) (past g' (r z))
-past_match r g g' s s' z same h =
+past_match : (r : ℕ → ℕ) (D : ℕ → Type 0) (g g' : Graph) (s s' : List ℕ) (z : ℕ) → SameOn r D g g' s s' → has s z ≡ true → Matched r (past g z) (past g' (r z))
+past_match r D g g' s s' z same h =
     record {
-      into = λ x m. has-past_from g' (r z) (r x) whole' (in_past_match r g g' s s' x z same h ∙ has-past g z x m);
+      into = λ x m. has-past_from g' (r z) (r x) whole' (in_past_match r D g g' s s' x z same (same.inside x (same.down.closed z x h (has-past g z x m))) h ∙ has-past g z x m);
       onto = λ y m. back y (has-past g' (r z) y m) (same.matched.onto y (down'.closed (r z) y (same.matched.into z h) (has-past g' (r z) y m)));
     }
   where
     down' : IsDownset g' s'
-    down' = downset_match r g g' s s' same
+    down' = downset_match r D g g' s s' same
 
     whole' : has (complete g') (r z) ≡ true
-    whole' = complete_match r g g' s s' z same h
+    whole' = complete_match r D g g' s s' z same h
 
     back : (y : ℕ) → in_past g' y (r z) ≡ true → (x : ℕ) × (has s x ≡ true) × (r x ≡ y) → (x : ℕ) × (has (past g z) x ≡ true) × (r x ≡ y)
     back y m x =
-        (x.0, has-past_from g z x.0 (same.down.all_complete z h) (sym (in_past_match r g g' s s' x.0 z same h) ∙ ap (λ (k : ℕ). in_past g' k (r z)) x.2 ∙ m), x.2)
+        (x.0, has-past_from g z x.0 (same.down.all_complete z h) (sym (in_past_match r D g g' s s' x.0 z same (same.inside x.0 x.1) h) ∙ ap (λ (k : ℕ). in_past g' k (r z)) x.2 ∙ m), x.2)
 
-future_match : (r : ℕ → ℕ) (g g' : Graph) (s s' : List ℕ) (z : ℕ) → SameOn r g g' s s' → has s z ≡ true → Matched r (future g s z) (future g' s' (r z))
-future_match r g g' s s' z same h =
+future_match : (r : ℕ → ℕ) (D : ℕ → Type 0) (g g' : Graph) (s s' : List ℕ) (z : ℕ) → SameOn r D g g' s s' → has s z ≡ true → Matched r (future g s z) (future g' s' (r z))
+future_match r D g g' s s' z same h =
     record {
       into = λ x m. forth x (has-filter (λ w. in_past g z w) s x m);
       onto = λ y m. back y (has-filter (λ w. in_past g' (r z) w) s' y m) (same.matched.onto y (has-filter (λ w. in_past g' (r z) w) s' y m).0);
     }
   where
     forth : (x : ℕ) → (has s x ≡ true) × (in_past g z x ≡ true) → has (future g' s' (r z)) (r x) ≡ true
-    forth x m = has-filter_from (λ w. in_past g' (r z) w) s' (r x) (same.matched.into x m.0) (in_past_match r g g' s s' z x same m.0 ∙ m.1)
+    forth x m = has-filter_from (λ w. in_past g' (r z) w) s' (r x) (same.matched.into x m.0) (in_past_match r D g g' s s' z x same (same.inside z h) m.0 ∙ m.1)
 
     back : (y : ℕ) → (has s' y ≡ true) × (in_past g' (r z) y ≡ true) → (x : ℕ) × (has s x ≡ true) × (r x ≡ y) → (x : ℕ) × (has (future g s z) x ≡ true) × (r x ≡ y)
     back y m x =
-        (x.0, has-filter_from (λ w. in_past g z w) s x.0 x.1 (sym (in_past_match r g g' s s' z x.0 same x.1) ∙ ap (in_past g' (r z)) x.2 ∙ m.1), x.2)
+        (x.0, has-filter_from (λ w. in_past g z w) s x.0 x.1 (sym (in_past_match r D g g' s s' z x.0 same (same.inside z h) x.1) ∙ ap (in_past g' (r z)) x.2 ∙ m.1), x.2)
 
-past_same_on : (r : ℕ → ℕ) (g g' : Graph) (s s' : List ℕ) (z : ℕ) → SameOn r g g' s s' → has s z ≡ true → SameOn r g g' (past g z) (past g' (r z))
-past_same_on r g g' s s' z same h =
+past_same_on : (r : ℕ → ℕ) (D : ℕ → Type 0) (g g' : Graph) (s s' : List ℕ) (z : ℕ) → SameOn r D g g' s s' → has s z ≡ true → SameOn r D g g' (past g z) (past g' (r z))
+past_same_on r D g g' s s' z same h =
     record {
       one_to_one = same.one_to_one;
-      matched = past_match r g g' s s' z same h;
+      inside = λ x m. same.inside x (same.down.closed z x h (has-past g z x m));
+      matched = past_match r D g g' s s' z same h;
       down = past_downset g z (same.down.all_complete z h);
       keys' = λ x m. same.keys' x (same.down.closed z x h (has-past g z x m));
       parents = λ x m. same.parents x (same.down.closed z x h (has-past g z x m));
     }
 
-vote_by_match : (a b p q : Bool) (r : ℕ → ℕ) (g g' : Graph) (s s' : List ℕ) (F F' : List ℕ → ℤ) (G G' : ℕ → ℤ) (z x y : ℕ)
+vote_by_match : (a b p q : Bool) (r : ℕ → ℕ) (D : ℕ → Type 0) (g g' : Graph) (s s' : List ℕ) (F F' : List ℕ → ℤ) (G G' : ℕ → ℤ) (z x y : ℕ)
     → (a ≡ true → in_past g' (r y) (r x) ≡ in_past g y x) → (b ≡ true → in_past g' (r x) (r y) ≡ in_past g x y)
     → F' (past g' (r z)) ≡ F (past g z) → total G' (future g' s' (r z)) ≡ total G (future g s z)
     → vote_by (case_by a b p q) g' s' F' G' (r z) (r x) (r y) ≡ vote_by (case_by a b p q) g s F G z x y
-vote_by_match true b p q r g g' s s' F F' G G' z x y yx xy below above = ap (λ (t : Bool). cond t (pos 1) (negsuc 0)) (yx refl)
-vote_by_match false true p q r g g' s s' F F' G G' z x y yx xy below above = ap (λ (t : Bool). cond t (negsuc 0) (pos 1)) (xy refl)
-vote_by_match false false true true r g g' s s' F F' G G' z x y yx xy below above = below
-vote_by_match false false true false r g g' s s' F F' G G' z x y yx xy below above = refl
-vote_by_match false false false true r g g' s s' F F' G G' z x y yx xy below above = refl
-vote_by_match false false false false r g g' s s' F F' G G' z x y yx xy below above = ap sgn above
+vote_by_match true b p q r D g g' s s' F F' G G' z x y yx xy below above = ap (λ (t : Bool). cond t (pos 1) (negsuc 0)) (yx refl)
+vote_by_match false true p q r D g g' s s' F F' G G' z x y yx xy below above = ap (λ (t : Bool). cond t (negsuc 0) (pos 1)) (xy refl)
+vote_by_match false false true true r D g g' s s' F F' G G' z x y yx xy below above = below
+vote_by_match false false true false r D g g' s s' F F' G G' z x y yx xy below above = refl
+vote_by_match false false false true r D g g' s s' F F' G G' z x y yx xy below above = refl
+vote_by_match false false false false r D g g' s s' F F' G G' z x y yx xy below above = ap sgn above
 
-vote_within_match : (m : ℕ) (r : ℕ → ℕ) (g g' : Graph) (s s' : List ℕ) (z x y : ℕ) → SameOn r g g' s s'
-    → AreDistinct (keys g) → AreDistinct (keys g') → AreDistinct s → AreDistinct s' → has s z ≡ true
+vote_within_match : (m : ℕ) (r : ℕ → ℕ) (D : ℕ → Type 0) (g g' : Graph) (s s' : List ℕ) (z x y : ℕ) → SameOn r D g g' s s'
+    → AreDistinct (keys g) → AreDistinct (keys g') → AreDistinct s → AreDistinct s' → D x → D y → has s z ≡ true
     → vote_within m g' s' (r z) (r x) (r y) ≡ vote_within m g s z x y
 unfolding vote_within
-vote_within_match zero r g g' s s' z x y same dg dg' ds ds' h = refl
-vote_within_match (suc m) r g g' s s' z x y same dg dg' ds ds' h =
-    rw (eqb_match r same.one_to_one z x, eqb_match r same.one_to_one z y, in_past_match r g g' s s' x z same h, in_past_match r g g' s s' y z same h)
-    (vote_by_match (eqb z x) (eqb z y) (in_past g x z) (in_past g y z) r g g' s s' _ _ _ _ z x y
-    (λ e. in_past_match r g g' s s' y x same (ap (has s) (sym (eqb-true z x e)) ∙ h))
-    (λ e. in_past_match r g g' s s' x y same (ap (has s) (sym (eqb-true z y e)) ∙ h))
-    (ap sgn (total_matched r _ _ (past g z) (past g' (r z)) same.one_to_one
+vote_within_match zero r D g g' s s' z x y same dg dg' ds ds' dx dy h = refl
+vote_within_match (suc m) r D g g' s s' z x y same dg dg' ds ds' dx dy h =
+    rw (eqb_match r D same.one_to_one z x (same.inside z h) dx, eqb_match r D same.one_to_one z y (same.inside z h) dy, in_past_match r D g g' s s' x z same dx h, in_past_match r D g g' s s' y z same dy h)
+    (vote_by_match (eqb z x) (eqb z y) (in_past g x z) (in_past g y z) r D g g' s s' _ _ _ _ z x y
+    (λ e. in_past_match r D g g' s s' y x same dy (ap (has s) (sym (eqb-true z x e)) ∙ h))
+    (λ e. in_past_match r D g g' s s' x y same dx (ap (has s) (sym (eqb-true z y e)) ∙ h))
+    (ap sgn (total_matched r _ _ (past g z) (past g' (r z)) (λ a b ha hb. same.one_to_one a b (same.inside a (same.down.closed z a h (has-past g z a ha))) (same.inside b (same.down.closed z b h (has-past g z b hb))))
     (distinct_filter (λ a. in_past g a z) (keys g) dg) (distinct_filter (λ a. in_past g' a (r z)) (keys g') dg')
-    (past_match r g g' s s' z same h)
-    (λ w m'. vote_within_match m r g g' (past g z) (past g' (r z)) w x y (past_same_on r g g' s s' z same h) dg dg'
-    (distinct_filter (λ a. in_past g a z) (keys g) dg) (distinct_filter (λ a. in_past g' a (r z)) (keys g') dg') m')))
-    (total_matched r _ _ (future g s z) (future g' s' (r z)) same.one_to_one
+    (past_match r D g g' s s' z same h)
+    (λ w m'. vote_within_match m r D g g' (past g z) (past g' (r z)) w x y (past_same_on r D g g' s s' z same h) dg dg'
+    (distinct_filter (λ a. in_past g a z) (keys g) dg) (distinct_filter (λ a. in_past g' a (r z)) (keys g') dg') dx dy m')))
+    (total_matched r _ _ (future g s z) (future g' s' (r z)) (λ a b ha hb. same.one_to_one a b (same.inside a (has-filter (λ w. in_past g z w) s a ha).0) (same.inside b (has-filter (λ w. in_past g z w) s b hb).0))
     (distinct_filter (λ w. in_past g z w) s ds) (distinct_filter (λ w. in_past g' (r z) w) s' ds')
-    (future_match r g g' s s' z same h)
-    (λ w m'. vote_within_match m r g g' s s' w x y same dg dg' ds ds' (has-filter (λ w. in_past g z w) s w m').0)))
+    (future_match r D g g' s s' z same h)
+    (λ w m'. vote_within_match m r D g g' s s' w x y same dg dg' ds ds' dx dy (has-filter (λ w. in_past g z w) s w m').0)))
 
 -- more steps change no vote
 vote_more : (n : ℕ) (g : Graph) (s : List ℕ) (z x y : ℕ) → IsDownset g s → has s z ≡ true → depth g ≤ n → vote g s z x y ≡ vote_within n g s z x y
@@ -264,27 +267,28 @@ unfolding vote complete rounds
 vote_more n g s z x y down h le =
     steps_enough (depth g) n g s (length g.blocks) 0 z x y down (λ w m. down.all_complete w m) h (λ none. false≢true none) (omega arith) (omega arith) (omega arith)
 
-pub vote_match : (r : ℕ → ℕ) (g g' : Graph) (s s' : List ℕ) (z x y : ℕ) → SameOn r g g' s s'
-    → AreDistinct (keys g) → AreDistinct (keys g') → AreDistinct s → AreDistinct s' → has s z ≡ true
+pub vote_match : (r : ℕ → ℕ) (D : ℕ → Type 0) (g g' : Graph) (s s' : List ℕ) (z x y : ℕ) → SameOn r D g g' s s'
+    → AreDistinct (keys g) → AreDistinct (keys g') → AreDistinct s → AreDistinct s' → D x → D y → has s z ≡ true
     → vote g' s' (r z) (r x) (r y) ≡ vote g s z x y
-vote_match r g g' s s' z x y same dg dg' ds ds' h =
-    vote_more (depth g + depth g') g' s' (r z) (r x) (r y) (downset_match r g g' s s' same) (same.matched.into z h) (omega arith)
-    ∙ vote_within_match (depth g + depth g') r g g' s s' z x y same dg dg' ds ds' h
+vote_match r D g g' s s' z x y same dg dg' ds ds' dx dy h =
+    vote_more (depth g + depth g') g' s' (r z) (r x) (r y) (downset_match r D g g' s s' same) (same.matched.into z h) (omega arith)
+    ∙ vote_within_match (depth g + depth g') r D g g' s s' z x y same dg dg' ds ds' dx dy h
     ∙ sym (vote_more (depth g + depth g') g s z x y same.down h (omega arith))
 
-pub virt_match : (r : ℕ → ℕ) (g g' : Graph) (s s' : List ℕ) (x y : ℕ) → SameOn r g g' s s'
-    → AreDistinct (keys g) → AreDistinct (keys g') → AreDistinct s → AreDistinct s'
+pub virt_match : (r : ℕ → ℕ) (D : ℕ → Type 0) (g g' : Graph) (s s' : List ℕ) (x y : ℕ) → SameOn r D g g' s s'
+    → AreDistinct (keys g) → AreDistinct (keys g') → AreDistinct s → AreDistinct s' → D x → D y
     → virt g' s' (r x) (r y) ≡ virt g s x y
 unfolding virt
-virt_match r g g' s s' x y same dg dg' ds ds' =
-    ap sgn (total_matched r _ _ s s' same.one_to_one ds ds' same.matched (λ z h. vote_match r g g' s s' z x y same dg dg' ds ds' h))
+virt_match r D g g' s s' x y same dg dg' ds ds' dx dy =
+    ap sgn (total_matched r _ _ s s' (λ a b ha hb. same.one_to_one a b (same.inside a ha) (same.inside b hb)) ds ds' same.matched (λ z h. vote_match r D g g' s s' z x y same dg dg' ds ds' dx dy h))
 
 -- ---- graphs that agree on a set
 
-agreeing_same_on : (g g' : Graph) (s : List ℕ) → AgreesOn s g g' → IsDownset g s → SameOn (λ (k : ℕ). k) g g' s s
+agreeing_same_on : (g g' : Graph) (s : List ℕ) → AgreesOn s g g' → IsDownset g s → SameOn (λ (k : ℕ). k) (λ k. Unit {0}) g g' s s
 agreeing_same_on g g' s agrees down =
     record {
-      one_to_one = λ a b e. e;
+      one_to_one = λ a b da db e. e;
+      inside = λ z h. tt;
       matched = record { into = λ x h. h; onto = λ y h. (y, h, refl) };
       down = down;
       keys' = agrees.there;
@@ -292,13 +296,13 @@ agreeing_same_on g g' s agrees down =
     }
 
 pub in_past_restricted : (g g' : Graph) (s : List ℕ) (a z : ℕ) → AgreesOn s g g' → IsDownset g s → has s z ≡ true → in_past g' a z ≡ in_past g a z
-in_past_restricted g g' s a z agrees down h = in_past_match (λ (k : ℕ). k) g g' s s a z (agreeing_same_on g g' s agrees down) h
+in_past_restricted g g' s a z agrees down h = in_past_match (λ (k : ℕ). k) (λ k. Unit {0}) g g' s s a z (agreeing_same_on g g' s agrees down) tt h
 
 pub vote_restricted : (g g' : Graph) (s : List ℕ) (z x y : ℕ) → AgreesOn s g g' → IsDownset g s → AreDistinct s → has s z ≡ true
     → vote g' s z x y ≡ vote g s z x y
 vote_restricted g g' s z x y agrees down ds h =
-    vote_match (λ (k : ℕ). k) g g' s s z x y (agreeing_same_on g g' s agrees down) agrees.distinct agrees.other_distinct ds ds h
+    vote_match (λ (k : ℕ). k) (λ k. Unit {0}) g g' s s z x y (agreeing_same_on g g' s agrees down) agrees.distinct agrees.other_distinct ds ds tt tt h
 
 pub virt_restricted : (g g' : Graph) (s : List ℕ) (x y : ℕ) → AgreesOn s g g' → IsDownset g s → AreDistinct s → virt g' s x y ≡ virt g s x y
 virt_restricted g g' s x y agrees down ds =
-    virt_match (λ (k : ℕ). k) g g' s s x y (agreeing_same_on g g' s agrees down) agrees.distinct agrees.other_distinct ds ds
+    virt_match (λ (k : ℕ). k) (λ k. Unit {0}) g g' s s x y (agreeing_same_on g g' s agrees down) agrees.distinct agrees.other_distinct ds ds tt tt

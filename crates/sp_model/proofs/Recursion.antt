@@ -56,3 +56,36 @@ unfolding vote virt vote_within complete rounds
 vote_is g s z x y down member =
     steps_enough (depth g) (suc (depth g)) g s (length g.blocks) 0 z x y down (λ w h. down.all_complete w h) member
     (λ none. false≢true none) (omega arith) (omega arith) (omega arith)
+
+-- A fact of each member's vote follows from that fact of the members of its past, there, and of its future.
+pub vote_induction : (g : Graph) (P : List ℕ → ℕ → Type 0)
+    → ((s : List ℕ) (z : ℕ) → IsDownset g s → has s z ≡ true
+    → ((w : ℕ) → has (past g z) w ≡ true → P (past g z) w)
+    → ((w : ℕ) → has (future g s z) w ≡ true → P s w) → P s z)
+    → (s : List ℕ) (z : ℕ) → IsDownset g s → has s z ≡ true → P s z
+unfolding rounds complete
+vote_induction g P step s z down member =
+    go (depth g) s (length g.blocks) 0 z down (λ w h. down.all_complete w h) member (λ none. false≢true none) (omega arith) (omega arith)
+  where
+    future_step : (m : ℕ) (s : List ℕ) (j i z w : ℕ) → IsDownset g s → ((w : ℕ) → has s w ≡ true → has (rounds (suc j) g) w ≡ true)
+        → (has (rounds i g) z ≡ true → ⊥) → suc j ≤ length g.blocks → suc j * length g.blocks + (length g.blocks - i) ≤ suc m → i < suc j
+        → (has s w ≡ true) × (in_past g z w ≡ true) → ((has (rounds (suc i) g) w ≡ true → ⊥) → P s w) → P s w
+    future_step m s j i z w down inside above le bound lt both rest = rest (λ low. above (past_lower i g z w low both.1))
+
+    go : (m : ℕ) (s : List ℕ) (j i z : ℕ) → IsDownset g s → ((w : ℕ) → has s w ≡ true → has (rounds j g) w ≡ true)
+        → has s z ≡ true → (has (rounds i g) z ≡ true → ⊥) → j ≤ length g.blocks
+        → j * length g.blocks + (length g.blocks - i) ≤ m → P s z
+    go m s zero i z down inside member above le bound = absurd (false≢true (inside z member))
+    go zero s (suc j) i z down inside member above le bound =
+        absurd (elim (cases_lt i (suc j)) [
+          | inl lt ↦ omega arith
+          | inr ge ↦ above (rounds_le (suc j) i g z ge (inside z member))
+        ])
+    go (suc m) s (suc j) i z down inside member above le bound =
+        let lt : i < suc j = elim (cases_lt i (suc j)) [ inl lt ↦ lt | inr ge ↦ absurd (above (rounds_le (suc j) i g z ge (inside z member))) ] in
+        let whole : has (complete g) z ≡ true = down.all_complete z member in
+        step s z down member
+        (λ w there. go m (past g z) j 0 w (past_downset g z whole) (λ a in_it. past_lower j g a z (inside z member) (has-past g z a in_it))
+        there (λ none. false≢true none) (omega arith) (omega arith))
+        (λ w there. future_step m s j i z w down inside above le bound lt (has-filter (λ w. in_past g z w) s w there)
+        (λ low. go m s (suc j) (suc i) w down inside (has-filter (λ w. in_past g z w) s w there).0 low le (omega arith)))

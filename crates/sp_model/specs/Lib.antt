@@ -2,3 +2,4 @@ pub mod Graph
 pub mod Votes
 pub mod Agreement
 pub mod Examples
+pub mod Renaming

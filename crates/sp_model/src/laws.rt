@@ -1,12 +1,13 @@
 //! Laws of pasts and votes, over the definitions alone. Each is the contract of a function that
 //! does nothing, so that the check proves it.
 
-ghost use Rattle.std.specs.Prelude.{◌≡◌, ◌==◌, ◌||◌, ℕ, List, [], ◌∷◌, IsTrue};
+ghost use Rattle.std.specs.Prelude.{◌≡◌, ◌≢◌, ◌==◌, ◌||◌, ℕ, List, [], ◌∷◌, IsTrue, negsuc, neg_ℤ};
 ghost use Rattle.std.specs.List.{list_any};
 ghost use Rattle.sp_model.specs.declared.word.Word.TheVariants.{Before, After, Tie, Same, Absent};
-ghost use Rattle.sp_model.specs.Graph.{Graph, IsDownset, AreDistinct, has, parents_of, round, complete, reaches_within, in_past, past, bar, future, related, anticone};
+ghost use Rattle.sp_model.specs.Graph.{Graph, IsDownset, AreDistinct, has, keys, parents_of, round, complete, reaches_within, in_past, past, bar, future, related, anticone};
 ghost use Rattle.sp_model.specs.Agreement.{AgreesOn};
-ghost use Rattle.sp_model.specs.Votes.{sgn, total, case_of, vote_by, vote, virt};
+ghost use Rattle.sp_model.specs.Renaming.{AreRenamed, IsRenamed};
+ghost use Rattle.sp_model.specs.Votes.{sgn, total, case_of, vote_by, vote, virt, word};
 ghost use Rattle.sp_model.specs.Examples as example;
 ghost use Rattle.sp_model.specs.Examples.{said};
 
@@ -60,6 +61,55 @@ pub fn restriction()
     ensures virt { (graph other : Graph) (set : List ℕ) (x y : ℕ) →
         AgreesOn set graph other → IsDownset graph set → AreDistinct set →
         virt other set x y ≡ virt graph set x y }
+{}
+
+/// To exchange the two blocks turns each vote of a downset round.
+#[tactic(auto, using(crate::proofs::Exchange::vote_neg, crate::proofs::Exchange::virt_neg))]
+pub fn antisymmetry()
+    ensures vote { (graph : Graph) (set : List ℕ) (z x y : ℕ) →
+        IsDownset graph set → IsTrue (has set z) → x ≢ y →
+        vote graph set z x y ≡ neg_ℤ (vote graph set z y x) }
+    ensures virt { (graph : Graph) (set : List ℕ) (x y : ℕ) → IsDownset graph set → x ≢ y →
+        virt graph set x y ≡ neg_ℤ (virt graph set y x) }
+{}
+
+/// A block of a downset comes after each block of its past.
+#[tactic(auto, using(crate::proofs::Ancestors::virt_ancestor))]
+pub fn ancestors_first()
+    ensures { (graph : Graph) (set : List ℕ) (x y : ℕ) → IsDownset graph set →
+        IsTrue (has set y) → IsTrue (in_past graph x y) → virt graph set x y ≡ negsuc 0 }
+{}
+
+/// Other keys, and any order of the lists, change no past, future, anticone, vote or word. The new keys
+/// are told apart where the old ones are keys of the graph.
+#[tactic(auto, using(crate::proofs::Renamed::in_past_renamed, crate::proofs::Renamed::future_renamed, crate::proofs::Renamed::anticone_renamed, crate::proofs::Renamed::vote_renamed, crate::proofs::Renamed::virt_renamed, crate::proofs::Renamed::word_renamed))]
+pub fn renaming()
+    ensures past { (rename : ℕ → ℕ) (graph other : Graph) (a z : ℕ) → IsRenamed rename graph other →
+        IsTrue (has (keys graph) a) → IsTrue (has (complete graph) z) →
+        in_past other (rename a) (rename z) ≡ in_past graph a z }
+    ensures future { (rename : ℕ → ℕ) (graph other : Graph) (set new : List ℕ) (a z : ℕ) →
+        IsRenamed rename graph other → IsDownset graph set → AreRenamed rename set new →
+        IsTrue (has (keys graph) a) → IsTrue (has (keys graph) z) →
+        has (future other new (rename z)) (rename a) ≡ has (future graph set z) a }
+    ensures anticone { (rename : ℕ → ℕ) (graph other : Graph) (set new : List ℕ) (a z : ℕ) →
+        IsRenamed rename graph other → IsDownset graph set → AreRenamed rename set new →
+        IsTrue (has (keys graph) a) → IsTrue (has set z) →
+        has (anticone other new (rename z)) (rename a) ≡ has (anticone graph set z) a }
+    ensures vote { (rename : ℕ → ℕ) (graph other : Graph) (set new : List ℕ) (z x y : ℕ) →
+        IsRenamed rename graph other → IsDownset graph set → AreRenamed rename set new →
+        AreDistinct set → AreDistinct new →
+        IsTrue (has (keys graph) x) → IsTrue (has (keys graph) y) → IsTrue (has set z) →
+        vote other new (rename z) (rename x) (rename y) ≡ vote graph set z x y }
+    ensures virt { (rename : ℕ → ℕ) (graph other : Graph) (set new : List ℕ) (x y : ℕ) →
+        IsRenamed rename graph other → IsDownset graph set → AreRenamed rename set new →
+        AreDistinct set → AreDistinct new →
+        IsTrue (has (keys graph) x) → IsTrue (has (keys graph) y) →
+        virt other new (rename x) (rename y) ≡ virt graph set x y }
+    ensures word { (rename : ℕ → ℕ) (graph other : Graph) (set new : List ℕ) (x y : ℕ) →
+        IsRenamed rename graph other → IsDownset graph set → AreRenamed rename set new →
+        AreDistinct set → AreDistinct new →
+        IsTrue (has (keys graph) x) → IsTrue (has (keys graph) y) →
+        word other new (rename x) (rename y) ≡ word graph set x y }
 {}
 
 /// The definitions computed on small graphs: pasts, and words that were worked out by hand.
