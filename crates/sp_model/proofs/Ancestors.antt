@@ -4,7 +4,7 @@ use Rattle.std.specs.Prelude.{ℤ, pos, negsuc, ◌≤ℤ◌, ◌<ℤ◌}
 use Rattle.std.proofs.lemmas.Int.{ints}
 use Rattle.std.proofs.lemmas.Bool.{false≢true, ne_eqb, eq-eqb, false_from_ne_true}
 use Rattle.sp_model.specs.Graph.{Graph, has, in_past, past, future, complete, IsDownset}
-use Rattle.sp_model.specs.Votes.{total, sgn, case_by, vote_by, vote, virt}
+use Rattle.sp_model.specs.Votes.{total, case_by, vote_by, vote, virt}
 use Rattle.sp_model.proofs.Recursion.{vote_is, vote_induction}
 use Rattle.sp_model.proofs.Pasts.{has-past_from, past_trans, past_downset, not_in_own_past}
 use Rattle.sp_model.proofs.Signs.{total_low, total_below, sgn_low, sgn_below}

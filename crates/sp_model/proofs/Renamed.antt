@@ -1,12 +1,9 @@
 -- Pasts, futures, anticones, votes and words under other keys.
 use Rattle.std.proofs.Common.{◌≡◌, ℕ, Bool, true, false, not, ◌&&◌, List, [], ◌∷◌, map, refl, sym, ap, ◌∙◌, inl, inr, eqb}
-use Rattle.std.specs.Prelude.{filter}
 use Rattle.std.proofs.lemmas.Bool.{cases_eq, eq-eqb, eqb-true, false≢true, ne_eqb, or_cases, or_left, or_right}
-use Rattle.sp_model.specs.Graph.{Graph, AreDistinct, has, keys, parents_of, complete, in_past, past, future, related, anticone, IsDownset}
+use Rattle.sp_model.specs.Graph.{Graph, AreDistinct, has, keys, complete, in_past, future, related, anticone, IsDownset}
 use Rattle.sp_model.specs.Renaming.{AreRenamed, IsRenamed}
-use Rattle.sp_model.specs.Votes.{vote, virt, word, word_of}
-use Rattle.sp_model.specs.declared.word.Word.{Word}
-use Rattle.sp_model.specs.declared.word.Word.TheVariants.{Absent, Same}
+use Rattle.sp_model.specs.Votes.{vote, virt, word}
 use Rattle.sp_model.proofs.Sets.{has-filter, has-filter_from}
 use Rattle.sp_model.proofs.Pasts.{complete_downset, complete_key}
 use Rattle.sp_model.proofs.Match.{has-map, in_past_match, SameOn, virt_match, vote_match}

@@ -80,8 +80,8 @@ pub fn ancestors_first()
         IsTrue (has set y) → IsTrue (in_past graph x y) → virt graph set x y ≡ negsuc 0 }
 {}
 
-/// Other keys, and any order of the lists, change no past, future, anticone, vote or word. The new keys
-/// are told apart where the old ones are keys of the graph.
+/// Other keys, and any order of the lists, change no past, future, anticone, vote or word. The new
+/// keys are told apart where the old ones are keys of the graph.
 #[tactic(auto, using(crate::proofs::Renamed::in_past_renamed, crate::proofs::Renamed::future_renamed, crate::proofs::Renamed::anticone_renamed, crate::proofs::Renamed::vote_renamed, crate::proofs::Renamed::virt_renamed, crate::proofs::Renamed::word_renamed))]
 pub fn renaming()
     ensures past { (rename : ℕ → ℕ) (graph other : Graph) (a z : ℕ) → IsRenamed rename graph other →

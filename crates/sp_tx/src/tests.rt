@@ -161,8 +161,8 @@ type Spend = ([u8; 32], u8, &'static [u8]);
 
 const SPEND: Spend = (LOW, 0, b"a");
 
-/// Inputs, the amounts of outputs that all have the one lock, and the fields of the transaction that they
-/// make, or the fault.
+/// Inputs, the amounts of outputs that all have the one lock, and the fields of the transaction
+/// that they make, or the fault.
 type Made = (
     &'static [Spend],
     &'static [u64],
