@@ -362,13 +362,16 @@ fn has_id(rt: &impl Abort, block: &Block, row: &Spelled) {
 #[test]
 fn blocks(rt: HostRuntime) -> Result<(), Fail> {
     let alloc = rt.alloc();
+    let mut list = Vec::new(alloc);
     for row in SPELLED {
         let bytes = joined(alloc, row.parts)?;
         let block = read_block(alloc, &bytes, row.genesis)?;
         assert_eq!(rt; block.bytes.as_slice(), bytes.as_slice());
         has_parts(&rt, alloc, &block, row)?;
         has_id(&rt, &block, row);
+        list.push(block)?;
     }
+    assert_eq!(rt; Blocks::of(list).as_slice().len(), SPELLED.len());
     Ok(())
 }
 
