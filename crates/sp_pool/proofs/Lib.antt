@@ -1,0 +1,9 @@
+pub mod Parents
+pub mod Growth
+mod Tables
+mod KeptBlocks
+mod Marking
+mod Looks
+mod Turns
+mod Standings
+mod Adding

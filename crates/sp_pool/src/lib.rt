@@ -1,0 +1,13 @@
+//! The pool of blocks that arrive in any order: which of them are kept, and which are present.
+//!
+//! A kept block is present once all its ancestors are kept and lead to genesis; until then it waits.
+//! present blocks alone, in the order in which the pool tells of them.
+#![tactic(auto)]
+
+mod answers;
+mod entries;
+mod pool;
+mod release;
+
+pub use answers::{Offer, Standing};
+pub use pool::Pool;
