@@ -7,3 +7,4 @@ mod Looks
 mod Turns
 mod Standings
 mod Adding
+mod Runs

@@ -1,5 +1,6 @@
 -- What the pool answers to the blocks that are offered.
 use Rattle.std.specs.Prelude.{◌≡◌, IsTrue, IsFalse, ℕ, List, [], ◌∷◌, ◌++◌}
+use Rattle.std.specs.List.{flat_map}
 use Rattle.sp_block.specs.Block.{ReadBlock}
 use Rattle.sp_model.specs.Graph.{has}
 use Rattle.sp_pool.specs.Kept.{keep, present, Releases, standing_of}
@@ -38,3 +39,7 @@ released_by Known = []
 released_by Full = []
 released_by Waiting = []
 released_by (Present ids) = ids
+
+-- the ids of all present blocks in the order in which they became so
+abbrev pub order_of_presence : ReadBlock → List Offer → List ℕ
+order_of_presence genesis answers = genesis.id ∷ flat_map released_by answers

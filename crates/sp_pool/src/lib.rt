@@ -5,9 +5,11 @@
 #![tactic(auto)]
 
 mod answers;
+mod arrivals;
 mod entries;
 mod pool;
 mod release;
 
 pub use answers::{Offer, Standing};
+pub use arrivals::offer_all;
 pub use pool::Pool;

@@ -5,7 +5,7 @@ ghost use Rattle.std.specs.List.{list_all};
 ghost use Rattle.std.specs.Option.{option_copied};
 ghost use Rattle.sp_block.specs.Block.{IsGenesis, IsOther};
 ghost use Rattle.sp_model.specs.Graph.{has};
-ghost use Rattle.sp_pool.specs.Kept.{keep, present, standing_of};
+ghost use Rattle.sp_pool.specs.Kept.{AreKept, keep, present, standing_of};
 ghost use Rattle.sp_pool.specs.Offers.{IsAnswer, released_by};
 
 use crate::answers::{Offer, Standing};
@@ -43,7 +43,8 @@ impl Pool {
     /// A pool of genesis alone, which is present.
     pub fn new(alloc: Global, genesis: Block) -> Result<Pool, Memory>
         requires { IsGenesis genesis }
-        ensures { IfOk result (λ pool. pool ≡ genesis ∷ []) }
+        ensures kept { IfOk result (λ pool. pool ≡ genesis ∷ []) }
+        ensures present { IfOk result (λ pool. present pool ≡ genesis.id ∷ []) }
     {
         prove!(genesis.parents.as_slice().is_empty());
         let entries = Entries::new(alloc, genesis)?;
@@ -127,7 +128,8 @@ impl Pool {
 
     /// How many blocks are kept, from 1 to 512: genesis and the waiting ones count.
     pub fn kept(&self) -> u16
-        ensures { result ≡ length self.now }
+        ensures count { result ≡ length self.now }
+        ensures blocks { AreKept self.now }
     {
         self.entries.len() as u16
     }

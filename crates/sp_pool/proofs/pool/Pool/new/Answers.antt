@@ -5,6 +5,8 @@ use Rattle.sp_pool.specs.Marks.{Marked}
 use Rattle.sp_pool.specs.Pool.{IsPool}
 use Rattle.sp_pool.proofs.Adding.{pool_alone}
 use Rattle.sp_pool.proofs.KeptBlocks.{no_parents}
+use Rattle.sp_pool.specs.Kept.{present}
+use Rattle.sp_pool.proofs.Runs.{present_alone}
 use Rattle.sp_pool.proofs.pool.Pool.new.Goals as goal
 
 pub prove-unreachable-requires : goal.prove-unreachable-requires
@@ -19,3 +21,8 @@ pub invariant_of-result : goal.invariant_of-result
 invariant_of-result c =
     let block = subst (λ (b : ReadBlock). IsBlock b) c.genesis.view_is c.genesis.invariant in
     subst (λ (m : Marked). IsPool m) (sym c.in_ok-entries.ensures) (pool_alone c.args.genesis block c.requires)
+
+pub returns-clause-present : goal.returns-clause-present
+returns-clause-present c =
+    let block = subst (λ (b : ReadBlock). IsBlock b) c.genesis.view_is c.genesis.invariant in
+    ap (λ (m : Marked). present m.blocks) c.in_ok-entries.ensures ∙ present_alone c.args.genesis (no_parents c.args.genesis block c.requires)
