@@ -13,7 +13,7 @@ use Rattle.sp_pool.specs.Pool.{IsPool}
 use Rattle.sp_pool.specs.declared.answers.Offer.{Offer}
 use Rattle.sp_pool.specs.declared.answers.Offer.TheVariants.{Present, Waiting}
 use Rattle.sp_pool.specs.declared.answers.Standing.TheVariants.{Fresh}
-use Rattle.sp_pool.proofs.Growth.{kept_push, present_kept, present_stays, present_waits, present_joins, released}
+use Rattle.sp_pool.proofs.Growth.{kept_push, present_kept, present_stays, present_waits, present_joins, released, waits_absent}
 use Rattle.sp_pool.proofs.KeptBlocks.{AreKept-one, AreKept-push, no_parents}
 use Rattle.sp_pool.proofs.Standings.{from_fresh}
 use Rattle.sp_pool.proofs.Marking.{AreSeen-more, AreSeen-push}
@@ -64,14 +64,6 @@ pool_alone genesis block kind =
         seen = (refl, tt);
       };
     }
-
--- a block that waits isn't present
-pub waits_absent : (kept : List ReadBlock) (b : ReadBlock) → has (ids_of kept) b.id ≡ false → list_all (has (present kept)) b.parents ≡ false → has (present (kept ++ b ∷ [])) b.id ≡ false
-waits_absent kept b fresh lacks = present_waits kept b fresh lacks b.id ∙ at (has (present kept) b.id) (present_kept kept b.id)
-  where
-    at : (c : Bool) → (c ≡ true → has (ids_of kept) b.id ≡ true) → c ≡ false
-    at true within = absurd (false≢true (sym fresh ∙ within refl))
-    at false within = refl
 
 -- what a block leaves that was added: the pool, the answer and the growth
 pub record Added (kept : List ReadBlock) (b : ReadBlock) (after : Marked) (offer : Offer) : Type 0 where

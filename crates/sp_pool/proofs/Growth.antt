@@ -17,11 +17,11 @@ same_bool true b there back = sym (there refl)
 same_bool false true there back = back refl
 same_bool false false there back = refl
 
-round_from : (kept : List ReadBlock) (set : List ℕ) (z : ℕ) → has (ids_of kept) z ≡ true → list_all (has set) (parents_of (graph_of kept) z) ≡ true → has (round (graph_of kept) set) z ≡ true
+pub round_from : (kept : List ReadBlock) (set : List ℕ) (z : ℕ) → has (ids_of kept) z ≡ true → list_all (has set) (parents_of (graph_of kept) z) ≡ true → has (round (graph_of kept) set) z ≡ true
 round_from kept set z here parents =
     has-filter_from (λ z. list_all (λ p. has set p) (parents_of (graph_of kept) z)) (keys (graph_of kept)) z (ap (λ (ids : List ℕ). has ids z) (keys-graph_of kept) ∙ here) parents
 
-round_parts : (kept : List ReadBlock) (set : List ℕ) (z : ℕ) → has (round (graph_of kept) set) z ≡ true → (has (ids_of kept) z ≡ true) × (list_all (has set) (parents_of (graph_of kept) z) ≡ true)
+pub round_parts : (kept : List ReadBlock) (set : List ℕ) (z : ℕ) → has (round (graph_of kept) set) z ≡ true → (has (ids_of kept) z ≡ true) × (list_all (has set) (parents_of (graph_of kept) z) ≡ true)
 round_parts kept set z h =
     let parts = has-filter (λ z. list_all (λ p. has set p) (parents_of (graph_of kept) z)) (keys (graph_of kept)) z h in
     (sym (ap (λ (ids : List ℕ). has ids z) (keys-graph_of kept)) ∙ parts.0, parts.1)
@@ -101,3 +101,20 @@ released kept set (id ∷ ids) apart sound h z =
           | inr new ↦ (let same : eqb id z ≡ true = elim (or_cases (eqb id z) false new) [ inl e ↦ e | inr nowhere ↦ absurd (false≢true nowhere) ] in
               ap (has (present kept)) (sym (eqb-true id z same) ∙ sym h.0.same) ∙ ready_present kept set h.0.block apart sound h.0.earliest)
         ]
+
+-- a block that waits isn't present
+pub waits_absent : (kept : List ReadBlock) (b : ReadBlock) → has (ids_of kept) b.id ≡ false → list_all (has (present kept)) b.parents ≡ false → has (present (kept ++ b ∷ [])) b.id ≡ false
+waits_absent kept b fresh lacks = present_waits kept b fresh lacks b.id ∙ at (has (present kept) b.id) (present_kept kept b.id)
+  where
+    at : (c : Bool) → (c ≡ true → has (ids_of kept) b.id ≡ true) → c ≡ false
+    at true within = absurd (false≢true (sym fresh ∙ within refl))
+    at false within = refl
+
+-- a new block is present where its parents were
+pub present_by_parents : (kept : List ReadBlock) (b : ReadBlock) → has (ids_of kept) b.id ≡ false
+    → has (present (kept ++ b ∷ [])) b.id ≡ list_all (has (present kept)) b.parents
+present_by_parents kept b fresh = at (list_all (has (present kept)) b.parents) refl
+  where
+    at : (c : Bool) → list_all (has (present kept)) b.parents ≡ c → has (present (kept ++ b ∷ [])) b.id ≡ c
+    at true all = present_joins kept b fresh all
+    at false lacks = waits_absent kept b fresh lacks

@@ -8,3 +8,6 @@ mod Turns
 mod Standings
 mod Adding
 mod Runs
+mod Graphs
+mod Answered
+mod Orders

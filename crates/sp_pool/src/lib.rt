@@ -7,6 +7,7 @@
 mod answers;
 mod arrivals;
 mod entries;
+pub mod laws;
 mod pool;
 mod release;
 
