@@ -1,0 +1,8 @@
+-- What a pool keeps.
+use Rattle.sp_pool.specs.Kept.{AreKept, present}
+use Rattle.sp_pool.specs.Marks.{Marked, Marks}
+
+-- its blocks, of which the present ones are marked
+pub record IsPool (entries : Marked) : Type 0 where
+  pub kept : AreKept entries.blocks
+  pub marks : Marks entries (present entries.blocks)

@@ -1,0 +1,40 @@
+//! Laws of kept and present blocks, over the definitions alone. Each is the contract of a function
+//! that does nothing, so that the check proves it.
+
+ghost use Rattle.std.specs.Prelude.{◌≡◌, ◌≤◌, ◌++◌, ◌∷◌, [], ℕ, IsFalse, length, List};
+ghost use Rattle.std.specs.List.{list_all};
+ghost use Rattle.std.specs.List.Sorted.{IsPermutation};
+ghost use Rattle.sp_block.specs.Block.{ReadBlock};
+ghost use Rattle.sp_model.specs.Graph.{has, IsGraph};
+ghost use Rattle.sp_pool.specs.Kept.{AreApart, AreKept, graph_of, ids_of, kept_of, present};
+ghost use Rattle.sp_pool.specs.Offers.{IsAnswer};
+ghost use Rattle.sp_pool.specs.declared.answers.Offer.{Offer};
+
+/// The kept blocks are a graph: no id repeats, and genesis is the one block without parents.
+pub fn kept_blocks_are_a_graph()
+    ensures { (kept : List ReadBlock) (h : AreKept kept) → IsGraph (graph_of kept) h.genesis.id }
+{}
+
+/// A new block is present exactly where all its parents were present before it.
+#[tactic(auto, using(crate::proofs::Growth::present_by_parents))]
+pub fn present_by_parents()
+    ensures { (kept : List ReadBlock) (block : ReadBlock) → IsFalse (has (ids_of kept) block.id) →
+        has (present (kept ++ block ∷ [])) block.id ≡ list_all (has (present kept)) block.parents }
+{}
+
+/// There is one answer to a block.
+#[tactic(auto, using(crate::proofs::Answered::one_answer))]
+pub fn one_answer()
+    ensures { (kept : List ReadBlock) (block : ReadBlock) (a b : Offer) →
+        IsAnswer kept block a → IsAnswer kept block b → a ≡ b }
+{}
+
+/// In whatever order blocks of different id arrive, the same of them are present, where there is
+/// room for them all.
+#[tactic(auto, using(crate::proofs::Orders::in_any_order))]
+pub fn in_any_order()
+    ensures { (genesis : ReadBlock) (arrivals others : List ReadBlock) →
+        AreApart (genesis ∷ arrivals) → AreApart (genesis ∷ others) → length arrivals ≤ 511 →
+        IsPermutation arrivals others →
+        (id : ℕ) → has (present (kept_of genesis arrivals)) id ≡ has (present (kept_of genesis others)) id }
+{}

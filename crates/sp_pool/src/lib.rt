@@ -1,0 +1,18 @@
+//! The pool of blocks that arrive in any order: which of them are kept, and which are present.
+//!
+//! A kept block is present once all its ancestors are kept and lead to genesis; until then it waits.
+//! present blocks alone, in the order in which the pool tells of them.
+#![tactic(auto)]
+
+mod answers;
+mod arrivals;
+mod entries;
+pub mod laws;
+mod pool;
+mod release;
+#[cfg(test)]
+mod tests;
+
+pub use answers::{Offer, Standing};
+pub use arrivals::offer_all;
+pub use pool::Pool;

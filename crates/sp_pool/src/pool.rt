@@ -1,0 +1,143 @@
+//! The pool: the kept blocks by their list in order of arrival, which is all that contracts see.
+
+ghost use Rattle.std.specs.Prelude.{◌≡◌, ◌==◌, ◌||◌, ◌∷◌, [], ℕ, count_by, find, IfOk, length, not, OnErr, OnOk};
+ghost use Rattle.std.specs.List.{list_all};
+ghost use Rattle.std.specs.Option.{option_copied};
+ghost use Rattle.sp_block.specs.Block.{IsGenesis, IsOther};
+ghost use Rattle.sp_model.specs.Graph.{has};
+ghost use Rattle.sp_pool.specs.Kept.{AreKept, keep, present, standing_of};
+ghost use Rattle.sp_pool.specs.Offers.{IsAnswer, released_by};
+
+use crate::answers::{Offer, Standing};
+use crate::entries::Entries;
+use crate::release::{is_marked, marked_front, release};
+use sp_block::Block;
+use sp_ids::{BlockId, Memory};
+use std::alloc::Global;
+use std::marker::Model;
+
+/// The most blocks that are kept, genesis and waiting ones included.
+const MOST_KEPT: usize = 512;
+
+/// The kept blocks, and which of them are present. Contracts see the kept blocks in their order.
+#[derive(Drop)]
+pub struct Pool {
+    alloc: Global,
+    entries: Entries,
+}
+
+impl Model for Pool {
+    ghost use Rattle.std.specs.Prelude.{List};
+    ghost use Rattle.sp_block.specs.Block.{ReadBlock};
+
+    ghost Value = { List ReadBlock };
+
+    ghost use Rattle.sp_pool.specs.Pool.{IsPool};
+
+    ghost view = { λ p. p.entries.blocks };
+
+    ghost invariant = { λ p. IsPool p.entries };
+}
+
+impl Pool {
+    /// A pool of genesis alone, which is present.
+    pub fn new(alloc: Global, genesis: Block) -> Result<Pool, Memory>
+        requires { IsGenesis genesis }
+        ensures kept { IfOk result (λ pool. pool ≡ genesis ∷ []) }
+        ensures present { IfOk result (λ pool. present pool ≡ genesis.id ∷ []) }
+    {
+        prove!(genesis.parents.as_slice().is_empty());
+        let entries = Entries::new(alloc, genesis)?;
+        Ok(Pool { alloc, entries })
+    }
+
+    /// Whether a block with this id is kept, and where not, whether there is room for one. It takes
+    /// one look-up.
+    pub fn standing(&self, id: &BlockId) -> Standing
+        ensures { result ≡ standing_of self.now id.now }
+    {
+        if self.entries.place_of(id).is_some() {
+            Standing::Known
+        } else if self.entries.len() < MOST_KEPT {
+            Standing::Fresh
+        } else {
+            Standing::Full
+        }
+    }
+
+    /// Keeps the block where its id is fresh, and answers what became of it. After `Memory` the
+    /// pool is as before.
+    pub fn offer(&mut self, block: Block) -> Result<Offer, Memory>
+        requires { IsOther block }
+        ensures kept { OnOk result (self.new ≡ keep self.old block) }
+        ensures answer { IfOk result (IsAnswer self.old block) }
+        ensures grown { IfOk result (λ offer. (id : ℕ) →
+            has (present self.new) id ≡ (has (present self.old) id || has (released_by offer) id)) }
+        ensures memory { OnErr result (self.new ≡ self.old) }
+    {
+        match self.standing(&block.id) {
+            Standing::Known => Ok(Offer::Known),
+            Standing::Full => Ok(Offer::Full),
+            Standing::Fresh => self.add(block),
+        }
+    }
+
+    // Whether all these ids are of present blocks.
+    fn has_all(&self, ids: &[BlockId]) -> bool
+        ensures { result ≡ list_all (has (present self.now)) ids.now }
+    {
+        ids.len() <= marked_front(&self.entries, ids, 0)
+    }
+
+    // Keeps a block whose id is fresh.
+    fn add(&mut self, block: Block) -> Result<Offer, Memory>
+        requires fresh { standing_of self.old block.id ≡ Standing.Fresh }
+        requires other { IsOther block }
+        ensures kept { OnOk result (self.new ≡ keep self.old block) }
+        ensures answer { IfOk result (IsAnswer self.old block) }
+        ensures grown { IfOk result (λ offer. (id : ℕ) →
+            has (present self.new) id ≡ (has (present self.old) id || has (released_by offer) id)) }
+        ensures memory { OnErr result (self.new ≡ self.old) }
+    {
+        if self.has_all(block.parents.as_slice()) {
+            let ids = Vec::with_capacity(self.alloc, self.entries.unmarked() + 1)?;
+            self.entries.push(block)?;
+            Ok(Offer::Present(release(&mut self.entries, ids)))
+        } else {
+            self.entries.push(block)?;
+            Ok(Offer::Waiting)
+        }
+    }
+
+    /// The kept block with this id, or `None` where there is none. It takes one look-up.
+    pub fn block(&self, id: &BlockId) -> Option<&Block>
+        ensures { option_copied result ≡ find (λ block. block.id == id.now) self.now }
+    {
+        match self.entries.place_of(id) {
+            Some(place) => Some(self.entries.block_at(place)),
+            None => None,
+        }
+    }
+
+    /// Whether a block with this id is kept and present. It takes one look-up.
+    pub fn is_present(&self, id: &BlockId) -> bool
+        ensures { result ≡ has (present self.now) id.now }
+    {
+        is_marked(&self.entries, id)
+    }
+
+    /// How many blocks are kept, from 1 to 512: genesis and the waiting ones count.
+    pub fn kept(&self) -> u16
+        ensures count { result ≡ length self.now }
+        ensures blocks { AreKept self.now }
+    {
+        self.entries.len() as u16
+    }
+
+    /// How many kept blocks aren't present. The time is that of one pass over the kept blocks.
+    pub fn waiting(&self) -> u16
+        ensures { result ≡ count_by (λ block. not (has (present self.now) block.id)) self.now }
+    {
+        self.entries.unmarked() as u16
+    }
+}
