@@ -1,6 +1,6 @@
 -- A whole feed, call by call.
 use Rattle.std.proofs.Common.{◌≡◌, ℕ, ◌+◌, ◌-◌, ◌<◌, ◌≤◌, List, [], ◌∷◌, ◌++◌, length, take, Option, Some, None, Result, Ok, Err, refl, ap, sym, ◌∙◌, arith, append_assoc, subst, IsTrue, true, false}
-use Rattle.std.specs.Io.KnownBytes.{Consumes}
+use Rattle.std.specs.Io.KnownBytes.{Consumes, IsAtEnd}
 use Rattle.sp_feed.specs.declared.fault.FeedFault.{FeedFault}
 use Rattle.sp_feed.specs.declared.fault.FeedFault.TheVariants as faults
 use Rattle.sp_feed.specs.declared.fault.HeadFault.{HeadFault}
@@ -10,7 +10,10 @@ use Rattle.sp_feed.specs.Feed.{after_frame, feed, Feed, Malformed, no_more, one_
 use Rattle.sp_feed.specs.Format.{Head}
 use Rattle.sp_feed.specs.Reads.{Moment, moment, Took}
 use Rattle.sp_feed.specs.Reader.{Stage, AtStart, AtFrames, Behind, Dead, is_open, is_behind}
-use Rattle.sp_feed.specs.Calls.{SaysFault, SaysHead, GivesHead, SaysNext, GivesNext, SaysAll, GivesAll}
+use Rattle.sp_feed.specs.Calls.{SaysFault, SaysHead, GivesHead, SaysNext, GivesNext, SaysAll, GivesAll, IsFeed, ReadsFeed}
+use Rattle.sp_feed.specs.Told.{told}
+use Rattle.sp_feed.specs.declared.message.Message.{Message}
+use Rattle.sp_feed.specs.declared.message.Message.TheVariants as variants
 use Rattle.std.proofs.lemmas.List.{append-nil}
 use Rattle.sp_feed.proofs.Joining.{took_then}
 
@@ -142,3 +145,32 @@ behind_open AtStart h = absurd (cc h)
 behind_open AtFrames h = absurd (cc h)
 behind_open (Behind frame) h = refl
 behind_open Dead h = absurd (cc h)
+
+-- a message that isn't the end says something
+pub tells : (m : Message) → (m ≡ variants.End → ⊥) → (s : Said) × (told m ≡ Some s)
+tells (variants.Block bytes) h = (_, refl)
+tells (variants.Vote x y) h = (_, refl)
+tells variants.End h = absurd (h refl)
+
+-- ---- a source that tells its bytes
+
+feed_says : {X : Type 0} (limit : ℕ) (start now : Moment) (view : X → Head) (messages : List Said) (list given rest : List ℕ) (r : Result X HeadFault) → list ≡ given ++ rest → now.left ≡ Some rest → SaysAll limit start now view messages given r → IsFeed (feed limit list) now.left view messages r
+feed_says limit start now view messages list given rest (Ok x) e l s = (rest, l, ap (feed limit) e ∙ s rest)
+feed_says limit start now view messages list given rest (Err (heads.Feed (faults.Malformed at))) e l s = let w = ap (feed limit) e ∙ s.1 rest in (ap (λ f. f.messages) w, ap (λ f. f.end) w)
+feed_says limit start now view messages list given rest (Err (heads.Feed (faults.TooLong taken))) e l s = let w = ap (feed limit) e ∙ s.1 rest in (ap (λ f. f.messages) w, ap (λ f. f.end) w)
+feed_says limit start now view messages list given rest (Err (heads.Feed (faults.Truncated at))) e l s =
+    let none : rest ≡ [] = subst IsAtEnd l s.1.1 in
+    let w = ap (feed limit) (e ∙ ap (λ t. given ++ t) none ∙ append-nil given) ∙ s.1.0 in (ap (λ f. f.messages) w, ap (λ f. f.end) w)
+feed_says limit start now view messages list given rest (Err (heads.Feed faults.ReadFault)) e l s = tt
+feed_says limit start now view messages list given rest (Err heads.Memory) e l s = tt
+
+-- what is left of known bytes, and what was taken
+left_of : (old new : Option (List ℕ)) (given list : List ℕ) → old ≡ Some list → Consumes old new given → (rest : List ℕ) × (new ≡ Some rest) × (list ≡ given ++ rest)
+left_of None new given list e h = absurd cc
+left_of (Some bytes) None given list e h = absurd h
+left_of (Some bytes) (Some rest) given list e h = let same : bytes ≡ list = cc e in (rest, refl, sym same ∙ h)
+
+pub whole_feed : {X : Type 0} {limit : ℕ} {start now : Moment} {view : X → Head} {before after : List Said} {r : Result X HeadFault} (list : List ℕ) → start.left ≡ Some list → GivesAll limit start now view before after r → ReadsFeed (feed limit list) now.left view before after r
+whole_feed {limit = limit} {start = start} {now = now} {view = view} {r = r} list told g =
+    let left = left_of start.left now.left g.given list told g.took.consumed in
+    (g.messages, g.seen, feed_says limit start now view g.messages list g.given left.0 r left.2 left.1 g.says)

@@ -56,3 +56,16 @@ pub record GivesAll {X : Type 0} (limit : ℕ) (old new : Moment) (view : X → 
   pub messages : List Said
   pub seen : after ≡ before ++ messages
   pub says : SaysAll limit old new view messages given result
+
+-- The result, the messages and what is left are those of the feed. Only the messages before a failed read
+-- and before want of memory are left to the record above.
+abbrev pub IsFeed : {X : Type 0} → Feed → Option (List ℕ) → (X → Head) → List Said → Result X HeadFault → Type 0
+IsFeed whole left view messages (Ok x) = (rest : List ℕ) × (left ≡ Some rest) × (whole ≡ record { head = Some (view x); messages = messages; end = Whole rest })
+IsFeed whole left view messages (Err (heads.Feed (faults.Malformed at))) = (whole.messages ≡ messages) × (whole.end ≡ Malformed at)
+IsFeed whole left view messages (Err (heads.Feed (faults.Truncated at))) = (whole.messages ≡ messages) × (whole.end ≡ Truncated at)
+IsFeed whole left view messages (Err (heads.Feed (faults.TooLong taken))) = (whole.messages ≡ messages) × (whole.end ≡ TooLong taken)
+IsFeed whole left view messages (Err (heads.Feed faults.ReadFault)) = Unit {0}
+IsFeed whole left view messages (Err heads.Memory) = Unit {0}
+
+abbrev pub ReadsFeed : {X : Type 0} → Feed → Option (List ℕ) → (X → Head) → List Said → List Said → Result X HeadFault → Type 0
+ReadsFeed whole left view before after result = (messages : List Said) × (after ≡ before ++ messages) × IsFeed whole left view messages result
