@@ -23,3 +23,6 @@ pub use head::FeedHead;
 pub use message::Message;
 pub use reader::FeedReader;
 pub use run::{Visitor, read_all};
+
+#[cfg(test)]
+mod tests;
