@@ -286,7 +286,7 @@ fn visits(rt: HostRuntime) -> Result<(), Fail> {
     assert!(rt; matches!(refused, Err(HeadFault::Memory)));
 
     let mut bytes = Vec::from_slice(rt.alloc(), &HEAD)?;
-    bytes.extend_from_slice(&whole[41..])?;
+    bytes.extend_from_slice(whole.get(41..).ok_or("short")?)?;
     let mut source = ReadySource::new(bytes);
     let head = read_all(rt.alloc(), u32::MAX, &mut source, &mut votes)
         .ok()

@@ -3,4 +3,4 @@ use Rattle.sp_feed.specs.Reader.{is_open}
 use Rattle.sp_feed.proofs.tests.listen.Given as goal
 
 abbrev pub invariant-messages : goal.invariant-messages
-invariant-messages l = IsTrue (is_open l.reader.stage)
+invariant-messages g l = IsTrue (is_open l.reader.stage)
