@@ -10,7 +10,7 @@ use Rattle.sp_feed.specs.Feed.{after_frame, feed, Feed, Malformed, no_more, one_
 use Rattle.sp_feed.specs.Format.{Head}
 use Rattle.sp_feed.specs.Reads.{Moment, moment, Took}
 use Rattle.sp_feed.specs.Reader.{Stage, AtStart, AtFrames, Behind, Dead, is_open, is_behind}
-use Rattle.sp_feed.specs.Calls.{SaysFault, SaysHead, GivesHead, SaysNext, GivesNext, SaysAll, GivesAll, IsFeed, ReadsFeed}
+use Rattle.sp_feed.specs.Calls.{SaysFault, SaysHead, GivesHead, SaysNext, GivesNext, SaysAll, GivesAll, BeginsWith, IsFeed, ReadsFeed}
 use Rattle.sp_feed.specs.Told.{told}
 use Rattle.sp_feed.specs.declared.message.Message.{Message}
 use Rattle.sp_feed.specs.declared.message.Message.TheVariants as variants
@@ -51,6 +51,11 @@ so_far_more {limit = limit} {start = start} {mid = mid} {now = now} {view = view
       ∙ ap (λ t. record { head = Some h; messages = t; end = (rest_of limit now.taken more).end }) (sym (append_assoc f.messages (m ∷ []) (rest_of limit now.taken more).messages));
 }
 
+-- whatever follows, the messages so far come first
+begins_more : (limit now : ℕ) (h : Head) (messages : List Said) (xs ys more : List ℕ) → ((more : List ℕ) → feed limit (xs ++ more) ≡ onto h messages (rest_of limit now more)) → BeginsWith (feed limit ((xs ++ ys) ++ more)).messages messages
+begins_more limit now h messages xs ys more f =
+    ((rest_of limit now (ys ++ more)).messages, ap (λ (r : Feed). r.messages) (ap (feed limit) (append_assoc xs ys more) ∙ f (ys ++ more)))
+
 -- the end
 pub all_end : {X Y : Type 0} {limit : ℕ} {start mid now : Moment} {view : X → Option Said} {x : X} {h : Head} {before after : List Said} (of : Y → Head) (y : Y) → SoFar limit start mid h before after → GivesNext limit mid now view (Ok x) → view x ≡ None → h ≡ of y → GivesAll limit start now of before after (Ok y)
 all_end {limit = limit} {start = start} {mid = mid} {now = now} {h = h} of y f g e k = record {
@@ -58,6 +63,7 @@ all_end {limit = limit} {start = start} {mid = mid} {now = now} {h = h} of y f g
   took = took_then limit start mid now f.given g.given f.took g.took;
   messages = f.messages;
   seen = f.seen;
+  begins = λ more. begins_more limit mid.taken h f.messages f.given g.given more f.says;
   says = λ more.
       ap (feed limit) (append_assoc f.given g.given more) ∙ f.says (g.given ++ more)
       ∙ ap (onto h f.messages) (g.says more ∙ ap (λ t. after_frame limit now.taken t more) e)
@@ -77,13 +83,14 @@ all_fault {limit = limit} {start = start} {mid = mid} {now = now} {h = h} {e = e
   took = took_then limit start mid now f.given g.given f.took g.took;
   messages = f.messages;
   seen = f.seen;
+  begins = λ more. begins_more limit mid.taken h f.messages f.given g.given more f.says;
   says = (Some h, fault_onto limit start mid now h f.messages f.given g.given e f.took.later f.says g.says);
 }
 
 -- a fault of the head is one of the whole
 all_says : {X Y : Type 0} (limit : ℕ) (start now : Moment) (view : X → Head) (of : Y → Head) (given : List ℕ) (e : HeadFault) → SaysHead limit start now view given (Err e) → SaysAll limit start now of [] given (Err e)
 all_says limit start now view of given (heads.Feed e) s = (None, s)
-all_says limit start now view of given heads.Memory s = λ more. ((feed limit (given ++ more)).messages, refl)
+all_says limit start now view of given heads.Memory s = tt
 
 pub all_head : {X Y : Type 0} {limit : ℕ} {start now : Moment} {view : X → Head} {e : HeadFault} (of : Y → Head) (before : List Said) → GivesHead limit start now view (Err e) → GivesAll limit start now of before before (Err e)
 all_head {limit = limit} {start = start} {now = now} {view = view} {e = e} of before g = record {
@@ -91,6 +98,7 @@ all_head {limit = limit} {start = start} {now = now} {view = view} {e = e} of be
   took = g.took;
   messages = [];
   seen = sym (append-nil before);
+  begins = λ more. ((feed limit (g.given ++ more)).messages, refl);
   says = all_says limit start now view of g.given e g.says;
 }
 
@@ -101,11 +109,8 @@ all_refused {limit = limit} {start = start} {mid = mid} {now = now} {h = h} of m
   took = took_then limit start mid now f.given g.given f.took g.took;
   messages = f.messages;
   seen = s ∙ f.seen;
-  says = λ more. (
-    m ∷ (rest_of limit now.taken more).messages,
-    ap (λ r. r.messages) (ap (feed limit) (append_assoc f.given g.given more) ∙ f.says (g.given ++ more)
-        ∙ ap (onto h f.messages) (g.says more ∙ ap (λ t. after_frame limit now.taken t more) e)),
-  );
+  begins = λ more. begins_more limit mid.taken h f.messages f.given g.given more f.says;
+  says = tt;
 }
 
 consumes_nothing : (a : Option (List ℕ)) → Consumes a a []
@@ -119,7 +124,8 @@ all_memory limit start of before h = record {
   took = record { consumed = consumes_nothing start.left; counted = omega arith; within = h; later = omega arith };
   messages = [];
   seen = sym (append-nil before);
-  says = λ more. ((feed limit more).messages, refl);
+  begins = λ more. ((feed limit more).messages, refl);
+  says = tt;
 }
 
 -- A reader's numbers by what they are known to be.
@@ -154,15 +160,15 @@ tells variants.End h = absurd (h refl)
 
 -- ---- a source that tells its bytes
 
-feed_says : {X : Type 0} (limit : ℕ) (start now : Moment) (view : X → Head) (messages : List Said) (list given rest : List ℕ) (r : Result X HeadFault) → list ≡ given ++ rest → now.left ≡ Some rest → SaysAll limit start now view messages given r → IsFeed (feed limit list) now.left view messages r
-feed_says limit start now view messages list given rest (Ok x) e l s = (rest, l, ap (feed limit) e ∙ s rest)
-feed_says limit start now view messages list given rest (Err (heads.Feed (faults.Malformed at))) e l s = let w = ap (feed limit) e ∙ s.1 rest in (ap (λ f. f.messages) w, ap (λ f. f.end) w)
-feed_says limit start now view messages list given rest (Err (heads.Feed (faults.TooLong taken))) e l s = let w = ap (feed limit) e ∙ s.1 rest in (ap (λ f. f.messages) w, ap (λ f. f.end) w)
-feed_says limit start now view messages list given rest (Err (heads.Feed (faults.Truncated at))) e l s =
+feed_says : {X : Type 0} (limit : ℕ) (start now : Moment) (view : X → Head) (messages : List Said) (list given rest : List ℕ) (r : Result X HeadFault) → list ≡ given ++ rest → now.left ≡ Some rest → BeginsWith (feed limit (given ++ rest)).messages messages → SaysAll limit start now view messages given r → IsFeed (feed limit list) now.left view messages r
+feed_says limit start now view messages list given rest (Ok x) e l b s = (rest, l, ap (feed limit) e ∙ s rest)
+feed_says limit start now view messages list given rest (Err (heads.Feed (faults.Malformed at))) e l b s = let w = ap (feed limit) e ∙ s.1 rest in (ap (λ f. f.messages) w, ap (λ f. f.end) w)
+feed_says limit start now view messages list given rest (Err (heads.Feed (faults.TooLong taken))) e l b s = let w = ap (feed limit) e ∙ s.1 rest in (ap (λ f. f.messages) w, ap (λ f. f.end) w)
+feed_says limit start now view messages list given rest (Err (heads.Feed (faults.Truncated at))) e l b s =
     let none : rest ≡ [] = subst IsAtEnd l s.1.1 in
     let w = ap (feed limit) (e ∙ ap (λ t. given ++ t) none ∙ append-nil given) ∙ s.1.0 in (ap (λ f. f.messages) w, ap (λ f. f.end) w)
-feed_says limit start now view messages list given rest (Err (heads.Feed faults.ReadFault)) e l s = tt
-feed_says limit start now view messages list given rest (Err heads.Memory) e l s = tt
+feed_says limit start now view messages list given rest (Err (heads.Feed faults.ReadFault)) e l b s = (b.0, ap (λ bytes. (feed limit bytes).messages) e ∙ b.1)
+feed_says limit start now view messages list given rest (Err heads.Memory) e l b s = (b.0, ap (λ bytes. (feed limit bytes).messages) e ∙ b.1)
 
 -- what is left of known bytes, and what was taken
 left_of : (old new : Option (List ℕ)) (given list : List ℕ) → old ≡ Some list → Consumes old new given → (rest : List ℕ) × (new ≡ Some rest) × (list ≡ given ++ rest)
@@ -173,4 +179,4 @@ left_of (Some bytes) (Some rest) given list e h = let same : bytes ≡ list = cc
 pub whole_feed : {X : Type 0} {limit : ℕ} {start now : Moment} {view : X → Head} {before after : List Said} {r : Result X HeadFault} (list : List ℕ) → start.left ≡ Some list → GivesAll limit start now view before after r → ReadsFeed (feed limit list) now.left view before after r
 whole_feed {limit = limit} {start = start} {now = now} {view = view} {r = r} list told g =
     let left = left_of start.left now.left g.given list told g.took.consumed in
-    (g.messages, g.seen, feed_says limit start now view g.messages list g.given left.0 r left.2 left.1 g.says)
+    (g.messages, g.seen, feed_says limit start now view g.messages list g.given left.0 r left.2 left.1 (g.begins left.0) g.says)

@@ -48,24 +48,29 @@ pub record GivesNext {X : Type 0} (limit : ℕ) (old new : Moment) (view : X →
 abbrev pub SaysAll : {X : Type 0} → ℕ → Moment → Moment → (X → Head) → List Said → List ℕ → Result X HeadFault → Type 0
 SaysAll limit old new view messages given (Ok x) = (more : List ℕ) → feed limit (given ++ more) ≡ record { head = Some (view x); messages = messages; end = Whole more }
 SaysAll limit old new view messages given (Err (heads.Feed e)) = (head : Option Head) × SaysFault (feed limit) (λ end. record { head = head; messages = messages; end = end }) old new given e
-SaysAll limit old new view messages given (Err heads.Memory) = (more : List ℕ) → (others : List Said) × ((feed limit (given ++ more)).messages ≡ messages ++ others)
+SaysAll limit old new view messages given (Err heads.Memory) = Unit {0}
+
+-- these messages come first
+abbrev pub BeginsWith : List Said → List Said → Type 0
+BeginsWith all messages = (others : List Said) × (all ≡ messages ++ others)
 
 pub record GivesAll {X : Type 0} (limit : ℕ) (old new : Moment) (view : X → Head) (before after : List Said) (result : Result X HeadFault) : Type 0 where
   pub given : List ℕ
   pub took : Took limit old new given
   pub messages : List Said
   pub seen : after ≡ before ++ messages
+  pub begins : (more : List ℕ) → BeginsWith (feed limit (given ++ more)).messages messages
   pub says : SaysAll limit old new view messages given result
 
--- The result, the messages and what is left are those of the feed. Only the messages before a failed read
--- and before want of memory are left to the record above.
+-- The result, the messages and what is left unread are those of the feed; the messages are its first ones
+-- where a read failed or memory was wanted.
 abbrev pub IsFeed : {X : Type 0} → Feed → Option (List ℕ) → (X → Head) → List Said → Result X HeadFault → Type 0
 IsFeed whole left view messages (Ok x) = (rest : List ℕ) × (left ≡ Some rest) × (whole ≡ record { head = Some (view x); messages = messages; end = Whole rest })
 IsFeed whole left view messages (Err (heads.Feed (faults.Malformed at))) = (whole.messages ≡ messages) × (whole.end ≡ Malformed at)
 IsFeed whole left view messages (Err (heads.Feed (faults.Truncated at))) = (whole.messages ≡ messages) × (whole.end ≡ Truncated at)
 IsFeed whole left view messages (Err (heads.Feed (faults.TooLong taken))) = (whole.messages ≡ messages) × (whole.end ≡ TooLong taken)
-IsFeed whole left view messages (Err (heads.Feed faults.ReadFault)) = Unit {0}
-IsFeed whole left view messages (Err heads.Memory) = Unit {0}
+IsFeed whole left view messages (Err (heads.Feed faults.ReadFault)) = BeginsWith whole.messages messages
+IsFeed whole left view messages (Err heads.Memory) = BeginsWith whole.messages messages
 
 abbrev pub ReadsFeed : {X : Type 0} → Feed → Option (List ℕ) → (X → Head) → List Said → List Said → Result X HeadFault → Type 0
 ReadsFeed whole left view before after result = (messages : List Said) × (after ≡ before ++ messages) × IsFeed whole left view messages result
