@@ -6,3 +6,4 @@ pub mod Breaks
 pub mod Told
 pub mod Simple
 pub mod Texts
+pub mod Places

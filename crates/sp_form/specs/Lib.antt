@@ -3,3 +3,4 @@ pub mod Form
 pub mod Values
 pub mod Reading
 pub mod Turns
+pub mod Places

@@ -1,8 +1,8 @@
 //! What the objects answer to rows of calls, written down by hand.
 
 use crate::{
-    Calls, Failed, Fails, MemSink, MemSource, Sink, Source, StdSink, StdSource, read_full,
-    write_whole,
+    Calls, Failed, Fails, MemSink, MemSource, ReadySource, Sink, Source, StdSink, StdSource,
+    read_full, write_whole,
 };
 use std::alloc::{AllocError, Global};
 use std::io::{self, ErrorKind, Read, Write};
@@ -150,6 +150,19 @@ fn objects_in_memory(rt: HostRuntime) -> Result<(), Fail> {
         writes(&rt, rt.alloc(), row)?;
         wholes(&rt, rt.alloc(), row)?;
     }
+    Ok(())
+}
+
+#[test]
+fn ready_bytes(rt: HostRuntime) -> Result<(), Fail> {
+    let mut source = ReadySource::new(Vec::from_slice(rt.alloc(), &TEXT)?);
+    let mut out = [b'-'; 4];
+    assert_eq!(rt; source.read(&mut []), Ok(0));
+    assert_eq!(rt; source.read(&mut out), Ok(4));
+    assert_eq!(rt; out, *b"abcd");
+    assert_eq!(rt; read_full(&mut source, &mut out), Ok(2));
+    assert_eq!(rt; out, *b"efcd");
+    assert_eq!(rt; source.read(&mut out), Ok(0));
     Ok(())
 }
 

@@ -1,0 +1,21 @@
+use Rattle.std.proofs.Common.{◌∷◌, [], ap, refl, sym, ◌∙◌}
+use Rattle.std.proofs.lemmas.Result.{err_from_is_err_and}
+use Rattle.std.specs.Prelude.{is_some, unwrap_or}
+use Rattle.sp_form.specs.Form.{rule}
+use Rattle.sp_form.specs.Values.{byte}
+use Rattle.sp_feed.specs.declared.kind.Kind.TheVariants.{End}
+use Rattle.sp_feed.specs.Format.{broken}
+use Rattle.sp_feed.specs.Kinds.{kind_of}
+use Rattle.sp_feed.proofs.Reading.{met, reads_faulty, reads_field, reads_short, unmet}
+use Rattle.sp_feed.proofs.field.read_kind.Goals as goal
+
+pub returns-in_err-fill-clause-reads : goal.returns-in_err-fill-clause-reads
+returns-in_err-fill-clause-reads g c =
+    let p = err_from_is_err_and c.from_residual.result c.from_residual.ensures.1 in
+    rw (p.1, p.2) (reads_short 1 (λ bytes. rule (is_some (kind_of (byte bytes))) broken ∷ []) (λ bytes. unwrap_or (kind_of (byte bytes)) End) (λ kind. kind) c.in_err-fill.ensures c.fill.auto.out)
+
+pub returns-in-Some-clause-reads : goal.returns-in-Some-clause-reads
+returns-in-Some-clause-reads g c = reads_field 1 (λ bytes. rule (is_some (kind_of (byte bytes))) broken ∷ []) (λ bytes. unwrap_or (kind_of (byte bytes)) End) (λ kind. kind) c.in-Some.kind c.in_ok-fill.ensures c.fill.auto.out (met (is_some (kind_of (byte c.fill.new.out))) (ap is_some (sym c.of.ensures ∙ c.in-Some.is))) (ap (λ o. unwrap_or o End) (sym c.of.ensures ∙ c.in-Some.is))
+
+pub returns-in-None-clause-reads : goal.returns-in-None-clause-reads
+returns-in-None-clause-reads g c = reads_faulty 1 (λ bytes. rule (is_some (kind_of (byte bytes))) broken ∷ []) (λ bytes. unwrap_or (kind_of (byte bytes)) End) (λ kind. kind) broken c.in_ok-fill.ensures c.fill.auto.out (unmet (is_some (kind_of (byte c.fill.new.out))) (ap is_some (sym c.of.ensures ∙ c.in-None.is)))

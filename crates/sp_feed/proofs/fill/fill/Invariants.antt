@@ -1,0 +1,16 @@
+use Rattle.std.proofs.Common.{◌≡◌, ◌+◌, ◌-◌, ◌≤◌, length, take}
+use Rattle.std.specs.Io.KnownBytes.{Consumes}
+use Rattle.sp_feed.proofs.fill.fill.Given as goal
+
+abbrev pub invariant-pieces : goal.invariant-pieces
+invariant-pieces g l =
+    let left = g.S.Source.left in let faults = g.S.Source.faults in
+    record {
+      within : l.filled ≤ l.wanted;
+      counted : l.taken ≡ l.fn.taken + l.filled;
+      bytes : Consumes (left l.fn.source) (left l.source) (take l.filled l.out);
+      later : faults l.fn.source ≤ faults l.source;
+    }
+
+abbrev pub decreases-pieces : goal.decreases-pieces
+decreases-pieces g l = l.wanted - l.filled

@@ -1,0 +1,9 @@
+pub mod Kinds
+pub mod Genesis
+pub mod Format
+pub mod Feed
+pub mod Reads
+pub mod Reader
+pub mod Told
+pub mod Calls
+pub mod Spelling

@@ -1,0 +1,40 @@
+-- How a feed is written.
+use Rattle.std.specs.Prelude.{◌≡◌, ℕ, ◌<◌, ◌≤◌, ◌^◌, List, [], ◌∷◌, ◌++◌, length, IsTrue, Some}
+use Rattle.std.specs.Int.{w32, to_le_bytes}
+use Rattle.sp_ids.specs.Key.{bytes_of}
+use Rattle.sp_feed.specs.declared.kind.Kind.{Kind}
+use Rattle.sp_feed.specs.declared.kind.Kind.TheVariants.{Block, Vote, End}
+use Rattle.sp_feed.specs.Feed.{feed, Whole}
+use Rattle.sp_feed.specs.Format.{Head, name}
+use Rattle.sp_feed.specs.Genesis.{is_genesis}
+use Rattle.sp_feed.specs.Kinds.{letter, Said, SaysBlock, SaysVote}
+
+-- a kind, a length and a payload
+abbrev pub framed : Kind → List ℕ → List ℕ
+framed kind payload = letter kind ∷ (to_le_bytes w32 (length payload) ++ payload)
+
+abbrev pub spelled : Said → List ℕ
+spelled (SaysBlock bytes) = framed Block bytes
+spelled (SaysVote x y) = framed Vote (bytes_of x ++ bytes_of y)
+
+-- it can be written as one frame
+abbrev pub Fits : Said → Type 0
+Fits (SaysBlock bytes) = length bytes ≤ 65537
+Fits (SaysVote x y) = (x < 2 ^ 256) × (y < 2 ^ 256)
+
+-- the frames of messages, and the end
+abbrev pub frames_of : List Said → List ℕ
+frames_of [] = framed End []
+frames_of (message ∷ messages) = spelled message ++ frames_of messages
+
+-- a whole feed
+abbrev pub written : Head → List Said → List ℕ
+written head messages = name ++ (head.bits ∷ (framed Block head.genesis ++ frames_of messages))
+
+abbrev pub AllFit : List Said → Type 0
+AllFit [] = Unit {0}
+AllFit (message ∷ messages) = Fits message × AllFit messages
+
+-- what is written is read, whatever follows it
+abbrev pub WrittenIsRead : Type 0
+WrittenIsRead = (limit : ℕ) (head : Head) (messages : List Said) (rest : List ℕ) → head.bits ≤ 64 → IsTrue (is_genesis head.genesis) → AllFit messages → length (written head messages) ≤ limit → feed limit (written head messages ++ rest) ≡ record { head = Some head; messages = messages; end = Whole rest }

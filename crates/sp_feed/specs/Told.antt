@@ -1,0 +1,11 @@
+-- What a message says.
+use Rattle.std.specs.Prelude.{Option, Some, None}
+use Rattle.sp_feed.specs.declared.message.Message.{Message}
+use Rattle.sp_feed.specs.declared.message.Message.TheVariants.{Block, Vote, End}
+use Rattle.sp_feed.specs.Kinds.{Said, SaysBlock, SaysVote}
+
+-- nothing where it is the end
+abbrev pub told : Message → Option Said
+told (Block bytes) = Some (SaysBlock bytes.now)
+told (Vote x y) = Some (SaysVote x y)
+told End = None

@@ -1,0 +1,110 @@
+//! A frame and the head, field by field, with the payload at the front of a buffer that is lent.
+
+ghost use Rattle.std.specs.Prelude.{◌≡◌, ◌≤◌, ◌<◌, IfOk, IsTrue, length, take};
+ghost use Rattle.sp_feed.specs.Calls.{GivesHead, GivesNext};
+ghost use Rattle.sp_feed.specs.Format.{frame_form, head_form};
+ghost use Rattle.sp_feed.specs.Kinds.{allows, said};
+ghost use Rattle.sp_feed.specs.Reader.{head_in};
+ghost use Rattle.sp_feed.specs.Reads.{moment, Reads, ReadsFront};
+
+use crate::fault::{FeedFault, HeadFault};
+use crate::field::{read_bits, read_block_letter, read_kind, read_length, read_name};
+use crate::fill::fill;
+use crate::head::FeedHead;
+use crate::kind::Kind;
+use sp_block::{ReadBlockFault, read_block};
+use sp_io::Source;
+use std::alloc::Global;
+
+/// The bytes of the longest payload. A block has one byte less, so that one which is too long can
+/// still be framed and refused as a block.
+pub(crate) const LONGEST: usize = 65_537;
+
+/// Reads a frame, and answers its kind and its payload's length.
+fn read_frame<S: Source>(
+    source: &mut S,
+    payload: &mut [u8],
+    limit: u32,
+    taken: &mut u32,
+) -> Result<(Kind, usize), FeedFault>
+    requires limit { taken.old ≤ limit }
+    requires room { length payload.old ≡ LONGEST }
+    ensures reads { Reads limit
+        (moment (S.left source.old) (S.faults source.old) taken.old)
+        (moment (S.left source.new) (S.faults source.new) taken.new)
+        (λ found. said found.0 (take found.1 payload.new)) frame_form result }
+    ensures fits { IfOk result (λ found. found.1 ≤ LONGEST) }
+    ensures allowed { IfOk result (λ found. IsTrue (allows found.0 found.1)) }
+    ensures progress { IfOk result (λ _. taken.old < taken.new) }
+{
+    let kind = read_kind(source, limit, taken)?;
+    let length = read_length(source, kind, limit, taken)? as usize;
+    fill(source, &mut payload[..length], limit, taken)?;
+    Ok((kind, length))
+}
+
+/// Reads the next frame, and answers its kind and its payload's length.
+pub(crate) fn next_frame<S: Source>(
+    source: &mut S,
+    payload: &mut [u8],
+    limit: u32,
+    taken: &mut u32,
+) -> Result<(Kind, usize), FeedFault>
+    requires limit { taken.old ≤ limit }
+    requires room { length payload.old ≡ LONGEST }
+    ensures gives { GivesNext limit
+        (moment (S.left source.old) (S.faults source.old) taken.old)
+        (moment (S.left source.new) (S.faults source.new) taken.new)
+        (λ found. said found.0 (take found.1 payload.new)) result }
+    ensures fits { IfOk result (λ found. found.1 ≤ LONGEST) }
+    ensures allowed { IfOk result (λ found. IsTrue (allows found.0 found.1)) }
+    ensures progress { IfOk result (λ _. taken.old < taken.new) }
+{
+    read_frame(source, payload, limit, taken)
+}
+
+/// Reads the head.
+fn read_head<S: Source>(
+    alloc: Global,
+    source: &mut S,
+    payload: &mut [u8],
+    limit: u32,
+    taken: &mut u32,
+) -> Result<FeedHead, HeadFault>
+    requires limit { taken.old ≤ limit }
+    requires room { length payload.old ≡ LONGEST }
+    ensures { ReadsFront limit
+        (moment (S.left source.old) (S.faults source.old) taken.old)
+        (moment (S.left source.new) (S.faults source.new) taken.new)
+        head_in head_form result }
+{
+    read_name(source, limit, taken)?;
+    let bits = read_bits(source, limit, taken)?;
+    read_block_letter(source, limit, taken)?;
+    let length = read_length(source, Kind::Block, limit, taken)? as usize;
+    let start = *taken;
+    fill(source, &mut payload[..length], limit, taken)?;
+    match read_block(alloc, &payload[..length], true) {
+        Ok(genesis) => Ok(FeedHead { bits, genesis }),
+        Err(ReadBlockFault::Fault(_)) => Err(HeadFault::Feed(FeedFault::Malformed { at: start })),
+        Err(ReadBlockFault::Memory) => Err(HeadFault::Memory),
+    }
+}
+
+/// Reads the head at the start of a feed.
+pub(crate) fn first_head<S: Source>(
+    alloc: Global,
+    source: &mut S,
+    payload: &mut [u8],
+    limit: u32,
+    taken: &mut u32,
+) -> Result<FeedHead, HeadFault>
+    requires start { taken.old ≡ 0 }
+    requires room { length payload.old ≡ LONGEST }
+    ensures { GivesHead limit
+        (moment (S.left source.old) (S.faults source.old) taken.old)
+        (moment (S.left source.new) (S.faults source.new) taken.new)
+        head_in result }
+{
+    read_head(alloc, source, payload, limit, taken)
+}

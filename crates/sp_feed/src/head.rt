@@ -1,0 +1,23 @@
+//! What stands before a feed's frames.
+
+use sp_block::Block;
+use std::marker::Model;
+
+/// The head of a feed: the bits of work that its blocks have to show, 0 to 64, and its genesis
+/// block. It is written as the eight bytes `SPCTRF01`, the bits (1 byte), and a frame `B` with the
+/// genesis block's bytes.
+#[derive(Debug, Drop)]
+pub struct FeedHead {
+    pub bits: u8,
+    pub genesis: Block,
+}
+
+impl Model for FeedHead {
+    ghost use Rattle.sp_feed.specs.Genesis.{IsHead, ReadHead};
+
+    ghost Value = { ReadHead };
+
+    ghost view = { λ h. record { bits = h.bits; genesis = h.genesis } };
+
+    ghost invariant = { λ h. IsHead (record { bits = h.bits; genesis = h.genesis }) };
+}
