@@ -1,7 +1,7 @@
 //! The pool of blocks that arrive in any order: which of them are kept, and which are present.
 //!
 //! A kept block is present once all its ancestors are kept and lead to genesis; until then it waits.
-//! present blocks alone, in the order in which the pool tells of them.
+//! The layers above work on the present blocks alone, in the order in which the pool tells of them.
 #![tactic(auto)]
 
 mod answers;
