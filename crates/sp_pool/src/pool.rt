@@ -56,9 +56,11 @@ impl Pool {
     pub fn standing(&self, id: &BlockId) -> Standing
         ensures { result ≡ standing_of self.now id.now }
     {
-        if self.entries.place_of(id).is_some() {
+        let has_room = self.entries.len() < MOST_KEPT;
+        let is_known = self.entries.place_of(id).is_some();
+        if is_known {
             Standing::Known
-        } else if self.entries.len() < MOST_KEPT {
+        } else if has_room {
             Standing::Fresh
         } else {
             Standing::Full
