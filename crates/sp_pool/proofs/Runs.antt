@@ -49,17 +49,6 @@ pub record Offered (genesis : ReadBlock) (arrivals offered rest kept : List Read
   pub told : (id : ℕ) → has (present kept) id ≡ has (order_of_presence genesis answers) id
   pub once : AreDistinct (order_of_presence genesis answers)
 
-pub Offered-none : (genesis : ReadBlock) (arrivals kept : List ReadBlock) → kept ≡ genesis ∷ [] → present kept ≡ genesis.id ∷ [] → Offered genesis arrivals [] arrivals kept []
-Offered-none genesis arrivals kept one here =
-    record {
-      whole = refl;
-      are = one;
-      blocks = All-nil IsBlock;
-      answered = λ later more h. subst (λ (k : List ReadBlock). AreAnswers k later more) one h;
-      told = λ id. ap (λ (l : List ℕ). has l id) here;
-      once = (refl, tt);
-    }
-
 order-push : (genesis : ReadBlock) (answers : List Offer) (offer : Offer) → order_of_presence genesis (answers ++ offer ∷ []) ≡ order_of_presence genesis answers ++ released_by offer
 order-push genesis answers offer =
     ap (λ (l : List ℕ). genesis.id ∷ l) (flat_map-append released_by answers (offer ∷ []) ∙ ap (λ (l : List ℕ). flat_map released_by answers ++ l) (append-nil (released_by offer)))
