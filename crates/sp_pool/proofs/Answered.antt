@@ -1,10 +1,9 @@
 -- There is one answer to a block.
-use Rattle.std.proofs.Common.{◌≡◌, ℕ, true, false, List, [], ◌∷◌, ◌++◌, refl, sym, ap, subst, ◌∙◌, None, Some}
-use Rattle.std.specs.Prelude.{find}
+use Rattle.std.proofs.Common.{◌≡◌, ℕ, List, [], ◌∷◌, ◌++◌, refl, sym, ap, subst, ◌∙◌}
 use Rattle.std.proofs.lemmas.Bool.{false≢true}
 use Rattle.std.proofs.lemmas.Option.{none-some, same_Some}
 use Rattle.sp_block.specs.Block.{ReadBlock}
-use Rattle.sp_pool.specs.Kept.{is_ready, present, Releases}
+use Rattle.sp_pool.specs.Kept.{present, Releases}
 use Rattle.sp_pool.specs.Offers.{IsAnswer}
 use Rattle.sp_pool.specs.declared.answers.Offer.{Offer}
 use Rattle.sp_pool.specs.declared.answers.Offer.TheVariants.{Known, Full, Waiting, Present}

@@ -3,7 +3,7 @@ use Rattle.std.proofs.Common.{◌≡◌, ℕ, Bool, true, false, cond, ◌||◌,
 use Rattle.std.specs.Prelude.{All, find}
 use Rattle.std.proofs.lemmas.Bool.{eqb-true, eq-eqb, false≢true, or_left}
 use Rattle.std.proofs.lemmas.List.Elements.{All-head, All-tail}
-use Rattle.sp_block.specs.Block.{IsBlock, IsGenesis, IsOther, ReadBlock}
+use Rattle.sp_block.specs.Block.{IsBlock, IsOther, ReadBlock}
 use Rattle.sp_block.proofs.Whole.{other_parents}
 use Rattle.sp_model.specs.Graph.{AreDistinct, Block as Node, has, IsGraph, parents_of, parents_or_none}
 use Rattle.sp_pool.specs.Kept.{AreKept, graph_of, ids_of, node_of}

@@ -1,17 +1,13 @@
 -- Looks at the blocks, which change only what was seen of their parents.
-use Rattle.std.proofs.Common.{◌≡◌, ℕ, zero, suc, ◌+◌, ◌<◌, ◌≤◌, Bool, true, false, ◌&&◌, List, [], ◌∷◌, length, take, set, get_or, refl, sym, ap, subst, ◌∙◌, None, Some, arith, add-one}
+use Rattle.std.proofs.Common.{◌≡◌, ℕ, ◌+◌, Bool, true, false, List, take, set, refl, sym, ap, subst, ◌∙◌, None, Some}
 use Rattle.std.specs.Prelude.{find, slice_get}
 use Rattle.std.specs.List.{list_all}
 use Rattle.std.specs.Option.{option_map}
-use Rattle.std.proofs.lemmas.Bool.{and_from, and_parts, false≢true}
 use Rattle.sp_block.specs.Block.{ReadBlock}
 use Rattle.sp_model.specs.Graph.{has}
 use Rattle.sp_pool.specs.Kept.{is_ready}
 use Rattle.sp_pool.specs.Marks.{Looked, Marked, Marks}
 use Rattle.sp_pool.proofs.Marking.{first_ready, Marks-see, none_ready_more}
-
-pub Looked-same : (m : Marked) → Looked m m
-Looked-same m = record { blocks = refl; marks = refl; stands = λ s h. h }
 
 pub Looked-then : (a b c : Marked) → Looked a b → Looked b c → Looked a c
 Looked-then a b c h k = record { blocks = k.blocks ∙ h.blocks; marks = k.marks ∙ h.marks; stands = λ s m. k.stands s (h.stands s m) }
@@ -28,9 +24,6 @@ Looked-see m after place parents n is there all =
 pub record NoneReady (before now : Marked) (place : ℕ) : Type 0 where
   pub looked : Looked before now
   pub none : (s : List ℕ) → Marks before s → find (is_ready s) (take place before.blocks) ≡ None
-
-pub NoneReady-first : (m : Marked) → NoneReady m m 0
-NoneReady-first m = record { looked = Looked-same m; none = λ s h. refl }
 
 ready_before : (before now : Marked) (place : ℕ) (r : Bool) → Looked before now
     → ((s : List ℕ) → Marks now s → option_map (is_ready s) (slice_get now.blocks place) ≡ Some r)
@@ -53,38 +46,3 @@ NoneReady-more before now after place r h look ready isnt =
       looked = Looked-then before now after h.looked look;
       none = λ s m. none_ready_more (is_ready s) before.blocks place r (ready_before before now place r h.looked ready s m) isnt (h.none s m);
     }
-
--- ---- a front of a list
-
--- one more that passes
-pub front_more : (p : ℕ → Bool) (xs : List ℕ) (n : ℕ) → n < length xs → list_all p (take n xs) ≡ true → p (get_or xs n 0) ≡ true → list_all p (take (n + 1) xs) ≡ true
-front_more p xs n within front passes = rw (add-one n) (go xs n within front passes)
-  where
-    go : (xs : List ℕ) (n : ℕ) → n < length xs → list_all p (take n xs) ≡ true → p (get_or xs n 0) ≡ true → list_all p (take (suc n) xs) ≡ true
-    go [] n within front passes = refl
-    go (x ∷ xs) zero within front passes = and_from (p x) (list_all p (take zero xs)) passes refl
-    go (x ∷ xs) (suc n) within front passes =
-        let parts = and_parts (p x) (list_all p (take n xs)) front in
-        and_from (p x) (list_all p (take (suc n) xs)) parts.0 (go xs n (omega arith) parts.1 passes)
-
--- a front that is the whole list
-pub front_whole : (p : ℕ → Bool) (xs : List ℕ) (n : ℕ) → length xs ≤ n → list_all p (take n xs) ≡ true → list_all p xs ≡ true
-front_whole p [] n long front = refl
-front_whole p (x ∷ xs) zero long front = absurd (omega arith)
-front_whole p (x ∷ xs) (suc n) long front =
-    let parts = and_parts (p x) (list_all p (take n xs)) front in
-    and_from (p x) (list_all p xs) parts.0 (front_whole p xs n (omega arith) parts.1)
-
--- one that fails
-pub front_fails : (p : ℕ → Bool) (xs : List ℕ) (n : ℕ) → n < length xs → p (get_or xs n 0) ≡ false → list_all p xs ≡ false
-front_fails p [] n within fails = absurd (omega arith)
-front_fails p (x ∷ xs) zero within fails = at (p x) fails
-  where
-    at : (c : Bool) → c ≡ false → (c && list_all p xs) ≡ false
-    at true e = absurd (false≢true (sym e))
-    at false e = refl
-front_fails p (x ∷ xs) (suc n) within fails = at (p x) (front_fails p xs n (omega arith) fails)
-  where
-    at : (c : Bool) → list_all p xs ≡ false → (c && list_all p xs) ≡ false
-    at true rest = rest
-    at false rest = refl

@@ -9,8 +9,7 @@ use Rattle.std.proofs.lemmas.List.Sorted.{Contains-permutation, IsPermutation-co
 use Rattle.sp_block.specs.Block.{ReadBlock}
 use Rattle.sp_model.specs.Graph.{Block as Node, has, parents_of, parents_or_none, round}
 use Rattle.sp_model.proofs.Paths.{complete_least, complete_round}
-use Rattle.sp_pool.specs.Kept.{AreApart, graph_of, ids_of, keep, keep_all, kept_by, kept_of, node_of, present, standing_of}
-use Rattle.sp_pool.specs.declared.answers.Standing.TheVariants.{Fresh}
+use Rattle.sp_pool.specs.Kept.{AreApart, graph_of, ids_of, keep, keep_all, kept_by, kept_of, node_of, present}
 use Rattle.sp_pool.proofs.Growth.{round_from, round_parts, same_bool}
 use Rattle.sp_pool.proofs.Standings.{Fresh-standing}
 

@@ -1,10 +1,10 @@
 -- A pool to which a list of blocks is offered, one after another.
-use Rattle.std.proofs.Common.{◌≡◌, ℕ, Bool, true, false, cond, not, ◌||◌, ◌&&◌, List, [], ◌∷◌, ◌++◌, append_assoc, append-nil, eqb, map, refl, sym, ap, subst, ◌∙◌, arith, None, Some}
-use Rattle.std.specs.Prelude.{All, find}
+use Rattle.std.proofs.Common.{◌≡◌, ℕ, Bool, true, false, cond, not, ◌||◌, List, [], ◌∷◌, ◌++◌, append_assoc, append-nil, eqb, map, refl, sym, ap, subst, ◌∙◌, arith, None, Some}
+use Rattle.std.specs.Prelude.{All}
 use Rattle.std.specs.List.{flat_map, list_all}
 use Rattle.std.proofs.lemmas.Bool.{and_parts, eq-eqb, false≢true}
 use Rattle.std.proofs.lemmas.Grind.{flat_map-append}
-use Rattle.std.proofs.lemmas.List.Elements.{All-head, All-nil, All-push, All-tail}
+use Rattle.std.proofs.lemmas.List.Elements.{All-head, All-push, All-tail}
 use Rattle.std.proofs.lemmas.List.Folds.{list_any-append}
 use Rattle.std.proofs.lemmas.List.Sums.{fold-append}
 use Rattle.sp_block.specs.Block.{IsBlock, IsOther, ReadBlock}
@@ -48,17 +48,6 @@ pub record Offered (genesis : ReadBlock) (arrivals offered rest kept : List Read
   pub answered : (later : List ReadBlock) (more : List Offer) → AreAnswers kept later more → AreAnswers (genesis ∷ []) (offered ++ later) (answers ++ more)
   pub told : (id : ℕ) → has (present kept) id ≡ has (order_of_presence genesis answers) id
   pub once : AreDistinct (order_of_presence genesis answers)
-
-pub Offered-none : (genesis : ReadBlock) (arrivals kept : List ReadBlock) → kept ≡ genesis ∷ [] → present kept ≡ genesis.id ∷ [] → Offered genesis arrivals [] arrivals kept []
-Offered-none genesis arrivals kept one here =
-    record {
-      whole = refl;
-      are = one;
-      blocks = All-nil IsBlock;
-      answered = λ later more h. subst (λ (k : List ReadBlock). AreAnswers k later more) one h;
-      told = λ id. ap (λ (l : List ℕ). has l id) here;
-      once = (refl, tt);
-    }
 
 order-push : (genesis : ReadBlock) (answers : List Offer) (offer : Offer) → order_of_presence genesis (answers ++ offer ∷ []) ≡ order_of_presence genesis answers ++ released_by offer
 order-push genesis answers offer =

@@ -16,15 +16,6 @@ pub record Turned (before now : Marked) (ids : List ℕ) (capacity : ℕ) : Type
   pub order : (s rest : List ℕ) → Marks before s → Releases before.blocks (s ++ ids) rest → Releases before.blocks s (ids ++ rest)
   pub room : length ids + count_by not now.marks ≤ capacity
 
-pub Turned-none : (m : Marked) (capacity : ℕ) → count_by not m.marks ≤ capacity → Turned m m [] capacity
-Turned-none m capacity room =
-    record {
-      blocks = refl;
-      marks = λ s h. (let P : List ℕ → Type 0 = λ l. Marks m l in subst P (sym (append-nil s)) h);
-      order = λ s rest h r. (let P : List ℕ → Type 0 = λ l. Releases m.blocks l rest in subst P (append-nil s) r);
-      room = omega arith;
-    }
-
 -- a mark more is one fewer without
 pub fewer_unmarked : (marks : List Bool) (place : ℕ) → slice_get marks place ≡ Some false → count_by not (set marks place true) + 1 ≡ count_by not marks
 fewer_unmarked marks place here =

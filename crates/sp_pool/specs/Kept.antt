@@ -11,7 +11,8 @@ ids_of blocks = map (λ (b : ReadBlock). b.id) blocks
 
 -- an id is known where a kept block has it; else there is no room where 512 blocks are kept
 abbrev pub standing_of : List ReadBlock → ℕ → Standing
-standing_of kept id = if has (ids_of kept) id then Known else (if nat_lt (length kept) 512 then Fresh else Full)
+standing_of kept id =
+    if has (ids_of kept) id then Known else (if nat_lt (length kept) 512 then Fresh else Full)
 
 abbrev pub kept_by : Standing → List ReadBlock → ReadBlock → List ReadBlock
 kept_by Known kept block = kept

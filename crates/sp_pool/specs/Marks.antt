@@ -5,7 +5,7 @@ use Rattle.sp_block.specs.Block.{ReadBlock}
 use Rattle.sp_model.specs.Graph.{has}
 use Rattle.sp_pool.specs.Kept.{ids_of}
 
--- blocks, for each whether it is marked, and how many of its parents were seen to be, from the first
+-- blocks, whether each is marked, and how many of its parents were seen to be, from the first
 pub record Marked : Type 0 where
   pub blocks : List ReadBlock
   pub marks : List Bool

@@ -13,7 +13,7 @@ pub record Waits (kept : List ReadBlock) (block : ReadBlock) : Type 0 where
   pub standing : standing_of kept block.id ≡ Fresh
   pub absent : IsFalse (has (present (kept ++ block ∷ [])) block.id)
 
--- the block joins the kept ones and is present, and these are the blocks that became so, in their order
+-- the block joins the kept ones and is present, and these blocks became so, in their order
 pub record Joins (kept : List ReadBlock) (block : ReadBlock) (ids : List ℕ) : Type 0 where
   pub standing : standing_of kept block.id ≡ Fresh
   pub here : IsTrue (has (present (kept ++ block ∷ [])) block.id)

@@ -1,5 +1,6 @@
 //! Blocks in order of arrival, by place and by id, each with a mark and with how many of its
-//! parents were seen to be marked. The table stands apart because it doesn't know what a mark means.
+//! parents were seen to be marked. The table stands apart because it doesn't know what a mark
+//! means. A look-up by id is one in a hash table, and all else but `unmarked` takes one step.
 
 ghost use Rattle.std.specs.Prelude.{◌≡◌, ◌<◌, ◌++◌, ◌∷◌, [], count_by, false, IfOk, IsFalse, length, nat_eq, not, OnErr, OnOk, position, slice_get, slice_set, true};
 ghost use Rattle.std.specs.Option.{option_map};
@@ -30,7 +31,8 @@ impl Model for Entries {
 
     ghost use Rattle.sp_pool.specs.Keyed.{AreKeyed};
 
-    ghost view = { λ e. record { blocks = values e.blocks; marks = e.marks.items; seen = e.seen.items } };
+    ghost view = { λ e.
+        record { blocks = values e.blocks; marks = e.marks.items; seen = e.seen.items } };
 
     ghost invariant = { AreKeyed };
 }
@@ -82,7 +84,8 @@ impl Entries {
     /// The id of the block at a place.
     pub fn id_at(&self, place: usize) -> BlockId
         requires { place < length self.now.blocks }
-        ensures { option_map (λ (b : ReadBlock). b.id) (slice_get self.now.blocks place) ≡ Some result }
+        ensures { option_map (λ (b : ReadBlock). b.id) (slice_get self.now.blocks place)
+            ≡ Some result }
     {
         self.block_at(place).id
     }
@@ -90,7 +93,8 @@ impl Entries {
     /// The ids of the parents of the block at a place.
     pub fn parents_at(&self, place: usize) -> &[BlockId]
         requires { place < length self.now.blocks }
-        ensures { option_map (λ (b : ReadBlock). b.parents) (slice_get self.now.blocks place) ≡ Some result.now }
+        ensures { option_map (λ (b : ReadBlock). b.parents) (slice_get self.now.blocks place)
+            ≡ Some result.now }
     {
         self.block_at(place).parents.as_slice()
     }

@@ -36,5 +36,6 @@ pub fn in_any_order()
     ensures { (genesis : ReadBlock) (arrivals others : List ReadBlock) →
         AreApart (genesis ∷ arrivals) → AreApart (genesis ∷ others) → length arrivals ≤ 511 →
         IsPermutation arrivals others →
-        (id : ℕ) → has (present (kept_of genesis arrivals)) id ≡ has (present (kept_of genesis others)) id }
+        (id : ℕ) →
+        has (present (kept_of genesis arrivals)) id ≡ has (present (kept_of genesis others)) id }
 {}

@@ -1,7 +1,8 @@
 //! The pool of blocks that arrive in any order: which of them are kept, and which are present.
 //!
-//! A kept block is present once all its ancestors are kept and lead to genesis; until then it waits.
-//! The layers above work on the present blocks alone, in the order in which the pool tells of them.
+//! A kept block is present once all its ancestors are kept and lead to genesis; until then it
+//! waits. `specs/Kept.antt` says both over the whole list of arrivals, and `offer_all` shows that a
+//! pool comes to that. Votes are taken over the present blocks alone.
 #![tactic(auto)]
 
 mod answers;

@@ -1,4 +1,5 @@
-//! The pool: the kept blocks by their list in order of arrival, which is all that contracts see.
+//! The pool. It stands apart from the release of blocks because here the marks have their meaning:
+//! the marked blocks are the present ones.
 
 ghost use Rattle.std.specs.Prelude.{◌≡◌, ◌==◌, ◌||◌, ◌∷◌, [], ℕ, count_by, find, IfOk, length, not, OnErr, OnOk};
 ghost use Rattle.std.specs.List.{list_all};
@@ -40,7 +41,7 @@ impl Model for Pool {
 }
 
 impl Pool {
-    /// A pool of genesis alone, which is present.
+    /// A pool of genesis alone, which is present. `Memory` where its tables found none.
     pub fn new(alloc: Global, genesis: Block) -> Result<Pool, Memory>
         requires { IsGenesis genesis }
         ensures kept { IfOk result (λ pool. pool ≡ genesis ∷ []) }
@@ -56,17 +57,29 @@ impl Pool {
     pub fn standing(&self, id: &BlockId) -> Standing
         ensures { result ≡ standing_of self.now id.now }
     {
-        if self.entries.place_of(id).is_some() {
+        let has_room = self.entries.len() < MOST_KEPT;
+        let is_known = self.entries.place_of(id).is_some();
+        if is_known {
             Standing::Known
-        } else if self.entries.len() < MOST_KEPT {
+        } else if has_room {
             Standing::Fresh
         } else {
             Standing::Full
         }
     }
 
-    /// Keeps the block where its id is fresh, and answers what became of it. After `Memory` the
-    /// pool is as before.
+    /// Keeps the block where its id is fresh, and answers what became of it: `Known` where a block
+    /// of its id is kept, else `Full` where 512 blocks are, else `Waiting` where one of its
+    /// ancestors isn't present, else `Present` with the ids of the blocks that became so.
+    ///
+    /// Over the whole life of a pool its offers look up each parent of each kept block twice at
+    /// most, and one parent of each waiting block in each turn that looks for the next block to
+    /// become present. There are fewer than 1,024 such turns, at most two for a block.
+    ///
+    /// # Errors
+    ///
+    /// `Memory` where the tables or the list of ids found none. The pool is then as before, and the
+    /// block is dropped.
     pub fn offer(&mut self, block: Block) -> Result<Offer, Memory>
         requires { IsOther block }
         ensures kept { OnOk result (self.new ≡ keep self.old block) }

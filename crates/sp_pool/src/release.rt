@@ -27,9 +27,11 @@ pub fn is_marked(entries: &Entries, id: &BlockId) -> bool
 
 /// How many of the ids, from the first, are of marked blocks, where so many are known to be.
 pub fn marked_front(entries: &Entries, ids: &[BlockId], known: usize) -> usize
-    ensures front { (set : List ℕ) → Marks entries.now set → list_all (has set) (take known ids.now) ≡ true →
+    ensures front { (set : List ℕ) → Marks entries.now set →
+        list_all (has set) (take known ids.now) ≡ true →
         list_all (has set) (take result ids.now) ≡ true }
-    ensures whole { (set : List ℕ) → Marks entries.now set → list_all (has set) (take known ids.now) ≡ true →
+    ensures whole { (set : List ℕ) → Marks entries.now set →
+        list_all (has set) (take known ids.now) ≡ true →
         nat_le (length ids.now) result ≡ list_all (has set) ids.now }
 {
     let mut front = known;
@@ -61,7 +63,8 @@ fn is_ready_at(entries: &mut Entries, place: usize) -> bool
 fn earliest_ready(entries: &mut Entries) -> Option<usize>
     ensures looked { Looked entries.old entries.new }
     ensures block { (set : List ℕ) → Marks entries.old set →
-        option_and_then (slice_get entries.old.blocks) result ≡ find (is_ready set) entries.old.blocks }
+        option_and_then (slice_get entries.old.blocks) result
+        ≡ find (is_ready set) entries.old.blocks }
     ensures within { IfSome result (λ place. place < length entries.old.blocks) }
     ensures unmarked { IfSome result (λ place. slice_get entries.old.marks place ≡ Some false) }
     ensures apart { AreApart entries.old.blocks }
@@ -81,7 +84,8 @@ pub fn release(entries: &mut Entries, mut ids: Vec<BlockId>) -> Ids
     requires room { count_by not entries.old.marks ≤ vec_capacity ids }
     ensures blocks { entries.new.blocks ≡ entries.old.blocks }
     ensures apart { AreApart entries.new.blocks }
-    ensures order { (set : List ℕ) → Marks entries.old set → Releases entries.old.blocks set result }
+    ensures order { (set : List ℕ) → Marks entries.old set →
+        Releases entries.old.blocks set result }
     ensures marks { (set : List ℕ) → Marks entries.old set → Marks entries.new (set ++ result) }
 {
     'turns: loop {

@@ -38,7 +38,8 @@ fn chosen(alloc: Global, ids: &[BlockId], numbers: &[usize]) -> Result<Vec<Block
     Ok(list)
 }
 
-/// A pool, and the ids of blocks by number: genesis is number 0, and the salt of each is its number.
+/// A pool, and the ids of blocks by number: genesis is number 0, and the salt of each block is its
+/// number.
 #[derive(Drop)]
 struct World {
     alloc: Global,

@@ -1,4 +1,4 @@
-use Rattle.std.proofs.Common.{◌≡◌, ◌<◌, ◌++◌, ◌∷◌, [], Bool, ap, subst, sym, List, ℕ, arith, not, set, true}
+use Rattle.std.proofs.Common.{◌<◌, ◌++◌, ◌∷◌, [], Bool, ap, subst, sym, List, ℕ, arith, not, set, true}
 use Rattle.std.specs.Prelude.{count_by, vec_capacity}
 use Rattle.sp_pool.specs.Kept.{Releases}
 use Rattle.sp_pool.specs.Marks.{Marked}

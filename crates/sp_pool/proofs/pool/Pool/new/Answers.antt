@@ -1,4 +1,4 @@
-use Rattle.std.proofs.Common.{ap, length, subst, sym, List, ℕ, ◌≡◌, true, ◌∙◌, ◌==◌, eqb, false}
+use Rattle.std.proofs.Common.{ap, length, subst, sym, List, ℕ, ◌≡◌, true, ◌∙◌, eqb}
 use Rattle.std.proofs.lemmas.Bool.{false≢true}
 use Rattle.sp_block.specs.Block.{IsBlock, ReadBlock}
 use Rattle.sp_pool.specs.Marks.{Marked}
