@@ -1,5 +1,5 @@
 -- Frames are read without regard to the bound on their number.
-use Rattle.std.proofs.Common.{◌≡◌, ℕ, zero, suc, ◌+◌, ◌<◌, ◌≤◌, List, ◌∷◌, length, Option, Some, None, refl, ap, sym, ◌∙◌, arith}
+use Rattle.std.proofs.Common.{◌≡◌, ℕ, zero, suc, ◌+◌, ◌<◌, ◌≤◌, length, Option, Some, None, refl, ap, sym, ◌∙◌, arith}
 use Rattle.sp_form.specs.Form.{bind}
 use Rattle.sp_form.specs.Places.{Input, Placed, Got, Faulty, Short, placed}
 use Rattle.sp_form.proofs.Places.{placed_short, takes_field}

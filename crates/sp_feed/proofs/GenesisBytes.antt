@@ -1,7 +1,6 @@
 -- The bytes that are taken for a genesis block are those that spell one.
-use Rattle.std.proofs.Common.{◌≡◌, ℕ, ◌<◌, ◌≤◌, ◌↔◌, Bool, true, false, leb, eqb, ◌&&◌, IsTrue, List, [], ◌∷◌, length, Result, Ok, Err, refl, sym, ap, subst, ◌∙◌, arith}
+use Rattle.std.proofs.Common.{◌≡◌, ℕ, ◌<◌, ◌≤◌, Bool, true, false, leb, ◌&&◌, List, length, Result, Ok, Err, refl, sym, ap, subst, ◌∙◌, arith}
 use Rattle.std.proofs.lemmas.Bool.{le-leb, lt-leb, leb-true, eqb-true, ne_eqb}
-use Rattle.sp_form.specs.Form.{HasFault}
 use Rattle.sp_form.specs.Reading.{read}
 use Rattle.sp_form.proofs.FormLaws.{reads_fault, reads_spelled}
 use Rattle.sp_form.proofs.Texts.{reads_all}

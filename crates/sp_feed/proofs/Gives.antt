@@ -1,5 +1,5 @@
 -- What a call read by a format is what it says of the feed.
-use Rattle.std.proofs.Common.{◌≡◌, ℕ, ◌+◌, ◌-◌, ◌<◌, ◌≤◌, List, ◌++◌, length, take, Option, Result, Ok, Err, refl, ap, sym, ◌∙◌, arith, length-append}
+use Rattle.std.proofs.Common.{◌≡◌, ℕ, ◌+◌, ◌-◌, List, ◌++◌, length, take, Option, Result, Ok, Err, refl, ap, sym, ◌∙◌, arith, length-append}
 use Rattle.std.proofs.Math.Seq.{take-append_seam, take-length}
 use Rattle.sp_form.specs.Form.{Form}
 use Rattle.sp_form.specs.Places.{Placed, placed, Short}
@@ -10,7 +10,7 @@ use Rattle.sp_feed.specs.declared.fault.HeadFault.TheVariants as heads
 use Rattle.sp_feed.specs.Kinds.{Said}
 use Rattle.sp_feed.specs.Feed.{feed, judged, no_head, no_more, rest_of, TooLong}
 use Rattle.sp_feed.specs.Format.{Flaw, frame_form, Head, head_form}
-use Rattle.sp_feed.specs.Reads.{Moment, Took, StopsShort, Says, Reads, SaysFront, ReadsFront}
+use Rattle.sp_feed.specs.Reads.{Moment, Took, Says, Reads, SaysFront, ReadsFront}
 use Rattle.sp_feed.specs.Calls.{SaysFault, SaysHead, GivesHead, SaysNext, GivesNext}
 use Rattle.sp_feed.proofs.Rests.{rest_more, rest_faulty, rest_truncated, rest_too_long, feed_more, feed_faulty, feed_truncated, feed_too_long}
 

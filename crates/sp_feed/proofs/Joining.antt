@@ -1,17 +1,15 @@
 -- One reading after another.
-use Rattle.std.proofs.Common.{◌≡◌, ℕ, ◌+◌, ◌-◌, ◌<◌, ◌≤◌, List, [], ◌∷◌, ◌++◌, length, take, Option, Result, Ok, Err, inl, inr, ◌⊎◌, refl, ap, sym, ◌∙◌, arith, length-append, append_assoc}
-use Rattle.std.specs.Io.KnownBytes.{Consumes}
+use Rattle.std.proofs.Common.{◌≡◌, ℕ, ◌<◌, ◌≤◌, List, [], ◌∷◌, ◌++◌, length, Result, Ok, Err, inl, inr, ◌⊎◌, refl, ap, sym, ◌∙◌, arith, length-append, append_assoc}
 use Rattle.sp_form.specs.Form.{bind, Form, whole}
-use Rattle.sp_form.specs.Places.{go_on, Got, Faulty, Short, placed}
+use Rattle.sp_form.specs.Places.{go_on, Got, Short, placed}
 use Rattle.sp_form.proofs.Places.{placed_then}
 use Rattle.sp_io.proofs.Known.{consumes_then}
 use Rattle.sp_feed.specs.declared.fault.FeedFault.{FeedFault}
 use Rattle.sp_feed.specs.declared.fault.FeedFault.TheVariants.{Malformed, Truncated, ReadFault, TooLong}
-use Rattle.sp_feed.specs.declared.fault.HeadFault.{HeadFault}
-use Rattle.sp_feed.specs.declared.fault.HeadFault.TheVariants.{Feed, Memory}
+use Rattle.sp_feed.specs.declared.fault.HeadFault.TheVariants.{Feed}
 use Rattle.sp_feed.specs.Feed.{judged}
 use Rattle.sp_feed.specs.Format.{Flaw}
-use Rattle.sp_feed.specs.Reads.{Moment, Took, StopsShort, Says, Needs, Reads, SaysFront, ReadsFront}
+use Rattle.sp_feed.specs.Reads.{Moment, Took, StopsShort, Says, Needs, Reads, ReadsFront}
 
 pub took_then : (limit : ℕ) (a b c : Moment) (xs ys : List ℕ) → Took limit a b xs → Took limit b c ys → Took limit a c (xs ++ ys)
 took_then limit a b c xs ys p q = record {

@@ -1,18 +1,17 @@
 -- What a filled buffer says of a field.
-use Rattle.std.proofs.Common.{◌≡◌, ℕ, ◌+◌, ◌-◌, ◌<◌, ◌≤◌, List, [], ◌∷◌, ◌++◌, length, take, Option, Some, None, Result, Ok, Err, refl, ap, sym, ◌∙◌, Bool, true, false, cond, nat_eq, nat_le, arith, length-append, subst, inl, inr}
+use Rattle.std.proofs.Common.{◌≡◌, ℕ, ◌+◌, ◌-◌, ◌≤◌, List, [], ◌∷◌, ◌++◌, length, take, Option, Some, None, Ok, Err, ap, sym, ◌∙◌, Bool, true, false, cond, arith, length-append, subst}
 use Rattle.std.proofs.Math.Seq.{take-append-add}
 use Rattle.std.proofs.lemmas.List.{length-take, append-nil}
-use Rattle.std.proofs.lemmas.Bool.{le-leb, lt-leb, eq-eqb, ne_eqb}
 use Rattle.std.specs.Io.KnownBytes.{Consumes}
 use Rattle.sp_form.specs.Form.{Form, whole, field, first_broken, Rule, rule}
-use Rattle.sp_form.specs.Places.{Input, Placed, Got, Faulty, Short, placed, unless_broken}
+use Rattle.sp_form.specs.Places.{Got, Short, placed, unless_broken}
 use Rattle.sp_form.proofs.Places.{placed_short, placed_whole}
 use Rattle.sp_io.proofs.Known.{consumes_then}
 use Rattle.sp_feed.specs.declared.fault.FeedFault.{FeedFault}
 use Rattle.sp_feed.specs.declared.fault.FeedFault.TheVariants.{Malformed, Truncated, ReadFault, TooLong}
 use Rattle.sp_feed.specs.Feed.{judged}
 use Rattle.sp_feed.specs.Format.{broken, cut, Flaw}
-use Rattle.sp_feed.specs.Reads.{Moment, Took, StopsShort, Says, Needs, Reads, FillsBy, Fills}
+use Rattle.sp_feed.specs.Reads.{Moment, Took, StopsShort, Says, Needs, Reads, Fills}
 
 -- the bytes that are judged begin with those that were given
 pub judged-append : (limit before now : ℕ) (given more : List ℕ) → now ≡ before + length given → now ≤ limit → judged limit before (given ++ more) ≡ record { at = before; bytes = given ++ take (limit - now) more }

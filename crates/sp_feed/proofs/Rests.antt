@@ -1,10 +1,10 @@
 -- A feed and its rest, by what stands next.
-use Rattle.std.proofs.Common.{◌≡◌, ℕ, ◌+◌, ◌-◌, ◌<◌, ◌≤◌, List, [], ◌∷◌, ◌++◌, length, take, drop, Option, Some, None, refl, ap, sym, ◌∙◌, cond, arith, length-append, take-append-drop}
+use Rattle.std.proofs.Common.{◌≡◌, ℕ, ◌+◌, ◌-◌, ◌<◌, ◌≤◌, List, ◌∷◌, ◌++◌, length, take, drop, Option, Some, None, ap, sym, ◌∙◌, cond, arith, length-append, take-append-drop}
 use Rattle.std.proofs.Math.Seq.{drop-append-add}
 use Rattle.std.proofs.lemmas.Bool.{le-leb, lt-leb}
 use Rattle.sp_form.specs.Places.{Got, Faulty, Placed, placed, Short}
 use Rattle.sp_feed.specs.Kinds.{Said}
-use Rattle.sp_feed.specs.Feed.{after_frame, all_frames, Cut, end_of, Ended, feed, Feed, feed_by, feed_of, judged, Malformed, no_head, no_more, one_more, Rest, rest_by, rest_of, Run, run_of, Stop, TooLong, Truncated, Whole, with_head}
+use Rattle.sp_feed.specs.Feed.{after_frame, all_frames, Cut, end_of, Ended, feed, feed_of, judged, Malformed, no_head, no_more, rest_by, rest_of, run_of, Stop, TooLong, Truncated, Whole, with_head}
 use Rattle.sp_feed.specs.Format.{frame_form, Head, head_form}
 use Rattle.sp_feed.proofs.FrameRuns.{frame_by_frame}
 

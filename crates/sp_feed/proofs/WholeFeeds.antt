@@ -1,16 +1,16 @@
 -- A whole feed, call by call.
-use Rattle.std.proofs.Common.{◌≡◌, ℕ, ◌+◌, ◌-◌, ◌<◌, ◌≤◌, List, [], ◌∷◌, ◌++◌, length, take, Option, Some, None, Result, Ok, Err, refl, ap, sym, ◌∙◌, arith, append_assoc, subst, IsTrue, true, false}
+use Rattle.std.proofs.Common.{◌≡◌, ℕ, ◌≤◌, List, [], ◌∷◌, ◌++◌, Option, Some, None, Result, Ok, Err, refl, ap, sym, ◌∙◌, arith, append_assoc, subst, IsTrue}
 use Rattle.std.specs.Io.KnownBytes.{Consumes, IsAtEnd}
 use Rattle.sp_feed.specs.declared.fault.FeedFault.{FeedFault}
 use Rattle.sp_feed.specs.declared.fault.FeedFault.TheVariants as faults
 use Rattle.sp_feed.specs.declared.fault.HeadFault.{HeadFault}
 use Rattle.sp_feed.specs.declared.fault.HeadFault.TheVariants as heads
-use Rattle.sp_feed.specs.Kinds.{messages_of, Said}
-use Rattle.sp_feed.specs.Feed.{after_frame, feed, Feed, Malformed, no_more, one_more, Rest, rest_of, TooLong, Truncated, Whole}
+use Rattle.sp_feed.specs.Kinds.{Said}
+use Rattle.sp_feed.specs.Feed.{after_frame, feed, Feed, Malformed, no_more, Rest, rest_of, TooLong, Truncated, Whole}
 use Rattle.sp_feed.specs.Format.{Head}
 use Rattle.sp_feed.specs.Reads.{Moment, moment, Took}
 use Rattle.sp_feed.specs.Reader.{Stage, AtStart, AtFrames, Behind, Dead, is_open, is_behind}
-use Rattle.sp_feed.specs.Calls.{SaysFault, SaysHead, GivesHead, SaysNext, GivesNext, SaysAll, GivesAll, BeginsWith, IsFeed, ReadsFeed}
+use Rattle.sp_feed.specs.Calls.{SaysFault, SaysHead, GivesHead, GivesNext, SaysAll, GivesAll, BeginsWith, IsFeed, ReadsFeed}
 use Rattle.sp_feed.specs.Told.{told}
 use Rattle.sp_feed.specs.declared.message.Message.{Message}
 use Rattle.sp_feed.specs.declared.message.Message.TheVariants as variants

@@ -1,21 +1,20 @@
 -- What is written is read.
-use Rattle.std.proofs.Common.{◌≡◌, ℕ, ◌+◌, ◌-◌, ◌<◌, ◌≤◌, ◌^◌, List, [], ◌∷◌, ◌++◌, length, take, drop, Option, Some, None, refl, ap, sym, ◌∙◌, Bool, true, leb, arith, append_assoc, length-append}
+use Rattle.std.proofs.Common.{◌≡◌, ℕ, ◌+◌, ◌-◌, ◌<◌, ◌≤◌, ◌^◌, List, [], ◌∷◌, ◌++◌, length, take, drop, Option, Some, None, refl, ap, ◌∙◌, true, leb, arith, append_assoc, length-append}
 use Rattle.std.specs.Prelude.{is_some, unwrap_or}
 use Rattle.std.specs.Int.{w32, to_le_bytes, from_le_bytes}
 use Rattle.std.proofs.lemmas.Bool.{eq-eqb, le-leb}
 use Rattle.std.proofs.lemmas.List.{drop_at, take_at}
 use Rattle.std.proofs.lemmas.Nat.{from_le_bytes-to_le_bytes_4}
 use Rattle.sp_form.specs.Form.{bind, Form, field, first_broken, rule, Rule, whole}
-use Rattle.sp_form.specs.Places.{Got, Input, placed, Placed}
+use Rattle.sp_form.specs.Places.{Got, placed, Placed}
 use Rattle.sp_form.specs.Values.{byte, bytes_form}
 use Rattle.sp_form.proofs.Places.{placed_passes}
 use Rattle.sp_ids.specs.Digits.{length-bytes_of, number_of_bytes}
 use Rattle.sp_ids.specs.Key.{bytes_of, number_of}
-use Rattle.sp_block.specs.Spelling.{SpellsBlock}
 use Rattle.sp_feed.specs.declared.kind.Kind.{Kind}
 use Rattle.sp_feed.specs.declared.kind.Kind.TheVariants.{Block, Vote, End}
-use Rattle.sp_feed.specs.Feed.{after_frame, feed, judged, one_more, rest_of, Whole, with_head}
-use Rattle.sp_feed.specs.Format.{bits_form, block_letter_form, broken, cut, Flaw, frame_form, genesis_form, Head, head_form, head_of, length_form, name}
+use Rattle.sp_feed.specs.Feed.{after_frame, feed, one_more, rest_of, Whole, with_head}
+use Rattle.sp_feed.specs.Format.{broken, cut, Flaw, frame_form, genesis_form, Head, head_form, head_of, length_form, name}
 use Rattle.sp_feed.specs.Genesis.{is_genesis}
 use Rattle.sp_feed.specs.Kinds.{allows, kind_of, letter, Said, said, SaysBlock, SaysVote}
 use Rattle.sp_feed.specs.Spelling.{AllFit, Fits, framed, frames_of, spelled, written, WrittenIsRead}

@@ -1,6 +1,5 @@
 -- What contracts see of a reader: its limit, the bytes taken so far, and where it stands.
 use Rattle.std.specs.Prelude.{◌≡◌, ◌≤◌, ℕ, List, Bool, true, false, IsTrue, Option, None}
-use Rattle.sp_block.specs.Block.{ReadBlock}
 use Rattle.sp_feed.specs.declared.kind.Kind.{Kind}
 use Rattle.sp_feed.specs.declared.phase.Phase.{Phase}
 use Rattle.sp_feed.specs.declared.phase.Phase.TheVariants.{Fresh, Ready, Holding, Closed}

@@ -1,9 +1,9 @@
 //! Reads a feed off a source, a message at a time: its head, with the bits of work and the genesis
 //! block, then frames up to the frame `E`, and not a byte more.
 //!
-//! `specs/Feed.antt` says what the messages of a feed are, given all its bytes; the bytes may come in
+//! `specs/Feed.antt` says what the messages of a feed are, given all its bytes; here they come in
 //! any pieces. `read_all` reads a whole feed, and its contract is the theorem over such a run. The
-//! crates of commands that take a feed stand on this one.
+//! crates behind the commands that take a feed stand on this one.
 #![tactic(auto)]
 
 mod fault;

@@ -147,8 +147,8 @@ impl FeedReader {
         Ok(())
     }
 
-    /// The message that the last `next` read, where that gave `Ok`. A payload is lent as it stands in
-    /// the reader's buffer.
+    /// The message that the last `next` read, where that gave `Ok`. A payload is lent as it stands
+    /// in the reader's buffer.
     pub fn message(&self) -> Message<'_>
         requires { IsTrue (is_behind self.now.stage) }
         ensures { told result ≡ last_of self.now.stage }

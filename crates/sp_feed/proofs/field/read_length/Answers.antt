@@ -1,4 +1,4 @@
-use Rattle.std.proofs.Common.{◌∷◌, [], ap, refl, sym, ◌∙◌}
+use Rattle.std.proofs.Common.{◌∷◌, [], ap, sym, ◌∙◌}
 use Rattle.std.proofs.lemmas.Result.{err_from_is_err_and}
 use Rattle.std.specs.Int.{w32, from_le_bytes}
 use Rattle.sp_form.specs.Form.{rule}

@@ -1,9 +1,8 @@
-use Rattle.std.proofs.Common.{◌≡◌, ◌++◌, None, Some, refl, ap, sym, ◌∙◌, subst, arith}
+use Rattle.std.proofs.Common.{◌≡◌, ◌++◌, None, Some, refl, ap, sym, ◌∙◌, arith}
 use Rattle.std.proofs.lemmas.Result.{err_from_is_err_and}
-use Rattle.sp_feed.specs.Kinds.{messages_of, Said}
-use Rattle.sp_feed.specs.Reader.{head_in, last_of}
+use Rattle.sp_feed.specs.Kinds.{messages_of}
+use Rattle.sp_feed.specs.Reader.{last_of}
 use Rattle.sp_feed.specs.Reads.{moment}
-use Rattle.sp_feed.specs.Told.{told}
 use Rattle.sp_feed.proofs.WholeFeeds.{all_end, all_fault, all_head, all_memory, all_refused, behind_open, from_limit, from_start, not_behind, opened, so_far_head, so_far_more, tells}
 use Rattle.sp_feed.proofs.run.read_messages.Goals as goal
 
