@@ -81,6 +81,7 @@ clear-view row s place long within is =
 
 -- the list of a row is what each row is
 pub IsRow-view : (row : List Bool) (s : List ℕ) → places_where (at row) ≡ s → IsRow s
+unfolding IsRow
 IsRow-view row s is = sym is ∙ places_same (at row) (has s) (λ k le. has-view row s k is le)
 
 -- the places where two rows are true are those of their meet
@@ -100,7 +101,7 @@ count-view row s is = places_same (λ k. at row k && at row k) (at row) (λ k le
 
 -- the meet of a row with another is what of its list the other has
 pub meet-filter : (s t : List ℕ) → IsRow s → meet s t ≡ filter (has t) s
-unfolding places_where
+unfolding places_where IsRow
 meet-filter s t row = sym (ap (filter (has t)) row ∙ filter_twice (has s) (has t) (range_with_len 0 512))
   where
     filter_twice : (p q : ℕ → Bool) (xs : List ℕ) → filter q (filter p xs) ≡ filter (λ k. p k && q k) xs

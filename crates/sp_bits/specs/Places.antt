@@ -11,7 +11,7 @@ unfoldable pub places_where : (ℕ → Bool) → List ℕ
 places_where test = filter test (range_with_len 0 512)
 
 -- what each row is: the ascending list of the places below 512 that it has
-abbrev pub IsRow : List ℕ → Type 0
+unfoldable pub IsRow : List ℕ → Type 0
 IsRow set = set ≡ places_where (has set)
 
 abbrev pub union : List ℕ → List ℕ → List ℕ
