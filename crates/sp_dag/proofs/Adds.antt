@@ -1,5 +1,5 @@
 -- A table with one block more is right.
-use Rattle.std.proofs.Common.{◌≡◌, ℕ, zero, suc, ◌+◌, ◌*◌, ◌<◌, ◌≤◌, ◌||◌, Bool, true, false, cond, not, Option, List, [], ◌∷◌, ◌++◌, length, map, get_or, sym, ap, subst, ◌∙◌, inl, inr, eqb, arith, length-append, add-one}
+use Rattle.std.proofs.Common.{◌≡◌, ℕ, zero, suc, ◌+◌, ◌*◌, ◌<◌, ◌≤◌, ◌||◌, Bool, true, false, cond, not, Option, List, [], ◌∷◌, ◌++◌, length, map, get_or, sym, ap, subst, ◌∙◌, inl, inr, eqb, arith, length-append}
 use Rattle.std.specs.Prelude.{filter, if◌then◌else◌, All}
 use Rattle.std.specs.List.{range_with_len}
 use Rattle.std.proofs.Math.ListN.{get_or-append, length-map}
@@ -9,7 +9,7 @@ use Rattle.sp_model.specs.Graph.{has, in_past}
 use Rattle.sp_bits.specs.Places.{places_where}
 use Rattle.sp_bits.specs.Members.{has-places_where}
 use Rattle.sp_bits.proofs.Sets.{places_same}
-use Rattle.sp_dag.specs.Numbered.{graph_of, pairs_below}
+use Rattle.sp_dag.specs.Numbered.{graph_of}
 use Rattle.sp_dag.specs.Rows.{is_reached}
 use Rattle.sp_dag.specs.Right.{AreRight}
 use Rattle.sp_dag.specs.Indexed.{AreIndexed, AreNewIndexed}
@@ -101,7 +101,7 @@ AreRight-push table pasts futures pairs indices ps past later more row h adds =
           (λ a le. adds.rows a le ∙ future-grown table ps past (get_or futures a []) a h.order adds.room (has_past a le) (h.futures_right a le)) (future-new table ps h.order adds.before) z (omega (arith, grown, le));
       pairs_right =
           adds.is_more ∙ ap (λ (l : List (ℕ × ℕ)). l ++ new_pairs past n) h.pairs_right
-          ∙ sym (pairs-grown table ps past h.order has_past) ∙ ap (pairs_below g) (sym (add-one n) ∙ sym grown);
+          ∙ sym (pairs-grown table ps past h.order has_past);
       indexed =
           subst (λ (l : List (ℕ × ℕ)). AreIndexed l (indices ++ row ∷ [])) (sym adds.is_more)
           (AreIndexed-push pairs (new_pairs past n) indices past n row h.indexed (sym h.indices_long) new);

@@ -1,5 +1,5 @@
 -- The rows and pairs of a graph with one block more.
-use Rattle.std.proofs.Common.{◌≡◌, ◌≢◌, ℕ, suc, ◌+◌, ◌<◌, ◌≤◌, Bool, true, false, ◌||◌, ◌&&◌, not, List, [], ◌∷◌, ◌++◌, zero, cond, length, map, get_or, refl, sym, ap, ◌∙◌, inl, inr, eqb, arith, append-nil, length-append, ◌⊎◌}
+use Rattle.std.proofs.Common.{◌≡◌, ◌≢◌, ℕ, suc, ◌+◌, ◌<◌, ◌≤◌, Bool, true, false, ◌||◌, ◌&&◌, not, List, [], ◌∷◌, ◌++◌, zero, cond, length, map, get_or, refl, sym, ap, ◌∙◌, inl, inr, eqb, arith, append-nil, length-append, add-one, ◌⊎◌}
 use Rattle.std.specs.Prelude.{filter, if◌then◌else◌}
 use Rattle.std.specs.List.{range_with_len, flat_map}
 use Rattle.std.proofs.lemmas.Bool.{cases_lt, eqb-true, eq-eqb, false≢true}
@@ -13,7 +13,7 @@ use Rattle.sp_dag.proofs.Pushes.{in_past-push, in_past-new, new_in_no_past}
 use Rattle.sp_bits.specs.Places.{places_where}
 use Rattle.sp_bits.specs.Members.{has-places_where}
 use Rattle.sp_bits.proofs.Sets.{places_same, filter_same}
-use Rattle.sp_dag.specs.Numbered.{graph_of, AreInOrder, unrelated_below, pairs_below}
+use Rattle.sp_dag.specs.Numbered.{graph_of, AreInOrder, unrelated_below, pairs_of}
 use Rattle.sp_dag.specs.Rows.{is_reached}
 use Rattle.sp_dag.proofs.NewPairs.{range_more}
 use Rattle.sp_dag.proofs.Keys.{block, graph_of-push, key_out, all_complete, in_past-absent}
@@ -94,17 +94,22 @@ flat_map_same f g a (suc n) h =
     ∙ ap (λ (l : List (ℕ × ℕ)). g a ++ l) (flat_map_same f g (a + 1) n (λ y le. h y (omega arith)))
 
 -- the pairs are those from before, and then the new block's
-pub pairs-grown : (table : List (List ℕ)) (ps past : List ℕ) → AreInOrder table → ((x : ℕ) → x < length table → has past x ≡ in_past (graph_of (table ++ ps ∷ [])) x (length table))
-    → pairs_below (graph_of (table ++ ps ∷ [])) (suc (length table))
-    ≡ pairs_below (graph_of table) (length table) ++ map (λ x. (x, length table)) (filter (λ x. not (has past x)) (range_with_len 0 (length table)))
-pairs-grown table ps past order row =
+pub pairs_behind : (table : List (List ℕ)) (ps : List ℕ) → AreInOrder table
+    → pairs_of (table ++ ps ∷ []) ≡ pairs_of table ++ map (λ x. (x, length table)) (unrelated_below (graph_of (table ++ ps ∷ [])) (length table))
+pairs_behind table ps order =
     let after : ℕ → List (ℕ × ℕ) = λ y. map (λ x. (x, y)) (unrelated_below (graph_of (table ++ ps ∷ [])) y) in
     let before : ℕ → List (ℕ × ℕ) = λ y. map (λ x. (x, y)) (unrelated_below (graph_of table) y) in
-    ap (flat_map after) (range_more 0 (length table) (length table) (omega arith)) ∙ flat_map-append after (range_with_len 0 (length table)) (length table ∷ [])
+    ap (λ (n : ℕ). flat_map after (range_with_len 0 n)) (length-append table (ps ∷ []) ∙ add-one (length table))
+    ∙ ap (flat_map after) (range_more 0 (length table) (length table) (omega arith)) ∙ flat_map-append after (range_with_len 0 (length table)) (length table ∷ [])
     ∙ ap (λ (l : List (ℕ × ℕ)). l ++ flat_map after (length table ∷ []))
     (flat_map_same after before 0 (length table) (λ y ly. ap (map (λ x. (x, y))) (unrelated_old table ps y order (omega arith))))
-    ∙ ap (λ (l : List (ℕ × ℕ)). flat_map before (range_with_len 0 (length table)) ++ l)
-    (append-nil (after (length table)) ∙ ap (map (λ x. (x, length table))) (unrelated-new table ps past order row))
+    ∙ ap (λ (l : List (ℕ × ℕ)). flat_map before (range_with_len 0 (length table)) ++ l) (append-nil (after (length table)))
+
+-- the same, by the row of the new block's past
+pub pairs-grown : (table : List (List ℕ)) (ps past : List ℕ) → AreInOrder table → ((x : ℕ) → x < length table → has past x ≡ in_past (graph_of (table ++ ps ∷ [])) x (length table))
+    → pairs_of (table ++ ps ∷ []) ≡ pairs_of table ++ map (λ x. (x, length table)) (filter (λ x. not (has past x)) (range_with_len 0 (length table)))
+pairs-grown table ps past order row =
+    pairs_behind table ps order ∙ ap (λ (l : List ℕ). pairs_of table ++ map (λ x. (x, length table)) l) (unrelated-new table ps past order row)
 
 -- the past of another number than the new one stays
 past-other : (table : List (List ℕ)) (ps : List ℕ) (a z : ℕ) → AreInOrder table → eqb z (length table) ≡ false → in_past (graph_of (table ++ ps ∷ [])) a z ≡ in_past (graph_of table) a z

@@ -1,10 +1,12 @@
 -- The ids of the numbered blocks, and a new block behind them.
-use Rattle.std.proofs.Common.{◌≡◌, ℕ, zero, suc, ◌+◌, ◌<◌, ◌≤◌, Bool, true, false, cond, ◌||◌, List, [], ◌∷◌, ◌++◌, length, map, get_or, refl, sym, ap, subst, ◌∙◌, inl, inr, eqb, Option, Some, None, arith, length-append}
+use Rattle.std.proofs.Common.{◌≡◌, ℕ, zero, suc, ◌+◌, ◌<◌, Bool, true, false, cond, ◌||◌, not, List, [], ◌∷◌, ◌++◌, length, map, get_or, refl, sym, ap, subst, ◌∙◌, inl, inr, eqb, Option, Some, None, arith, length-append}
 use Rattle.std.specs.Prelude.{All, slice_get, position, unwrap_or, if◌then◌else◌}
-use Rattle.std.specs.List.{list_any}
+use Rattle.std.specs.List.{list_any, position_or_len}
 use Rattle.std.proofs.Math.ListN.{get_or-append, length-map}
 use Rattle.std.proofs.Math.Seq.{get_or-append_seam}
-use Rattle.std.proofs.lemmas.Bool.{cases_lt, eqb-true, false≢true}
+use Rattle.std.proofs.lemmas.Bool.{cases_lt, eqb-true, eq-eqb, false≢true, or_left, or_right, lt-ltb}
+use Rattle.std.proofs.lemmas.List.Folds.{position_or_len_push}
+use Rattle.std.proofs.lemmas.List.Sums.{passes_at_first}
 use Rattle.std.proofs.lemmas.Option.{slice_get-get_or}
 use Rattle.std.proofs.lemmas.List.Elements.{All-map}
 use Rattle.std.proofs.lemmas.List.Quantifiers.{position-Some}
@@ -12,7 +14,7 @@ use Rattle.indexmap.specs.IndexSet.{insert_key}
 use Rattle.sp_model.specs.Graph.{AreDistinct, has}
 use Rattle.sp_dag.specs.Numbered.{Numbered, IsNumbered, number_of, with_block}
 use Rattle.sp_dag.proofs.Reach.{eqb_flip}
-use Rattle.sp_dag.proofs.Grown.{AreBefore, AreInOrder-push}
+use Rattle.sp_dag.proofs.Grown.{AreInOrder-push}
 use Rattle.sp_dag.proofs.Adds.{AreBefore-all}
 
 -- the number that a look-up finds is one of the id
@@ -34,6 +36,66 @@ numbers_below ids parents numbers n some long is =
     subst (λ (l : List ℕ). All (λ p. p < n) l) (sym is)
     (All-map (λ p. p < n) (number_of ids) parents
     (λ k d le. let below : number_of ids (get_or parents k d) < length ids = number_below ids (get_or parents k d) some in omega arith))
+
+-- an id that is there is found
+found_before : (ids : List ℕ) (id : ℕ) → has ids id ≡ true → position_or_len (eqb id) ids < length ids
+found_before [] id there = absurd (false≢true there)
+found_before (x ∷ xs) id there = at (eqb x id) (eqb id x) (eqb_flip id x) there (found_before xs id)
+  where
+    at : (c d : Bool) → d ≡ c → (c || has xs id) ≡ true → (has xs id ≡ true → position_or_len (eqb id) xs < length xs)
+        → cond (not d) (1 + position_or_len (eqb id) xs) 0 < suc (length xs)
+    at c true same there rest = omega arith
+    at true false same there rest = absurd (false≢true same)
+    at false false same there rest = (let less : position_or_len (eqb id) xs < length xs = rest there in omega arith)
+
+number_is : (ids : List ℕ) (id : ℕ) → position_or_len (eqb id) ids < length ids → number_of ids id ≡ position_or_len (eqb id) ids
+number_is ids id le =
+    ap (λ (c : Bool). unwrap_or (cond c (Some (position_or_len (eqb id) ids)) None) 0) (lt-ltb (position_or_len (eqb id) ids) (length ids) le)
+
+-- the number of an id is that of a block with the id
+pub id_of_number : (ids : List ℕ) (id : ℕ) → has ids id ≡ true → slice_get ids (number_of ids id) ≡ Some id
+id_of_number ids id there =
+    let inside : position_or_len (eqb id) ids < length ids = found_before ids id there in
+    ap (slice_get ids) (number_is ids id inside) ∙ slice_get-get_or ids (position_or_len (eqb id) ids) 0 inside
+    ∙ ap (λ (k : ℕ). Some k) (sym (eqb-true id (get_or ids (position_or_len (eqb id) ids) 0) (passes_at_first (eqb id) ids 0 inside)))
+
+-- what stands in a list is a member
+has-slice_get : (ids : List ℕ) (id n : ℕ) → slice_get ids n ≡ Some id → has ids id ≡ true
+has-slice_get [] id n there = cc
+has-slice_get (x ∷ xs) id zero there =
+    (let same : x ≡ id = ap (λ (o : Option ℕ). unwrap_or o 0) there in or_left (eqb x id) (has xs id) (eq-eqb x id same))
+has-slice_get (x ∷ xs) id (suc n) there = or_right (eqb x id) (has xs id) (has-slice_get xs id n there)
+
+one_place : (ids : List ℕ) (id m n : ℕ) → AreDistinct ids → slice_get ids m ≡ Some id → slice_get ids n ≡ Some id → m ≡ n
+one_place [] id m n h first second = cc
+one_place (x ∷ xs) id zero zero h first second = refl
+one_place (x ∷ xs) id zero (suc n) h first second =
+    (let same : x ≡ id = ap (λ (o : Option ℕ). unwrap_or o 0) first in
+    absurd (false≢true (sym h.0 ∙ ap (has xs) same ∙ has-slice_get xs id n second)))
+one_place (x ∷ xs) id (suc m) zero h first second =
+    (let same : x ≡ id = ap (λ (o : Option ℕ). unwrap_or o 0) second in
+    absurd (false≢true (sym h.0 ∙ ap (has xs) same ∙ has-slice_get xs id m first)))
+one_place (x ∷ xs) id (suc m) (suc n) h first second = ap suc (one_place xs id m n h.1 first second)
+
+-- a block's number is that of its id
+pub number_of_id : (ids : List ℕ) (id n : ℕ) → AreDistinct ids → slice_get ids n ≡ Some id → number_of ids id ≡ n
+number_of_id ids id n h there = one_place ids id (number_of ids id) n h (id_of_number ids id (has-slice_get ids id n there)) there
+
+-- an id that is added changes no number
+pub number_of_stays : (ids : List ℕ) (id other : ℕ) → has ids id ≡ true → number_of (ids ++ other ∷ []) id ≡ number_of ids id
+number_of_stays ids id other there =
+    let inside : position_or_len (eqb id) ids < length ids = found_before ids id there in
+    let same : position_or_len (eqb id) (ids ++ other ∷ []) ≡ position_or_len (eqb id) ids =
+    position_or_len_push (eqb id) ids other
+    ∙ ap (λ (c : Bool). cond c (length ids + cond (eqb id other) 0 1) (position_or_len (eqb id) ids)) (apart (position_or_len (eqb id) ids) (length ids) inside) in
+    number_is (ids ++ other ∷ []) id (omega (arith, length-append ids (other ∷ []))) ∙ same ∙ sym (number_is ids id inside)
+  where
+    apart : (m n : ℕ) → m < n → eqb m n ≡ false
+    apart m n le = at (eqb m n) refl
+      where
+        at : (c : Bool) → eqb m n ≡ c → c ≡ false
+        at true e = (let equal : m ≡ n = eqb-true m n e in absurd (omega arith))
+        at false e = refl
 
 -- an id that isn't there goes last
 pub keys-fresh : (ids : List ℕ) (id : ℕ) → has ids id ≡ false → insert_key eqb ids id ≡ ids ++ id ∷ []
@@ -107,6 +169,7 @@ IsNumbered-adds blocks id parents ids table keys numbers new_table view h fresh 
     let pushed : keys ≡ ids ++ id ∷ [] = is_keys ∙ keys-fresh ids id fresh_here in
     let new = IsNumbered-push ids table id numbers h fresh_here (omega arith) (omega arith) (numbers_below ids parents numbers (length table) ids_some h.long is_numbers) in
     let is : numbered keys new_table ≡ numbered (ids ++ id ∷ []) (table ++ numbers ∷ []) =
-    ap (λ (l : List ℕ). numbered l new_table) pushed ∙ ap (λ (l : List (List ℕ)). numbered (ids ++ id ∷ []) l) is_table in
-    (subst IsNumbered (sym is) new,
-    is ∙ ap (λ (l : List ℕ). numbered (ids ++ id ∷ []) (table ++ l ∷ [])) is_numbers ∙ ap (λ (b : Numbered). with_block b id parents) view)
+    ap (λ (l : List ℕ). numbered l new_table) pushed ∙ ap (λ (l : List (List ℕ)). numbered (ids ++ id ∷ []) l) is_table in (
+      subst IsNumbered (sym is) new,
+      is ∙ ap (λ (l : List ℕ). numbered (ids ++ id ∷ []) (table ++ l ∷ [])) is_numbers ∙ ap (λ (b : Numbered). with_block b id parents) view,
+    )

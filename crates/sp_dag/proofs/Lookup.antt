@@ -5,9 +5,9 @@ use Rattle.std.proofs.lemmas.Bool.{cases_lt, eqb-true, eq-eqb, false≢true, or_
 use Rattle.std.proofs.lemmas.List.{get_or_default}
 use Rattle.sp_model.specs.Graph.{Graph, in_past, related}
 use Rattle.sp_dag.specs.Numbered.{graph_of, pairs_of, IsPair}
-use Rattle.sp_dag.specs.Indexed.{AreIndexed, index_at}
+use Rattle.sp_dag.specs.Indexed.{index_at}
 use Rattle.sp_dag.specs.Right.{AreRight}
-use Rattle.sp_dag.proofs.Reach.{eqb_flip, same_bool}
+use Rattle.sp_dag.proofs.Reach.{eqb_flip}
 use Rattle.sp_dag.proofs.Whole.{pair_kind}
 
 or_comm : (c d : Bool) → (c || d) ≡ (d || c)
@@ -50,20 +50,24 @@ joined_sorted table x y =
 pub none_where_joined : (table pasts futures : List (List ℕ)) (pairs : List (ℕ × ℕ)) (indices : List (List (Option ℕ))) (low high : ℕ) (found : Option ℕ)
     → AreRight table pasts futures pairs indices → low ≤ high → high < length table → found ≡ index_at indices low high
     → IsNone found ↔ (are_joined table low high ≡ true)
-none_where_joined table pasts futures pairs indices low high None h le inside is =
-    (λ _. elim (cases_lt low high) [
-      | inl less ↦ or_right (eqb low high) (related (graph_of table) low high)
-          (ap (λ (c : Bool). not c && (in_past (graph_of table) low high || in_past (graph_of table) high low)) (apart low high less)
-          ∙ or_left (in_past (graph_of table) low high) (in_past (graph_of table) high low) (h.unlisted low high less inside (sym is)))
-      | inr same ↦ or_left (eqb low high) (related (graph_of table) low high) (eq-eqb low high (omega arith))
-    ], λ _. refl)
+none_where_joined table pasts futures pairs indices low high None h le inside is = (
+  λ _. elim (cases_lt low high) [
+    | inl less ↦ or_right (eqb low high) (related (graph_of table) low high)
+        (ap (λ (c : Bool). not c && (in_past (graph_of table) low high || in_past (graph_of table) high low)) (apart low high less)
+        ∙ or_left (in_past (graph_of table) low high) (in_past (graph_of table) high low) (h.unlisted low high less inside (sym is)))
+    | inr same ↦ or_left (eqb low high) (related (graph_of table) low high) (eq-eqb low high (omega arith))
+  ],
+  λ _. refl,
+)
 none_where_joined table pasts futures pairs indices low high (Some i) h le inside is =
     let there : slice_get (pairs_of table) i ≡ Some (low, high) = ap (λ (l : List (ℕ × ℕ)). slice_get l i) (sym h.pairs_right) ∙ h.indexed.back i low high (sym is) in
-    let kind : IsPair table (low, high) = pair_kind table i (low, high) there in
-    (λ none. absurd (false≢true (sym none)), λ joined. absurd (elim (or_cases (eqb low high) (related (graph_of table) low high) joined) [
-      | inl same ↦ (let e : low ≡ high = eqb-true low high same in let less : low < high = kind.order in omega arith)
-      | inr tied ↦ false≢true (sym kind.unrelated ∙ tied)
-    ]))
+    let kind : IsPair table (low, high) = pair_kind table i (low, high) there in (
+      λ none. absurd (false≢true (sym none)),
+      λ joined. absurd (elim (or_cases (eqb low high) (related (graph_of table) low high) joined) [
+        | inl same ↦ (let e : low ≡ high = eqb-true low high same in let less : low < high = kind.order in omega arith)
+        | inr tied ↦ false≢true (sym kind.unrelated ∙ tied)
+      ]),
+    )
 
 -- an index that is found is that of the pair
 pub some_is_pair : (table pasts futures : List (List ℕ)) (pairs : List (ℕ × ℕ)) (indices : List (List (Option ℕ))) (low high : ℕ) (found : Option ℕ)

@@ -1,5 +1,5 @@
 -- The pairs of a new block with the blocks of lower numbers, one after another.
-use Rattle.std.proofs.Common.{◌≡◌, ℕ, ◌+◌, ◌≤◌, true, false, not, List, [], ◌∷◌, ◌++◌, length, sym, ap, subst, ◌∙◌, Option, Some, None, arith, length-append, append-nil}
+use Rattle.std.proofs.Common.{◌≡◌, ℕ, ◌+◌, true, false, not, List, [], ◌∷◌, ◌++◌, length, sym, ap, subst, ◌∙◌, Option, Some, None, arith, length-append, append-nil}
 use Rattle.sp_bits.specs.Places.{has}
 use Rattle.sp_dag.specs.Indexed.{AreNewIndexed}
 use Rattle.sp_dag.proofs.NewPairs.{pairs_more}

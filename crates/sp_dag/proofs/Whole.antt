@@ -1,15 +1,16 @@
 -- The numbered blocks as a graph of the model, and its rows and pairs.
-use Rattle.std.proofs.Common.{◌≡◌, ℕ, zero, suc, ◌+◌, ◌<◌, ◌≤◌, Bool, true, false, cond, ◌||◌, ◌&&◌, not, List, [], ◌∷◌, ◌++◌, length, map, get_or, refl, sym, ap, subst, ◌∙◌, inl, inr, eqb, Some, arith}
+use Rattle.std.proofs.Common.{◌≡◌, ℕ, zero, suc, ◌+◌, ◌<◌, ◌≤◌, Bool, true, false, cond, ◌||◌, ◌&&◌, not, List, [], ◌∷◌, length, map, get_or, refl, sym, ap, subst, ◌∙◌, inl, inr, eqb, Some, arith}
 use Rattle.std.specs.Prelude.{filter, All, slice_get}
 use Rattle.std.specs.List.{range_with_len, flat_map, list_any}
-use Rattle.std.proofs.lemmas.Bool.{cases_lt, or_cases, eqb-true, eq-eqb, false≢true, not-true, or_left, or_right}
+use Rattle.std.proofs.lemmas.Bool.{cases_lt, or_cases, eqb-true, false≢true, not-true}
 use Rattle.std.proofs.lemmas.List.Elements.{All-cons, All-append, All-map}
 use Rattle.std.proofs.lemmas.Option.{slice_get_within, get_or_from_slice_get}
-use Rattle.sp_model.specs.Graph.{Graph, Block, IsGraph, IsDownset, AreDistinct, has, keys, parents_of, complete, in_past, past, future, related}
+use Rattle.sp_model.specs.Graph.{Block, IsGraph, IsDownset, AreDistinct, has, keys, parents_of, complete, in_past, past, future, related}
 use Rattle.sp_model.proofs.Sets.{any_some}
 use Rattle.sp_model.proofs.Pasts.{complete_key, in_past_step, past_complete}
 use Rattle.sp_bits.specs.Places.{places_where}
-use Rattle.sp_dag.specs.Numbered.{Numbered, IsNumbered, AreInOrder, IsPair, graph_of, blocks_from, unrelated_below, pairs_below, pairs_of}
+use Rattle.sp_bits.specs.Members.{has-filter}
+use Rattle.sp_dag.specs.Numbered.{Numbered, IsNumbered, AreInOrder, IsPair, graph_of, blocks_from, unrelated_below, pairs_of}
 use Rattle.sp_dag.proofs.Keys.{key_in, key_out, parents_of-graph_of, all_complete, in_past-absent}
 
 keys_from : (from : ℕ) (table : List (List ℕ)) → map (λ (b : Block). b.key) (blocks_from from table) ≡ range_with_len from (length table)
@@ -101,6 +102,11 @@ filter_cut test a (suc n) zero le h = absurd (omega arith)
 filter_cut test a (suc n) (suc m) le h =
     ap (λ (l : List ℕ). cond (test a) (a ∷ l) l) (filter_cut test (a + 1) n m (omega arith) (λ k low. h k (omega arith)))
 
+both : (c d : Bool) → (d ≡ true → c ≡ true) → (c && d) ≡ d
+both true d h = refl
+both false true h = h refl
+both false false h = refl
+
 row_is : (test : ℕ → Bool) (table : List (List ℕ)) → length table ≤ 512 → ((k : ℕ) → length table ≤ k → test k ≡ false)
     → places_where test ≡ filter test (keys (graph_of table))
 unfolding places_where
@@ -124,6 +130,22 @@ pub future_row : (table : List (List ℕ)) (z : ℕ) → length table ≤ 512
 future_row table z small =
     row_is (λ w. in_past (graph_of table) z w) table small (λ k high. in_past-absent (graph_of table) z k (key_out table k high))
 
+-- the members of the rows are those that the graph says
+pub past_members : (table : List (List ℕ)) (a z : ℕ) → AreInOrder table → z < length table → has (past (graph_of table) z) a ≡ in_past (graph_of table) a z
+past_members table a z order le =
+    has-filter (λ a. in_past (graph_of table) a z) (keys (graph_of table)) a
+    ∙ both (has (keys (graph_of table)) a) (in_past (graph_of table) a z)
+    (λ reached. complete_key (graph_of table) a (past_complete (graph_of table) a z (all_complete table order z le) reached))
+
+pub future_members : (table : List (List ℕ)) (z w : ℕ) → has (future (graph_of table) (keys (graph_of table)) z) w ≡ in_past (graph_of table) z w
+future_members table z w =
+    has-filter (λ w. in_past (graph_of table) z w) (keys (graph_of table)) w
+    ∙ both (has (keys (graph_of table)) w) (in_past (graph_of table) z w) (there (has (keys (graph_of table)) w) refl)
+  where
+    there : (c : Bool) → has (keys (graph_of table)) w ≡ c → in_past (graph_of table) z w ≡ true → c ≡ true
+    there true e reached = refl
+    there false e reached = absurd (false≢true (sym (in_past-absent (graph_of table) z w e) ∙ reached))
+
 All-filter_range : (P : ℕ → Type 0) (test : ℕ → Bool) (a n : ℕ) → ((k : ℕ) → a ≤ k → k < a + n → test k ≡ true → P k) → All P (filter test (range_with_len a n))
 All-filter_range P test a zero h = λ k d le. absurd (omega arith)
 All-filter_range P test a (suc n) h = at (test a) refl (All-filter_range P test (a + 1) n (λ k low high. h k (omega arith) (omega arith)))
@@ -144,7 +166,7 @@ all_pairs table =
     All-flat_range (IsPair table) (λ y. map (λ x. (x, y)) (unrelated_below (graph_of table) y)) 0 (length table)
     (λ y low high. All-map (IsPair table) (λ x. (x, y)) (unrelated_below (graph_of table) y)
     (All-filter_range (λ x. IsPair table (x, y)) (λ x. not (related (graph_of table) x y)) 0 y
-    (λ x first last apart. record { order = omega arith; within = omega arith; unrelated = not-true (related (graph_of table) x y) apart; })))
+    (λ x first last apart. record { order = omega arith; within = omega arith; unrelated = not-true (related (graph_of table) x y) apart })))
 
 -- each pair of the list is one of unrelated blocks
 pub pair_kind : (table : List (List ℕ)) (i : ℕ) (pair : ℕ × ℕ) → slice_get (pairs_of table) i ≡ Some pair → IsPair table pair

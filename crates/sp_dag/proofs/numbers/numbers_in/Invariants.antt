@@ -1,4 +1,4 @@
-use Rattle.std.proofs.Common.{◌≡◌, ◌≤◌, map, take, length}
+use Rattle.std.proofs.Common.{◌≡◌, map, take, length}
 use Rattle.std.specs.Prelude.{vec_len, vec_capacity}
 use Rattle.sp_dag.specs.Numbered.{number_of}
 use Rattle.sp_dag.proofs.numbers.numbers_in.Given as goal

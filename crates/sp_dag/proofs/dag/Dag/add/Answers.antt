@@ -1,4 +1,4 @@
-use Rattle.std.proofs.Common.{◌≡◌, ◌<◌, ◌∙◌, ap, eqb, List, ℕ, length, arith}
+use Rattle.std.proofs.Common.{◌<◌, ◌∙◌, ap, eqb, List, ℕ, length, arith}
 use Rattle.indexmap.specs.IndexSet.{insert_key}
 use Rattle.sp_dag.proofs.Ids.{numbers_below, IsNumbered-adds}
 use Rattle.sp_dag.proofs.dag.Dag.add.Goals as goal

@@ -1,4 +1,4 @@
-use Rattle.std.proofs.Common.{◌≡◌, ◌∙◌, ap, sym, subst, Bool, true, List, ℕ, ◌<◌, length, min, max, Some, arith}
+use Rattle.std.proofs.Common.{◌≡◌, ◌∙◌, ap, subst, Bool, true, List, ℕ, ◌<◌, length, min, max, Some, arith}
 use Rattle.std.specs.Prelude.{slice_get, IfSome, IsNone, ◌↔◌}
 use Rattle.sp_dag.specs.Numbered.{pairs_of}
 use Rattle.sp_dag.proofs.Lookup.{index_read, some_is_pair, only_index, none_where_joined, joined_sorted, are_joined}
