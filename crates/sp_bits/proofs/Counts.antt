@@ -1,0 +1,175 @@
+-- Loops over places: how many pass so far, whether each passes, and which is the last.
+use Rattle.std.proofs.Common.{◌≡◌, ℕ, zero, suc, ◌+◌, ◌<◌, ◌≤◌, Bool, true, false, cond, ◌&&◌, List, [], ◌∷◌, ◌++◌, length, refl, sym, ap, ◌∙◌, inl, inr, eqb, Option, Some, None, add-one, arith, length-append}
+use Rattle.std.specs.Prelude.{filter, nat_lt, IfSome, IfNone, IsNone, ◌↔◌}
+use Rattle.std.specs.List.{list_all, range_with_len}
+use Rattle.std.proofs.lemmas.Bool.{cases_lt, or_left, or_right, or_cases, eq-eqb, eqb-true, false≢true, and_parts, and_from, ltb-true, lt-ltb}
+use Rattle.std.proofs.lemmas.List.Elements.{filter-append}
+use Rattle.sp_bits.specs.Places.{has, places_where, members_below, IsGreatest}
+use Rattle.sp_bits.specs.Members.{has-filter}
+use Rattle.sp_bits.specs.Truths.{at, IsLast}
+use Rattle.sp_bits.proofs.Sets.{has-view}
+
+range_more : (a n j : ℕ) → a + n ≡ j → range_with_len a (suc n) ≡ range_with_len a n ++ j ∷ []
+range_more a zero j e = (let same : a ≡ j = omega arith in ap (λ (k : ℕ). k ∷ []) same)
+range_more a (suc n) j e = ap (λ (l : List ℕ). a ∷ l) (range_more (a + 1) n j (omega arith))
+
+-- one place more is counted if it passes
+pub count_more : (test : ℕ → Bool) (k : ℕ) (c : Bool) → test k ≡ c
+    → length (filter test (range_with_len 0 (k + 1))) ≡ length (filter test (range_with_len 0 k)) + cond c 1 0
+count_more test k c e =
+    ap (λ (n : ℕ). length (filter test (range_with_len 0 n))) (add-one k)
+    ∙ ap (λ (l : List ℕ). length (filter test l)) (range_more 0 k k (omega arith))
+    ∙ ap length (filter-append test (range_with_len 0 k) (k ∷ []))
+    ∙ ap (λ (d : Bool). length (filter test (range_with_len 0 k) ++ cond d (k ∷ []) [])) e
+    ∙ length-append (filter test (range_with_len 0 k)) (cond c (k ∷ []) []) ∙ ap (λ (n : ℕ). length (filter test (range_with_len 0 k)) + n) (one c)
+  where
+    one : (c : Bool) → length (cond c (k ∷ []) []) ≡ cond c 1 0
+    one true = refl
+    one false = refl
+
+-- each that passes one test passes the other
+-- what the count of a loop over places says
+abbrev pub IsCount : (ℕ → Bool) → ℕ → ℕ → Type 0
+IsCount test k count = (count ≡ length (filter test (range_with_len 0 k))) × (count ≤ k)
+
+-- a place that passes is counted
+pub IsCount-pass : (test : ℕ → Bool) (k count next : ℕ) → test k ≡ true → next ≡ count + 1 → IsCount test k count → IsCount test (k + 1) next
+IsCount-pass test k count next e is so_far = (let more = count_more test k true e in omega (arith, more, so_far.0, is), omega (arith, so_far.1, is))
+
+-- and another isn't
+pub IsCount-fail : (test : ℕ → Bool) (k count next : ℕ) → test k ≡ false → next ≡ count → IsCount test k count → IsCount test (k + 1) next
+IsCount-fail test k count next e is so_far = (let more = count_more test k false e in omega (arith, more, so_far.0, is), omega (arith, so_far.1, is))
+
+pub and_false : (c d : Bool) → d ≡ false → (c && d) ≡ false
+and_false true d e = e
+and_false false d e = refl
+
+all_pass : (one other : ℕ → Bool) (a n : ℕ) → ((k : ℕ) → k < a + n → one k ≡ true → other k ≡ true)
+    → list_all other (filter one (range_with_len a n)) ≡ true
+all_pass one other a zero h = refl
+all_pass one other a (suc n) h = at_first (one a) refl (all_pass one other (a + 1) n (λ k le. h k (omega arith)))
+  where
+    at_first : (c : Bool) → one a ≡ c → list_all other (filter one (range_with_len (a + 1) n)) ≡ true
+        → list_all other (cond c (a ∷ filter one (range_with_len (a + 1) n)) (filter one (range_with_len (a + 1) n))) ≡ true
+    at_first true e rest = and_from (other a) (list_all other (filter one (range_with_len (a + 1) n))) (h a (omega arith) e) rest
+    at_first false e rest = rest
+
+-- one passes the one test alone
+one_fails : (one other : ℕ → Bool) (a n k : ℕ) → a ≤ k → k < a + n → one k ≡ true → other k ≡ false
+    → list_all other (filter one (range_with_len a n)) ≡ false
+one_fails one other a zero k low high here fails = absurd (omega arith)
+one_fails one other a (suc n) k low high here fails =
+    elim (cases_lt a k) [
+      | inl less ↦ later (one a) (one_fails one other (a + 1) n k (omega arith) (omega arith) here fails)
+      | inr le ↦ (let same : k ≡ a = omega arith in first (one a) (other a) (sym (ap one same) ∙ here) (sym (ap other same) ∙ fails))
+    ]
+  where
+    later : (c : Bool) → list_all other (filter one (range_with_len (a + 1) n)) ≡ false
+        → list_all other (cond c (a ∷ filter one (range_with_len (a + 1) n)) (filter one (range_with_len (a + 1) n))) ≡ false
+    later true rest = and_false (other a) (list_all other (filter one (range_with_len (a + 1) n))) rest
+    later false rest = rest
+
+    first : (c d : Bool) → c ≡ true → other a ≡ false
+        → list_all other (cond c (a ∷ filter one (range_with_len (a + 1) n)) (filter one (range_with_len (a + 1) n))) ≡ false
+    first true d e is = ap (λ (b : Bool). b && list_all other (filter one (range_with_len (a + 1) n))) is
+    first false d e is = absurd (false≢true e)
+
+-- each place of a row that passes one test passes the other
+pub all_places : (one other : ℕ → Bool) → ((k : ℕ) → k < 512 → one k ≡ true → other k ≡ true) → true ≡ list_all other (places_where one)
+unfolding places_where
+all_places one other h = sym (all_pass one other 0 512 (λ k le. h k (omega (arith, le))))
+
+-- a place passes the one test alone
+pub some_place : (one other : ℕ → Bool) (k : ℕ) → k < 512 → one k ≡ true → other k ≡ false → false ≡ list_all other (places_where one)
+unfolding places_where
+some_place one other k le here fails = sym (one_fails one other 0 512 k (omega arith) (omega arith) here fails)
+
+-- all places are counted at the end
+pub counted : (test : ℕ → Bool) (count end : ℕ) → end ≡ 512 → count ≡ length (filter test (range_with_len 0 end)) → count ≡ length (places_where test)
+unfolding places_where
+counted test count end is so_far = so_far ∙ ap (λ (n : ℕ). length (filter test (range_with_len 0 n))) is
+
+all_same : (f g : ℕ → Bool) (xs : List ℕ) → ((k : ℕ) → has xs k ≡ true → f k ≡ g k) → list_all f xs ≡ list_all g xs
+all_same f g [] h = refl
+all_same f g (x ∷ xs) h =
+    let here : f x ≡ g x = h x (or_left (eqb x x) (has xs x) (eq-eqb x x refl)) in
+    let rest : list_all f xs ≡ list_all g xs = all_same f g xs (λ k there. h k (or_right (eqb x k) (has xs k) there)) in
+    cc
+
+has-range_small : (a n k : ℕ) → has (range_with_len a n) k ≡ true → k < a + n
+has-range_small a zero k h = absurd (false≢true h)
+has-range_small a (suc n) k h =
+    elim (or_cases (eqb a k) (has (range_with_len (a + 1) n) k) h) [
+      | inl here ↦ (let same : a ≡ k = eqb-true a k here in omega arith)
+      | inr later ↦ (let rest : k < a + 1 + n = has-range_small (a + 1) n k later in omega arith)
+    ]
+
+-- each place of a row is below 512
+pub has-small : (test : ℕ → Bool) (k : ℕ) → has (places_where test) k ≡ true → k < 512
+unfolding places_where
+has-small test k h =
+    let parts = and_parts (has (range_with_len 0 512) k) (test k) (sym (has-filter test (range_with_len 0 512) k) ∙ h) in
+    has-range_small 0 512 k parts.0
+
+-- whether the other row has each place of a row
+pub within-view : (one other : List Bool) (s t : List ℕ) → places_where (at one) ≡ s → places_where (at other) ≡ t
+    → list_all (at other) (places_where (at one)) ≡ list_all (has t) s
+within-view one other s t own others =
+    all_same (at other) (has t) (places_where (at one)) (λ k there. has-view other t k others (has-small (at one) k there))
+    ∙ ap (list_all (has t)) own
+
+-- a set is the true places of the first `end`
+pub record AreTrueBelow (truths : List Bool) (end : ℕ) (set : List ℕ) : Type 0 where
+  pub into : (k : ℕ) → has set k ≡ true → (k < end) × (at truths k ≡ true)
+  pub from : (k : ℕ) → k < end → at truths k ≡ true → has set k ≡ true
+
+pub AreTrueBelow-all : (truths : List Bool) (set : List ℕ) → places_where (at truths) ≡ set → AreTrueBelow truths 512 set
+AreTrueBelow-all truths set is = record {
+  into = λ k there.
+      let in_view : has (places_where (at truths)) k ≡ true = ap (λ (l : List ℕ). has l k) is ∙ there in
+      let small : k < 512 = has-small (at truths) k in_view in
+      (small, has-view truths set k is small ∙ there);
+  from = λ k le here. sym (has-view truths set k is le) ∙ here;
+}
+
+pub AreTrueBelow-end : (truths : List Bool) (set : List ℕ) (end : ℕ) → end < 512 → places_where (at truths) ≡ set
+    → AreTrueBelow truths end (members_below set end)
+AreTrueBelow-end truths set end small is =
+    let all = AreTrueBelow-all truths set is in
+    record {
+      into = λ k there.
+          let parts = and_parts (has set k) (nat_lt k end) (sym (has-filter (λ p. nat_lt p end) set k) ∙ there) in
+          (ltb-true k end parts.1, (all.into k parts.0).1);
+      from = λ k le here.
+          has-filter (λ p. nat_lt p end) set k ∙ and_from (has set k) (nat_lt k end) (all.from k (omega arith) here) (lt-ltb k end le);
+    }
+
+-- the last true place is the greatest
+pub greatest : (truths : List Bool) (end : ℕ) (set : List ℕ) (place : ℕ) → AreTrueBelow truths end set → IsLast truths end place → IsGreatest set place
+greatest truths end set place are last = record {
+  member = are.from place last.below last.here;
+  most = λ p there.
+      let known = are.into p there in
+      elim (cases_lt place p) [
+        | inl less ↦ absurd (false≢true (sym (last.behind p less known.0) ∙ known.1))
+        | inr le ↦ le
+      ];
+}
+
+empty_set : (set : List ℕ) → ((k : ℕ) → has set k ≡ true → ⊥) → set ≡ []
+empty_set [] h = refl
+empty_set (x ∷ xs) h = absurd (h x (or_left (eqb x x) (has xs x) (eq-eqb x x refl)))
+
+-- there is no last true place exactly where the set is empty
+pub none_where_empty : (truths : List Bool) (end : ℕ) (set : List ℕ) (found : Option ℕ) → AreTrueBelow truths end set
+    → IfSome found (IsLast truths end) → IfNone found ((k : ℕ) → k < end → at truths k ≡ false)
+    → IsNone found ↔ (set ≡ [])
+none_where_empty truths end set None are some none =
+    (λ _. empty_set set (λ k there. (let known = are.into k there in false≢true (sym (none k known.0) ∙ known.1))), λ _. refl)
+none_where_empty truths end set (Some place) are some none =
+    (λ is. absurd (false≢true (sym is)), λ e. absurd (false≢true (sym (ap (λ (l : List ℕ). has l place) e) ∙ are.from place some.below some.here)))
+
+pub greatest_found : (truths : List Bool) (end : ℕ) (set : List ℕ) (found : Option ℕ) → AreTrueBelow truths end set
+    → IfSome found (IsLast truths end) → IfSome found (IsGreatest set)
+greatest_found truths end set None are some = some
+greatest_found truths end set (Some place) are some = greatest truths end set place are some

@@ -1,0 +1,126 @@
+//! Sets of places written down by hand, with what each call makes of them.
+
+use super::*;
+use std::process::Abort;
+use std::test::Fail;
+
+/// Two sets, their union, meet and difference, and how the first stands to the second and to the
+/// set of places 0, 1 and 2.
+#[derive(Clone, Copy)]
+struct Case {
+    one: &'static [u16],
+    other: &'static [u16],
+    union: &'static [u16],
+    meet: &'static [u16],
+    difference: &'static [u16],
+    within: bool,
+    // Places shared with the other set, less those shared with 0, 1 and 2.
+    balance: i32,
+    highest: Option<u16>,
+    // The greatest place below 64.
+    below: Option<u16>,
+}
+
+const CASES: &[Case] = &[
+    Case {
+        one: &[],
+        other: &[0, 511],
+        union: &[0, 511],
+        meet: &[],
+        difference: &[],
+        within: true,
+        balance: 0,
+        highest: None,
+        below: None,
+    },
+    Case {
+        one: &[0, 63, 64, 511],
+        other: &[1, 63, 64, 65, 510],
+        union: &[0, 1, 63, 64, 65, 510, 511],
+        meet: &[63, 64],
+        difference: &[0, 511],
+        within: false,
+        balance: 1,
+        highest: Some(511),
+        below: Some(63),
+    },
+    Case {
+        one: &[64, 300],
+        other: &[7, 64, 300, 301],
+        union: &[7, 64, 300, 301],
+        meet: &[64, 300],
+        difference: &[],
+        within: true,
+        balance: 2,
+        highest: Some(300),
+        below: None,
+    },
+    Case {
+        one: &[0, 1, 2, 9],
+        other: &[],
+        union: &[0, 1, 2, 9],
+        meet: &[],
+        difference: &[0, 1, 2, 9],
+        within: false,
+        balance: -3,
+        highest: Some(9),
+        below: Some(9),
+    },
+];
+
+fn row_of(places: &[u16]) -> Row {
+    let mut row = Row::empty();
+    for place in places {
+        row.set((*place).min(511));
+    }
+    row
+}
+
+fn has_just(row: &Row, places: &[u16]) -> bool {
+    for place in 0..512 {
+        if row.test(place) != places.contains(&place) {
+            return false;
+        }
+    }
+    row.count() as usize == places.len()
+}
+
+fn check(rt: &impl Abort, case: &Case) {
+    let one = row_of(case.one);
+    let other = row_of(case.other);
+    let mut union = one;
+    let mut meet = one;
+    let mut difference = one;
+    union.or_with(&other);
+    meet.and_with(&other);
+    difference.without(&other);
+    let sets = has_just(&union, case.union)
+        && has_just(&meet, case.meet)
+        && has_just(&difference, case.difference);
+    assert!(rt; sets, "of {:?}", case.one);
+    let shared = one.count_and(&other) as usize;
+    let got = (
+        one.within(&other),
+        shared == case.meet.len(),
+        one.balance(&other, &row_of(&[0, 1, 2])),
+        one.highest(),
+        one.highest_below(64),
+    );
+    let wanted = (case.within, true, case.balance, case.highest, case.below);
+    assert_eq!(rt; got, wanted, "of {:?}", case.one);
+}
+
+#[test]
+fn sets(rt: HostRuntime) {
+    for case in CASES {
+        check(&rt, case);
+    }
+}
+
+#[test]
+fn places_taken_out(rt: HostRuntime) {
+    let mut row = row_of(&[0, 5, 511]);
+    row.clear(5);
+    row.clear(6);
+    assert!(rt; has_just(&row, &[0, 511]));
+}

@@ -1,0 +1,11 @@
+pub mod Pushes
+pub mod Keys
+pub mod Reach
+pub mod NewPairs
+pub mod Grown
+pub mod Indexing
+pub mod Adds
+pub mod SoFar
+pub mod Whole
+pub mod Lookup
+pub mod Ids

@@ -1,0 +1,4 @@
+pub mod Numbered
+pub mod Rows
+pub mod Indexed
+pub mod Right

@@ -1,0 +1,36 @@
+//! The pairs that a new block brings.
+
+ghost use Rattle.std.specs.Prelude.{◌≡◌, ◌<◌, ◌≤◌, ◌+◌, ◌^◌, ◌++◌, not, [], map, filter, vec_len, vec_capacity};
+ghost use Rattle.std.specs.List.{range_with_len};
+ghost use Rattle.sp_bits.specs.Places.{has};
+ghost use Rattle.sp_dag.specs.Indexed.{AreNewIndexed};
+
+use sp_bits::Row;
+
+// Adds the pairs of block `number` with the blocks before it that aren't in its past, and notes the
+// index of each.
+pub(crate) fn push_unrelated(
+    pairs: &mut Vec<(u16, u16)>,
+    indices: &mut Vec<Option<u32>>,
+    past: &Row,
+    number: u16,
+)
+    requires small { number < 512 }
+    requires few { vec_len pairs.old + number < 2 ^ 32 }
+    requires room { vec_len pairs.old + number ≤ vec_capacity pairs.old }
+    requires none { indices.old.items ≡ [] }
+    requires indices_room { number ≤ vec_capacity indices.old }
+    ensures pairs { pairs.new.items ≡ pairs.old.items
+        ++ map (λ x. (x, number)) (filter (λ x. not (has past.now x)) (range_with_len 0 number)) }
+    ensures indices { AreNewIndexed pairs.old.items pairs.new.items past.now number
+        number indices.new.items }
+{
+    for lower in 0..number {
+        if past.test(lower) {
+            indices.push_reserved(None);
+        } else {
+            indices.push_reserved(Some(pairs.len() as u32));
+            pairs.push_reserved((lower, number));
+        }
+    }
+}

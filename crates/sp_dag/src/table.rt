@@ -1,0 +1,136 @@
+//! The parents of the present blocks by number, with all that is read from them. It stands apart
+//! from the ids: contracts see the parents alone.
+
+ghost use Rattle.std.specs.Prelude.{◌≡◌, ◌<◌, ◌≤◌, ◌++◌, ◌∷◌, ◌||◌, ◌==◌, ◌↔◌, [], ℕ, length, All, IfOk, OnOk, OnErr, IfSome, IsNone, IsTrue, slice_get, Some, min, max};
+ghost use Rattle.sp_model.specs.Graph.{in_past, keys, past, future, related};
+ghost use Rattle.sp_dag.specs.Numbered.{graph_of, pairs_of, IsPair};
+
+use crate::indices::Indices;
+use crate::numbers::Numbers;
+use crate::pairs::push_unrelated;
+use crate::rows::{row_of, set_in_futures};
+use sp_bits::Row;
+use sp_ids::Memory;
+use std::alloc::Global;
+use std::marker::Model;
+
+// Blocks by number. Contracts see the list of the parents of each.
+#[derive(Drop)]
+pub(crate) struct Table {
+    parents: Vec<Numbers>,
+    pasts: Vec<Row>,
+    futures: Vec<Row>,
+    pairs: Vec<(u16, u16)>,
+    indices: Vec<Indices>,
+}
+
+impl Model for Table {
+    ghost use Rattle.std.specs.Prelude.{ℕ, List};
+
+    ghost Value = { List (List ℕ) };
+
+    ghost use Rattle.sp_dag.specs.Right.{AreRight};
+
+    ghost view = { λ t. t.parents.items };
+
+    ghost invariant = { λ t.
+        AreRight t.parents.items t.pasts.items t.futures.items t.pairs.items t.indices.items };
+}
+
+impl Table {
+    // No blocks.
+    pub(crate) fn new(alloc: Global) -> Table
+        ensures { result ≡ [] }
+    {
+        Table {
+            parents: Vec::new(alloc),
+            pasts: Vec::new(alloc),
+            futures: Vec::new(alloc),
+            pairs: Vec::new(alloc),
+            indices: Vec::new(alloc),
+        }
+    }
+
+    // Adds a block with these parents, and answers its number.
+    pub(crate) fn add(&mut self, alloc: Global, parents: Numbers) -> Result<u16, Memory>
+        requires room { length self.old < 512 }
+        requires before { All (λ p. p < length self.old) parents }
+        ensures ok { OnOk result (self.new ≡ self.old ++ parents ∷ []) }
+        ensures number { IfOk result (λ n. n ≡ length self.old) }
+        ensures err { OnErr result (self.new ≡ self.old) }
+    {
+        let count = self.parents.len();
+        self.parents.reserve(1)?;
+        self.pasts.reserve(1)?;
+        self.futures.reserve(1)?;
+        self.indices.reserve(1)?;
+        self.pairs.reserve(count)?;
+        let mut indices = Vec::with_capacity(alloc, count)?;
+        let number = count as u16;
+        let past = row_of(&self.pasts, parents.as_slice());
+        push_unrelated(&mut self.pairs, &mut indices, &past, number);
+        set_in_futures(&mut self.futures, &past, number);
+        self.futures.push_reserved(Row::empty());
+        self.pasts.push_reserved(past);
+        self.indices.push_reserved(Indices::of(indices));
+        self.parents.push_reserved(parents);
+        Ok(number)
+    }
+
+    pub(crate) fn len(&self) -> u16
+        ensures value { result ≡ length self.now }
+        ensures bound { length self.now ≤ 512 }
+    {
+        self.parents.len() as u16
+    }
+
+    pub(crate) fn past(&self, number: u16) -> &Row
+        requires { number < length self.now }
+        ensures { result.now ≡ past (graph_of self.now) number }
+    {
+        &self.pasts[number as usize]
+    }
+
+    pub(crate) fn future(&self, number: u16) -> &Row
+        requires { number < length self.now }
+        ensures { result.now ≡ future (graph_of self.now) (keys (graph_of self.now)) number }
+    {
+        &self.futures[number as usize]
+    }
+
+    pub(crate) fn in_past(&self, a: u16, b: u16) -> bool
+        requires a_in { a < length self.now }
+        requires b_in { b < length self.now }
+        ensures { result ≡ in_past (graph_of self.now) a b }
+    {
+        self.pasts[b as usize].test(a)
+    }
+
+    pub(crate) fn pair_count(&self) -> u32
+        ensures value { result ≡ length (pairs_of self.now) }
+        ensures bound { result ≤ 130816 }
+    {
+        self.pairs.len() as u32
+    }
+
+    pub(crate) fn pair(&self, index: u32) -> (u16, u16)
+        requires { index < length (pairs_of self.now) }
+        ensures pair { slice_get (pairs_of self.now) index ≡ Some result }
+        ensures kind { IsPair self.now result }
+    {
+        self.pairs[index as usize]
+    }
+
+    pub(crate) fn pair_of(&self, x: u16, y: u16) -> Option<u32>
+        requires x_in { x < length self.now }
+        requires y_in { y < length self.now }
+        ensures some { IfSome result (λ i. slice_get (pairs_of self.now) i ≡ Some (min x y, max x y)) }
+        ensures only { (i : ℕ) → slice_get (pairs_of self.now) i ≡ Some (min x y, max x y) →
+            result ≡ Some i }
+        ensures none { IsNone result ↔ IsTrue ((x == y) || related (graph_of self.now) x y) }
+    {
+        let low = x.min(y);
+        let high = x.max(y);
+        self.indices[high as usize].at(low)
+    }
+}
