@@ -11,3 +11,4 @@ mod Runs
 mod Graphs
 mod Answered
 mod Orders
+mod Firsts

@@ -31,6 +31,12 @@ keep_all kept arrivals = fold keep kept arrivals
 abbrev pub kept_of : ReadBlock → List ReadBlock → List ReadBlock
 kept_of genesis arrivals = keep_all (genesis ∷ []) arrivals
 
+-- each block whose id is none of these and none of those before it
+abbrev pub firsts : List ℕ → List ReadBlock → List ReadBlock
+firsts ids [] = []
+firsts ids (block ∷ blocks) =
+    if has ids block.id then firsts ids blocks else (block ∷ firsts (ids ++ block.id ∷ []) blocks)
+
 -- no two blocks have the same id
 abbrev pub AreApart : List ReadBlock → Type 0
 AreApart blocks = AreDistinct (ids_of blocks)

@@ -1,14 +1,21 @@
 //! Laws of kept and present blocks, over the definitions alone. Each is the contract of a function
 //! that does nothing, so that the check proves it.
 
-ghost use Rattle.std.specs.Prelude.{◌≡◌, ◌≤◌, ◌++◌, ◌∷◌, [], ℕ, IsFalse, length, List};
+ghost use Rattle.std.specs.Prelude.{◌≡◌, ◌≤◌, ◌++◌, ◌∷◌, [], ℕ, IsFalse, length, List, take};
 ghost use Rattle.std.specs.List.{list_all};
 ghost use Rattle.std.specs.List.Sorted.{IsPermutation};
 ghost use Rattle.sp_block.specs.Block.{ReadBlock};
 ghost use Rattle.sp_model.specs.Graph.{has, IsGraph};
-ghost use Rattle.sp_pool.specs.Kept.{AreApart, AreKept, graph_of, ids_of, kept_of, present};
+ghost use Rattle.sp_pool.specs.Kept.{AreApart, AreKept, firsts, graph_of, ids_of, kept_of, present};
 ghost use Rattle.sp_pool.specs.Offers.{IsAnswer};
 ghost use Rattle.sp_pool.specs.declared.answers.Offer.{Offer};
+
+/// Over a whole list of arrivals the kept blocks are the first 512 of genesis and the arrivals, each
+/// id counted once.
+pub fn kept_are_the_first()
+    ensures { (genesis : ReadBlock) (arrivals : List ReadBlock) →
+        kept_of genesis arrivals ≡ take 512 (firsts [] (genesis ∷ arrivals)) }
+{}
 
 /// The kept blocks are a graph: no id repeats, and genesis is the one block without parents.
 pub fn kept_blocks_are_a_graph()
