@@ -3,14 +3,7 @@
 
 ghost use Rattle.std.specs.Prelude.{◌≡◌, ◌≤◌, IsTrue};
 
-/// A kind of frame. A frame is a letter (1 byte), the payload's length (4 bytes, the lowest first)
-/// and the payload:
-///
-/// | letter | length | payload |
-/// |---|---|---|
-/// | `B` | 0 to 65,537 | the bytes of a block |
-/// | `V` | 64 | two block ids |
-/// | `E` | 0 | |
+/// A kind of frame, by its letter; the table stands at `Message`.
 #[derive(Clone, Copy, Debug, PartialEq, Eq)]
 pub(crate) enum Kind {
     Block,

@@ -3,6 +3,15 @@
 use sp_ids::BlockId;
 
 /// A message of a feed. A block's bytes are lent from the reader's buffer, and may spell no block.
+///
+/// It is written as a frame: a letter (1 byte), the payload's length (4 bytes, the lowest first)
+/// and the payload.
+///
+/// | letter | length | payload | message |
+/// |---|---|---|---|
+/// | `B` | 0 to 65,537 | the bytes of a block | `Block` |
+/// | `V` | 64 | two block ids, 32 bytes each | `Vote` |
+/// | `E` | 0 | | `End` |
 #[derive(Clone, Copy, Debug, PartialEq, Eq)]
 pub enum Message<'a> {
     /// The bytes of a block.
