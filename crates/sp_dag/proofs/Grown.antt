@@ -15,6 +15,7 @@ use Rattle.sp_bits.specs.Members.{has-places_where}
 use Rattle.sp_bits.proofs.Sets.{places_same, filter_same}
 use Rattle.sp_dag.specs.Numbered.{graph_of, AreInOrder, unrelated_below, pairs_of}
 use Rattle.sp_dag.specs.Rows.{is_reached}
+use Rattle.sp_dag.proofs.Bools.{eqb_apart, or_false}
 use Rattle.sp_dag.proofs.NewPairs.{range_more}
 use Rattle.sp_dag.proofs.Keys.{block, graph_of-push, key_out, all_complete, in_past-absent}
 
@@ -54,23 +55,12 @@ nowhere = none 0 512
     none a zero = refl
     none a (suc n) = none (a + 1) n
 
-or_false : (c : Bool) → (c || false) ≡ c
-or_false true = refl
-or_false false = refl
-
 -- pairs of blocks that were there stay
 related-old : (table : List (List ℕ)) (ps : List ℕ) (x y : ℕ) → AreInOrder table → x < length table → y < length table
     → related (graph_of (table ++ ps ∷ [])) x y ≡ related (graph_of table) x y
 related-old table ps x y order lx ly =
     ap (λ (c : Bool). not (eqb x y) && (c || in_past (graph_of (table ++ ps ∷ [])) y x)) (past_old table ps x y order ly)
     ∙ ap (λ (c : Bool). not (eqb x y) && (in_past (graph_of table) x y || c)) (past_old table ps y x order lx)
-
-apart : (x n : ℕ) → x < n → eqb x n ≡ false
-apart x n le = at (eqb x n) refl
-  where
-    at : (c : Bool) → eqb x n ≡ c → c ≡ false
-    at true e = (let same : x ≡ n = eqb-true x n e in absurd (omega arith))
-    at false e = refl
 
 pub unrelated_old : (table : List (List ℕ)) (ps : List ℕ) (y : ℕ) → AreInOrder table → y < length table → unrelated_below (graph_of (table ++ ps ∷ [])) y ≡ unrelated_below (graph_of table) y
 unrelated_old table ps y order ly =
@@ -83,7 +73,7 @@ pub unrelated-new : (table : List (List ℕ)) (ps past : List ℕ) → AreInOrde
 unrelated-new table ps past order row =
     filter_same (λ x. not (related (graph_of (table ++ ps ∷ [])) x (length table))) (λ x. not (has past x)) 0 (length table)
     (λ x lx. let inside : x < length table = omega arith in
-    ap not (ap (λ (c : Bool). not c && (in_past (graph_of (table ++ ps ∷ [])) x (length table) || in_past (graph_of (table ++ ps ∷ [])) (length table) x)) (apart x (length table) inside)
+    ap not (ap (λ (c : Bool). not c && (in_past (graph_of (table ++ ps ∷ [])) x (length table) || in_past (graph_of (table ++ ps ∷ [])) (length table) x)) (eqb_apart x (length table) inside)
     ∙ ap (λ (c : Bool). in_past (graph_of (table ++ ps ∷ [])) x (length table) || c) (past-no_new table ps x order inside)
     ∙ or_false (in_past (graph_of (table ++ ps ∷ [])) x (length table)) ∙ sym (row x inside)))
 

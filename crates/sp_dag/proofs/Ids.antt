@@ -13,7 +13,7 @@ use Rattle.std.proofs.lemmas.List.Quantifiers.{position-Some}
 use Rattle.indexmap.specs.IndexSet.{insert_key}
 use Rattle.sp_model.specs.Graph.{AreDistinct, has}
 use Rattle.sp_dag.specs.Numbered.{Numbered, IsNumbered, number_of, with_block}
-use Rattle.sp_dag.proofs.Reach.{eqb_flip}
+use Rattle.sp_dag.proofs.Bools.{eqb_flip, eqb_apart}
 use Rattle.sp_dag.proofs.Grown.{AreInOrder-push}
 use Rattle.sp_dag.proofs.Adds.{AreBefore-all}
 
@@ -87,15 +87,8 @@ number_of_stays ids id other there =
     let inside : position_or_len (eqb id) ids < length ids = found_before ids id there in
     let same : position_or_len (eqb id) (ids ++ other ∷ []) ≡ position_or_len (eqb id) ids =
     position_or_len_push (eqb id) ids other
-    ∙ ap (λ (c : Bool). cond c (length ids + cond (eqb id other) 0 1) (position_or_len (eqb id) ids)) (apart (position_or_len (eqb id) ids) (length ids) inside) in
+    ∙ ap (λ (c : Bool). cond c (length ids + cond (eqb id other) 0 1) (position_or_len (eqb id) ids)) (eqb_apart (position_or_len (eqb id) ids) (length ids) inside) in
     number_is (ids ++ other ∷ []) id (omega (arith, length-append ids (other ∷ []))) ∙ same ∙ sym (number_is ids id inside)
-  where
-    apart : (m n : ℕ) → m < n → eqb m n ≡ false
-    apart m n le = at (eqb m n) refl
-      where
-        at : (c : Bool) → eqb m n ≡ c → c ≡ false
-        at true e = (let equal : m ≡ n = eqb-true m n e in absurd (omega arith))
-        at false e = refl
 
 -- an id that isn't there goes last
 pub keys-fresh : (ids : List ℕ) (id : ℕ) → has ids id ≡ false → insert_key eqb ids id ≡ ids ++ id ∷ []

@@ -1,3 +1,4 @@
+pub mod Bools
 pub mod Pushes
 pub mod Keys
 pub mod Reach

@@ -1,5 +1,5 @@
 -- What the index of two numbers says of their pair.
-use Rattle.std.proofs.Common.{◌≡◌, ℕ, ◌<◌, ◌≤◌, Bool, true, false, ◌||◌, ◌&&◌, not, List, [], get_or, refl, sym, ap, ◌∙◌, inl, inr, eqb, Option, Some, None, arith, length, min, max}
+use Rattle.std.proofs.Common.{◌≡◌, ℕ, ◌<◌, ◌≤◌, Bool, true, ◌||◌, ◌&&◌, not, List, [], get_or, refl, sym, ap, ◌∙◌, inl, inr, eqb, Option, Some, None, arith, length, min, max}
 use Rattle.std.specs.Prelude.{slice_get, IsNone, IfSome, ◌↔◌}
 use Rattle.std.proofs.lemmas.Bool.{cases_lt, eqb-true, eq-eqb, false≢true, or_left, or_right, or_cases}
 use Rattle.std.proofs.lemmas.List.{get_or_default}
@@ -7,27 +7,14 @@ use Rattle.sp_model.specs.Graph.{Graph, in_past, related}
 use Rattle.sp_dag.specs.Numbered.{graph_of, pairs_of, IsPair}
 use Rattle.sp_dag.specs.Indexed.{index_at}
 use Rattle.sp_dag.specs.Right.{AreRight}
-use Rattle.sp_dag.proofs.Reach.{eqb_flip}
+use Rattle.sp_dag.proofs.Bools.{eqb_flip, eqb_apart, or_comm}
 use Rattle.sp_dag.proofs.Whole.{pair_kind}
-
-or_comm : (c d : Bool) → (c || d) ≡ (d || c)
-or_comm true true = refl
-or_comm true false = refl
-or_comm false true = refl
-or_comm false false = refl
 
 -- related blocks are related either way
 related_flip : (g : Graph) (x y : ℕ) → related g x y ≡ related g y x
 related_flip g x y =
     ap (λ (c : Bool). not c && (in_past g x y || in_past g y x)) (eqb_flip x y)
     ∙ ap (λ (c : Bool). not (eqb y x) && c) (or_comm (in_past g x y) (in_past g y x))
-
-apart : (x y : ℕ) → x < y → eqb x y ≡ false
-apart x y le = at (eqb x y) refl
-  where
-    at : (c : Bool) → eqb x y ≡ c → c ≡ false
-    at true e = (let same : x ≡ y = eqb-true x y e in absurd (omega arith))
-    at false e = refl
 
 -- whether two numbers are the same or related, by the lower and the higher
 abbrev pub are_joined : List (List ℕ) → ℕ → ℕ → Bool
@@ -53,7 +40,7 @@ pub none_where_joined : (table pasts futures : List (List ℕ)) (pairs : List (�
 none_where_joined table pasts futures pairs indices low high None h le inside is = (
   λ _. elim (cases_lt low high) [
     | inl less ↦ or_right (eqb low high) (related (graph_of table) low high)
-        (ap (λ (c : Bool). not c && (in_past (graph_of table) low high || in_past (graph_of table) high low)) (apart low high less)
+        (ap (λ (c : Bool). not c && (in_past (graph_of table) low high || in_past (graph_of table) high low)) (eqb_apart low high less)
         ∙ or_left (in_past (graph_of table) low high) (in_past (graph_of table) high low) (h.unlisted low high less inside (sym is)))
     | inr same ↦ or_left (eqb low high) (related (graph_of table) low high) (eq-eqb low high (omega arith))
   ],

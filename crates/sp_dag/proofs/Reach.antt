@@ -1,19 +1,11 @@
 -- The row of a past from the rows of the parents.
 use Rattle.std.proofs.Common.{◌≡◌, ℕ, ◌+◌, ◌<◌, Bool, true, false, ◌||◌, List, [], length, take, get_or, refl, sym, ap, ◌∙◌, eqb}
-use Rattle.std.proofs.lemmas.Bool.{eqb-true, eq-eqb}
 use Rattle.std.proofs.lemmas.List.Folds.{list_any_more}
 use Rattle.sp_bits.specs.Places.{has, places_where}
 use Rattle.sp_bits.specs.Members.{has-places_where}
 use Rattle.sp_bits.proofs.Sets.{places_same}
 use Rattle.sp_dag.specs.Rows.{is_reached}
-
-pub same_bool : (a b : Bool) → (a ≡ true → b ≡ true) → (b ≡ true → a ≡ true) → a ≡ b
-same_bool true b there back = sym (there refl)
-same_bool false true there back = back refl
-same_bool false false there back = refl
-
-pub eqb_flip : (a b : ℕ) → eqb a b ≡ eqb b a
-eqb_flip a b = same_bool (eqb a b) (eqb b a) (λ e. eq-eqb b a (sym (eqb-true a b e))) (λ e. eq-eqb a b (sym (eqb-true b a e)))
+use Rattle.sp_dag.proofs.Bools.{eqb_flip}
 
 turned : (a b c : Bool) → ((a || b) || c) ≡ (a || (c || b))
 turned true b c = refl

@@ -2,7 +2,7 @@
 use Rattle.std.proofs.Common.{◌≡◌, ℕ, zero, suc, ◌+◌, ◌<◌, ◌≤◌, Bool, true, false, cond, ◌||◌, ◌&&◌, not, List, [], ◌∷◌, length, map, get_or, refl, sym, ap, subst, ◌∙◌, inl, inr, eqb, Some, arith}
 use Rattle.std.specs.Prelude.{filter, All, slice_get}
 use Rattle.std.specs.List.{range_with_len, flat_map, list_any}
-use Rattle.std.proofs.lemmas.Bool.{cases_lt, or_cases, eqb-true, false≢true, not-true}
+use Rattle.std.proofs.lemmas.Bool.{cases_lt, or_cases, eqb-true, false≢true, not-true, false_from_ne_true}
 use Rattle.std.proofs.lemmas.List.Elements.{All-cons, All-append, All-map}
 use Rattle.std.proofs.lemmas.Option.{slice_get_within, get_or_from_slice_get}
 use Rattle.sp_model.specs.Graph.{Block, IsGraph, IsDownset, AreDistinct, has, keys, parents_of, complete, in_past, past, future, related}
@@ -113,16 +113,12 @@ unfolding places_where
 row_is test table small h =
     filter_cut test 0 (length table) 512 small (λ k low. h k (omega arith)) ∙ ap (filter test) (sym (keys_are_numbers table))
 
-false_from : (c : Bool) → (c ≡ true → ⊥) → c ≡ false
-false_from true h = absurd (h refl)
-false_from false h = refl
-
 -- the row of a past is the model's
 pub past_row : (table : List (List ℕ)) (z : ℕ) → AreInOrder table → length table ≤ 512 → z < length table
     → places_where (λ a. in_past (graph_of table) a z) ≡ past (graph_of table) z
 past_row table z order small le =
     row_is (λ a. in_past (graph_of table) a z) table small
-    (λ k high. false_from (in_past (graph_of table) k z) (λ reached. (let lower : k < z = ancestors_lower table k z order le reached in absurd (omega arith))))
+    (λ k high. false_from_ne_true (in_past (graph_of table) k z) (λ reached. (let lower : k < z = ancestors_lower table k z order le reached in absurd (omega arith))))
 
 -- and so is the row of a future
 pub future_row : (table : List (List ℕ)) (z : ℕ) → length table ≤ 512

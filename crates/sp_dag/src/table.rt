@@ -124,7 +124,8 @@ impl Table {
     pub(crate) fn pair_of(&self, x: u16, y: u16) -> Option<u32>
         requires x_in { x < length self.now }
         requires y_in { y < length self.now }
-        ensures some { IfSome result (λ i. slice_get (pairs_of self.now) i ≡ Some (min x y, max x y)) }
+        ensures some { IfSome result (λ i.
+            slice_get (pairs_of self.now) i ≡ Some (min x y, max x y)) }
         ensures only { (i : ℕ) → slice_get (pairs_of self.now) i ≡ Some (min x y, max x y) →
             result ≡ Some i }
         ensures none { IsNone result ↔ IsTrue ((x == y) || related (graph_of self.now) x y) }
