@@ -1,0 +1,4 @@
+pub mod Downsets
+pub mod Ranges
+pub mod Cases
+pub mod Entries

@@ -1,0 +1,2 @@
+pub mod Virts
+pub mod Plain
