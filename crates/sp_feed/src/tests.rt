@@ -186,6 +186,8 @@ fn faults(rt: HostRuntime) -> Result<(), Fail> {
 
 #[test]
 fn smallest_feeds(rt: HostRuntime) -> Result<(), Fail> {
+    let reader = FeedReader::new(rt.alloc()).ok().ok_or("memory")?;
+    assert!(rt; reader.live() && reader.taken() == 0);
     for (frame, fault) in [(END, None), (REPORT, malformed(34))] {
         let mut bytes = Vec::from_slice(rt.alloc(), &HEAD)?;
         bytes.extend_from_slice(&frame)?;
