@@ -1,13 +1,13 @@
 pub mod Parents
 pub mod Growth
 mod Tables
-mod KeptBlocks
+pub mod KeptBlocks
 mod Marking
 mod Looks
 mod Turns
-mod Standings
+pub mod Standings
 mod Adding
-mod Runs
+pub mod Runs
 mod Graphs
 mod Answered
 mod Orders

@@ -1,0 +1,60 @@
+-- An engine of genesis alone.
+use Rattle.std.proofs.Common.{◌≡◌, ℕ, zero, suc, ◌≤◌, Bool, true, false, cond, List, [], ◌∷◌, get_or, length, map, refl, sym, ap, subst, ◌∙◌, eqb, Some, None}
+use Rattle.std.specs.Prelude.{slice_get}
+use Rattle.std.specs.List.{list_all}
+use Rattle.std.specs.Option.{option_map}
+use Rattle.std.proofs.lemmas.Bool.{false≢true}
+use Rattle.sp_block.specs.Block.{IsBlock, IsGenesis, ReadBlock}
+use Rattle.sp_model.specs.Graph.{has, parents_of, parents_or_none}
+use Rattle.sp_pool.specs.Kept.{AreKept, graph_of, node_of, present}
+use Rattle.sp_pool.proofs.KeptBlocks.{no_parents}
+use Rattle.sp_dag.specs.Numbered.{graph_of as numbered_graph, IsNumbered, number_of, Numbered}
+use Rattle.sp_plain.specs.Virts.{HasVirts, Virts}
+use Rattle.sp_engine.specs.Engine.{AreNumbered, IsEngine, numbers}
+use Rattle.sp_engine.specs.Presence.{joining, order_from, order_of}
+
+one : ReadBlock → Numbered
+one g = record { ids = g.id ∷ []; parents = [] ∷ [] }
+
+no_parents_alone : (g : ReadBlock) (id : ℕ) → g.parents ≡ [] → parents_of (graph_of (g ∷ [])) id ≡ []
+no_parents_alone g id none = at (eqb g.id id)
+  where
+    at : (c : Bool) → parents_or_none (cond c (Some (node_of g)) None) ≡ []
+    at true = none
+    at false = refl
+
+order_alone : (g : ReadBlock) → g.parents ≡ [] → order_of (g ∷ []) ≡ g.id ∷ []
+unfolding order_from joining
+order_alone g none = rw none refl
+
+numbered_alone : (g : ReadBlock) → g.parents ≡ [] → AreNumbered (g ∷ []) (one g)
+unfolding one
+numbered_alone g none = record {
+  there = λ id there. there;
+  closed = λ id there. ap (list_all (has (g.id ∷ []))) (no_parents_alone g id none);
+  others = λ id there absent. absurd (false≢true (sym absent ∙ there));
+  parents = λ n id at. empty n ∙ sym (ap (map (number_of (g.id ∷ []))) (no_parents_alone g id none));
+}
+  where
+    empty : (n : ℕ) → get_or (let rows : List (List ℕ) = [] ∷ [] in rows) n [] ≡ []
+    empty zero = refl
+    empty (suc n) = refl
+
+pub engine_alone : (bits : ℕ) (inside g : ReadBlock) (pool : List ReadBlock) (blocks : Numbered) (virts : Virts) → bits ≤ 64 → inside ≡ g → IsBlock inside → IsGenesis g
+    → pool ≡ g ∷ [] → present pool ≡ g.id ∷ [] → blocks ≡ record { ids = inside.id ∷ []; parents = [] ∷ [] } → AreKept pool → IsNumbered blocks
+    → HasVirts (numbered_graph blocks.parents) (numbers blocks) (length blocks.parents) virts → IsEngine bits pool inside.id blocks virts
+unfolding one
+engine_alone bits inside g pool blocks virts small is block kind kept here alone are in_order votes =
+    let none : g.parents ≡ [] = no_parents g (subst (λ (b : ReadBlock). IsBlock b) is block) kind in
+    let id : inside.id ≡ g.id = ap (λ (b : ReadBlock). b.id) is in
+    let blocks_are : blocks ≡ one g = alone ∙ ap (λ (i : ℕ). let n : Numbered = record { ids = i ∷ []; parents = [] ∷ [] } in n) id in
+    record {
+      small = small;
+      all_kept = are;
+      first = ap (λ (k : List ReadBlock). option_map (λ (b : ReadBlock). b.id) (slice_get k 0)) kept ∙ ap (λ (i : ℕ). Some i) (sym id);
+      in_order = in_order;
+      numbered = subst (λ (k : List ReadBlock). AreNumbered k blocks) (sym kept) (subst (λ (n : Numbered). AreNumbered (g ∷ []) n) (sym blocks_are) (numbered_alone g none));
+      order = ap (λ (n : Numbered). n.ids) blocks_are ∙ sym (order_alone g none) ∙ ap (λ (k : List ReadBlock). order_of k) (sym kept);
+      same = λ z. ap (λ (n : Numbered). has n.ids z) blocks_are ∙ ap (λ (l : List ℕ). has l z) (sym here);
+      votes = votes;
+    }

@@ -1,0 +1,141 @@
+-- A valid block of a new id is kept: the engine stands for the longer list, and the answer is the one that is defined.
+use Rattle.std.proofs.Common.{◌≡◌, ℕ, ◌-◌, ◌≤◌, Bool, false, List, [], ◌∷◌, ◌++◌, length, refl, sym, ap, subst, ◌∙◌, Some, arith, length-append}
+use Rattle.std.specs.Prelude.{slice_get}
+use Rattle.std.specs.Option.{option_map}
+use Rattle.std.proofs.Math.ListN.{length-map}
+use Rattle.std.proofs.lemmas.List.{append-nil}
+use Rattle.sp_block.specs.Block.{IsBlock, IsOther, ReadBlock}
+use Rattle.sp_block.proofs.Whole.{other_parents}
+use Rattle.sp_model.specs.Graph.{AreDistinct, has}
+use Rattle.sp_pool.specs.Kept.{AreKept, ids_of, keep, kept_by, present, Releases, standing_of}
+use Rattle.sp_pool.specs.Offers.{IsAnswer, Joins, Waits}
+use Rattle.sp_pool.specs.declared.answers.Offer.{Offer}
+use Rattle.sp_pool.specs.declared.answers.Offer.TheVariants.{Present, Waiting}
+use Rattle.sp_pool.specs.declared.answers.Standing.{Standing}
+use Rattle.sp_pool.specs.declared.answers.Standing.TheVariants.{Fresh}
+use Rattle.sp_pool.proofs.Growth.{present_by_parents, present_kept, present_stays, present_waits, released}
+use Rattle.sp_pool.proofs.KeptBlocks.{AreKept-push}
+use Rattle.sp_pool.proofs.Runs.{Releases-distinct}
+use Rattle.sp_pool.proofs.Standings.{from_fresh}
+use Rattle.sp_dag.specs.Numbered.{graph_of as numbered_graph, IsNumbered, Numbered}
+use Rattle.sp_plain.specs.Virts.{HasVirts, Virts}
+use Rattle.sp_engine.specs.Arrivals.{joined}
+use Rattle.sp_engine.specs.Engine.{AreNumbered, IsEngine, Ledger, numbers}
+use Rattle.sp_engine.specs.Presence.{joining}
+use Rattle.sp_engine.specs.declared.answer.Answer.TheVariants.{Kept, Held}
+use Rattle.sp_engine.proofs.Counts.{distinct_within, present_counts}
+use Rattle.sp_engine.proofs.Facts.{present_count}
+use Rattle.sp_engine.proofs.NumberedBlocks.{AreNumbered-kept}
+use Rattle.sp_engine.proofs.Presence.{joining_released, order-push, Releases-none, Releases-same}
+
+-- a valid block of a new id comes to an engine
+pub record Comes (bits genesis : ℕ) (kept : List ReadBlock) (blocks : Numbered) (virts : Virts) (b : ReadBlock) : Type 0 where
+  pub engine : IsEngine bits kept genesis blocks virts
+  pub block : IsBlock b
+  pub other : IsOther b
+  pub fresh : standing_of kept b.id ≡ Fresh
+
+first_stays : (kept : List ReadBlock) (b : ReadBlock) (genesis : ℕ) → option_map (λ (x : ReadBlock). x.id) (slice_get kept 0) ≡ Some genesis → option_map (λ (x : ReadBlock). x.id) (slice_get (kept ++ b ∷ []) 0) ≡ Some genesis
+first_stays [] b genesis e = cc
+first_stays (x ∷ xs) b genesis e = e
+
+module _ {bits genesis : ℕ} {kept : List ReadBlock} {blocks : Numbered} {virts : Virts} {b : ReadBlock} where
+  pub kept_is : (new : List ReadBlock) → new ≡ keep kept b → Comes bits genesis kept blocks virts b → new ≡ kept ++ b ∷ []
+  kept_is new e h = e ∙ ap (λ (s : Standing). kept_by s kept b) h.fresh
+
+  new_id : Comes bits genesis kept blocks virts b → has (ids_of kept) b.id ≡ false
+  new_id h = (from_fresh kept b.id h.fresh).0
+
+  kept_more : Comes bits genesis kept blocks virts b → AreKept (kept ++ b ∷ [])
+  kept_more h = AreKept-push kept b h.engine.all_kept h.block h.other (new_id h) (from_fresh kept b.id h.fresh).1
+
+  numbered_more : Comes bits genesis kept blocks virts b → AreNumbered (kept ++ b ∷ []) blocks
+  numbered_more h = let some = (other_parents b h.block h.other).0 in AreNumbered-kept kept b blocks (new_id h) (omega (arith, some)) h.engine.numbered
+
+  pub comes_numbered : (new : List ReadBlock) → new ≡ keep kept b → Comes bits genesis kept blocks virts b → AreNumbered new blocks
+  comes_numbered new e h = subst (λ (k : List ReadBlock). AreNumbered k blocks) (sym (kept_is new e h)) (numbered_more h)
+
+  releases : (ids : List ℕ) → Comes bits genesis kept blocks virts b → Joins kept b ids → Releases (kept ++ b ∷ []) blocks.ids ids
+  releases ids h j = Releases-same (kept ++ b ∷ []) (present kept) blocks.ids ids (λ z. sym (h.engine.same z)) j.order
+
+  pub comes_order : (new : List ReadBlock) (ids : List ℕ) → new ≡ keep kept b → Comes bits genesis kept blocks virts b → Joins kept b ids → Releases new blocks.ids ids
+  comes_order new ids e h j = subst (λ (k : List ReadBlock). Releases k blocks.ids ids) (sym (kept_is new e h)) (releases ids h j)
+
+  apart : (ids : List ℕ) → Comes bits genesis kept blocks virts b → Joins kept b ids → AreDistinct (blocks.ids ++ ids)
+  apart ids h j = Releases-distinct (kept ++ b ∷ []) blocks.ids blocks.ids ids (λ z. refl) h.engine.in_order.distinct (releases ids h j)
+
+  members : (ids : List ℕ) → Comes bits genesis kept blocks virts b → Joins kept b ids → (z : ℕ) → has (blocks.ids ++ ids) z ≡ has (present (kept ++ b ∷ [])) z
+  members ids h j z = sym (released (kept ++ b ∷ []) blocks.ids ids (kept_more h).apart (λ y there. present_stays kept b y (sym (h.engine.same y) ∙ there)) (releases ids h j) z)
+
+  few : (ids : List ℕ) → Comes bits genesis kept blocks virts b → Joins kept b ids → length (blocks.ids ++ ids) ≤ length (kept ++ b ∷ [])
+  few ids h j =
+      let below : length (blocks.ids ++ ids) ≤ length (ids_of (kept ++ b ∷ [])) =
+      distinct_within (blocks.ids ++ ids) (ids_of (kept ++ b ∷ [])) (apart ids h j) (λ z there. present_kept (kept ++ b ∷ []) z (sym (members ids h j z) ∙ there)) in
+      let same : length (ids_of (kept ++ b ∷ [])) ≡ length (kept ++ b ∷ []) = length-map (kept ++ b ∷ []) (λ (x : ReadBlock). x.id) in
+      omega (arith, below, same)
+
+  pub comes_few : (ids : List ℕ) → Comes bits genesis kept blocks virts b → Joins kept b ids → length ids ≤ 512
+  comes_few ids h j = omega (arith, few ids h j, (kept_more h).few, length-append blocks.ids ids)
+
+  pub comes_engine : (new : List ReadBlock) (ids : List ℕ) (after : Numbered) (votes : Virts) → new ≡ keep kept b → Comes bits genesis kept blocks virts b → Joins kept b ids
+      → IsNumbered after → AreNumbered new after → after.ids ≡ blocks.ids ++ ids → HasVirts (numbered_graph after.parents) (numbers after) (length after.parents) votes
+      → IsEngine bits new genesis after votes
+  comes_engine new ids after votes e h j n are is v =
+      subst (λ (k : List ReadBlock). IsEngine bits k genesis after votes) (sym (kept_is new e h)) (record {
+        small = h.engine.small;
+        all_kept = kept_more h;
+        first = first_stays kept b genesis h.engine.first;
+        in_order = n;
+        numbered = subst (λ (k : List ReadBlock). AreNumbered k after) (kept_is new e h) are;
+        order = is ∙ ap (λ (l : List ℕ). blocks.ids ++ l) (sym (joining_released (length (kept ++ b ∷ [])) (kept ++ b ∷ []) blocks.ids ids (releases ids h j) (omega (arith, few ids h j, length-append blocks.ids ids))))
+            ∙ ap (λ (l : List ℕ). l ++ joining (length (kept ++ b ∷ [])) (kept ++ b ∷ []) l) h.engine.order ∙ sym (order-push kept b);
+        same = λ z. ap (λ (l : List ℕ). has l z) is ∙ members ids h j z;
+        votes = v;
+      })
+
+  pub comes_answer : (ids : List ℕ) → Comes bits genesis kept blocks virts b → Joins kept b ids → Kept b.id (length ids) ≡ joined kept b
+  unfolding joined
+  comes_answer ids h j =
+      let now : length (present (kept ++ b ∷ [])) ≡ length (blocks.ids ++ ids) = present_counts (kept ++ b ∷ []) (blocks.ids ++ ids) (kept_more h).apart (apart ids h j) (members ids h j) in
+      let count : length ids ≡ length (present (kept ++ b ∷ [])) - length (present kept) = omega (arith, now, present_count h.engine, h.engine.in_order.long, length-append blocks.ids ids) in
+      ap (Kept b.id) count ∙ sym (rw j.here refl)
+
+  unchanged : Comes bits genesis kept blocks virts b → Waits kept b → (z : ℕ) → has (present (kept ++ b ∷ [])) z ≡ has (present kept) z
+  unchanged h w = present_waits kept b (new_id h) (sym (present_by_parents kept b (new_id h)) ∙ w.absent)
+
+  pub waits_engine : (new : List ReadBlock) → new ≡ keep kept b → Comes bits genesis kept blocks virts b → Waits kept b → IsEngine bits new genesis blocks virts
+  waits_engine new e h w =
+      let same : (z : ℕ) → has blocks.ids z ≡ has (present (kept ++ b ∷ [])) z = λ z. h.engine.same z ∙ sym (unchanged h w z) in
+      subst (λ (k : List ReadBlock). IsEngine bits k genesis blocks virts) (sym (kept_is new e h)) (record {
+        small = h.engine.small;
+        all_kept = kept_more h;
+        first = first_stays kept b genesis h.engine.first;
+        in_order = h.engine.in_order;
+        numbered = numbered_more h;
+        order = sym (append-nil blocks.ids) ∙ ap (λ (l : List ℕ). blocks.ids ++ l) (sym (joining_released (length (kept ++ b ∷ [])) (kept ++ b ∷ []) blocks.ids [] (Releases-none (kept ++ b ∷ []) blocks.ids (kept_more h).apart same) (omega arith)))
+            ∙ ap (λ (l : List ℕ). l ++ joining (length (kept ++ b ∷ [])) (kept ++ b ∷ []) l) h.engine.order ∙ sym (order-push kept b);
+        same = same;
+        votes = h.engine.votes;
+      })
+
+  pub waits_answer : Comes bits genesis kept blocks virts b → Waits kept b → Held b.id ≡ joined kept b
+  unfolding joined
+  waits_answer h w = sym (rw w.absent refl)
+
+-- what the pool's answer says
+pub joins_of : {kept : List ReadBlock} {b : ReadBlock} (o : Offer) (ids : List ℕ) → o ≡ Present ids → IsAnswer kept b o → Joins kept b ids
+joins_of {kept = kept} {b = b} o ids e h = subst (λ (x : Offer). IsAnswer kept b x) e h
+
+pub waits_of : {kept : List ReadBlock} {b : ReadBlock} (o : Offer) → o ≡ Waiting → IsAnswer kept b o → Waits kept b
+waits_of {kept = kept} {b = b} o e h = subst (λ (x : Offer). IsAnswer kept b x) e h
+
+-- a block that is taken comes to the engine
+pub comes_of : {bits genesis : ℕ} {kept : List ReadBlock} {blocks : Numbered} {virts : Virts} {broken : Bool} {l : Ledger} {inside b : ReadBlock}
+    → (let seen : Ledger = record { bits = bits; kept = kept; broken = broken } in seen) ≡ l → (broken ≡ false → IsEngine bits kept genesis blocks virts) → l.broken ≡ false
+    → inside ≡ b → IsBlock inside → IsOther b → standing_of l.kept b.id ≡ Fresh → Comes bits genesis kept blocks virts b
+comes_of {b = b} view inv whole is block other fresh = record {
+  engine = inv (ap (λ (l : Ledger). l.broken) view ∙ whole);
+  block = subst (λ (x : ReadBlock). IsBlock x) is block;
+  other = other;
+  fresh = ap (λ (l : Ledger). standing_of l.kept b.id) view ∙ fresh;
+}

@@ -1,0 +1,11 @@
+pub mod Ranges
+pub mod SpelledBlocks
+pub mod Presence
+pub mod NumberedBlocks
+pub mod Counts
+pub mod WordsByNumbers
+pub mod Facts
+pub mod Released
+pub mod Arriving
+pub mod Judged
+pub mod Alone

@@ -1,0 +1,59 @@
+-- The numbers from one on, as a list: which are in it, tests over it, and the row that has them.
+use Rattle.std.proofs.Common.{◌≡◌, ℕ, zero, suc, ◌+◌, ◌-◌, ◌≤◌, ◌<◌, Bool, true, false, cond, ◌||◌, List, ◌∷◌, refl, sym, ap, ◌∙◌, inl, inr, eqb, arith}
+use Rattle.std.specs.Prelude.{filter}
+use Rattle.std.specs.List.{list_all, range_with_len}
+use Rattle.std.proofs.lemmas.Bool.{and_from, and_parts, cases_lt, eq-eqb, ne_eqb, or_left, or_right}
+use Rattle.sp_bits.specs.Places.{has as has_place, places_where}
+use Rattle.sp_model.specs.Graph.{has}
+use Rattle.sp_plain.proofs.Ranges.{filter_short}
+
+pub all_range : (p : ℕ → Bool) (a n : ℕ) → ((k : ℕ) → a ≤ k → k < a + n → p k ≡ true) → list_all p (range_with_len a n) ≡ true
+all_range p a zero h = refl
+all_range p a (suc n) h =
+    and_from (p a) (list_all p (range_with_len (a + 1) n)) (h a (omega arith) (omega arith)) (all_range p (a + 1) n (λ k low high. h k (omega arith) (omega arith)))
+
+pub range_all : (p : ℕ → Bool) (a n k : ℕ) → list_all p (range_with_len a n) ≡ true → a ≤ k → k < a + n → p k ≡ true
+range_all p a zero k h low high = absurd (omega arith)
+range_all p a (suc n) k h low high =
+    let parts = and_parts (p a) (list_all p (range_with_len (a + 1) n)) h in
+    elim (cases_lt a k) [
+      | inl less ↦ range_all p (a + 1) n k parts.1 (omega arith) (omega arith)
+      | inr le ↦ (let same : a ≡ k = omega arith in ap p (sym same) ∙ parts.0)
+    ]
+
+pub in_range : (a n k : ℕ) → a ≤ k → k < a + n → has (range_with_len a n) k ≡ true
+in_range a zero k low high = absurd (omega arith)
+in_range a (suc n) k low high =
+    elim (cases_lt a k) [
+      | inl less ↦ or_right (eqb a k) (has (range_with_len (a + 1) n) k) (in_range (a + 1) n k (omega arith) (omega arith))
+      | inr le ↦ (let same : a ≡ k = omega arith in or_left (eqb a k) (has (range_with_len (a + 1) n) k) (eq-eqb a k same))
+    ]
+
+pub past_range : (a n k : ℕ) → a + n ≤ k → has (range_with_len a n) k ≡ false
+past_range a zero k high = refl
+past_range a (suc n) k high =
+    ap (λ (c : Bool). c || has (range_with_len (a + 1) n) k) (ne_eqb a k (λ same. absurd (omega (arith, same)))) ∙ past_range (a + 1) n k (omega arith)
+
+filter_all : (p : ℕ → Bool) (a n : ℕ) → ((k : ℕ) → a ≤ k → k < a + n → p k ≡ true) → filter p (range_with_len a n) ≡ range_with_len a n
+filter_all p a zero h = refl
+filter_all p a (suc n) h =
+    ap (λ (c : Bool). cond c (a ∷ filter p (range_with_len (a + 1) n)) (filter p (range_with_len (a + 1) n))) (h a (omega arith) (omega arith))
+    ∙ ap (λ (l : List ℕ). a ∷ l) (filter_all p (a + 1) n (λ k low high. h k (omega arith) (omega arith)))
+
+places_range : (p : ℕ → Bool) (n : ℕ) → n ≤ 512 → ((k : ℕ) → k < n → p k ≡ true) → ((k : ℕ) → n ≤ k → p k ≡ false) → places_where p ≡ range_with_len 0 n
+unfolding places_where
+places_range p n le inside outside =
+    let all : n + (512 - n) ≡ 512 = omega arith in
+    ap (λ (m : ℕ). filter p (range_with_len 0 m)) (sym all) ∙ filter_short p n (512 - n) outside
+    ∙ filter_all p 0 n (λ k low high. inside k (omega arith))
+
+-- one more number
+pub row_more : (row : List ℕ) (n : ℕ) → n < 512 → row ≡ range_with_len 0 n → places_where (λ k. has_place row k || eqb k n) ≡ range_with_len 0 (n + 1)
+row_more row n le is =
+    ap (λ (r : List ℕ). places_where (λ k. has_place r k || eqb k n)) is
+    ∙ places_range (λ k. has_place (range_with_len 0 n) k || eqb k n) (n + 1) (omega arith)
+    (λ k low. elim (cases_lt k n) [
+      | inl less ↦ or_left (has (range_with_len 0 n) k) (eqb k n) (in_range 0 n k (omega arith) (omega arith))
+      | inr more ↦ (let same : k ≡ n = omega arith in or_right (has (range_with_len 0 n) k) (eqb k n) (eq-eqb k n same))
+    ])
+    (λ k high. ap (λ (c : Bool). c || eqb k n) (past_range 0 n k (omega arith)) ∙ ne_eqb k n (λ same. absurd (omega (arith, same))))

@@ -1,0 +1,44 @@
+use Rattle.std.proofs.Common.{◌∙◌, ◌++◌, ap, sym, subst, length}
+use Rattle.sp_block.specs.Block.{ReadBlock}
+use Rattle.sp_pool.specs.Kept.{Releases}
+use Rattle.sp_engine.specs.Arrivals.{joined}
+use Rattle.sp_engine.specs.Engine.{Ledger}
+use Rattle.sp_engine.specs.declared.answer.Answer.TheVariants.{Kept, Held}
+use Rattle.sp_engine.proofs.Arriving.{comes_answer, comes_engine, comes_numbered, comes_order, comes_of, joins_of, waits_answer, waits_engine, waits_of}
+use Rattle.sp_engine.proofs.engine.Engine.take.Goals as goal
+
+pub add_all-requires-clause-numbered : goal.add_all-requires-clause-numbered
+add_all-requires-clause-numbered c =
+    let came = comes_of c.self.view_is c.self.invariant c.requires.whole c.block.view_is c.block.invariant c.requires.other c.requires.fresh in
+    comes_numbered c.offer.new.self c.in_ok-ids.ensures.kept came
+
+pub add_all-requires-clause-order : goal.add_all-requires-clause-order
+add_all-requires-clause-order c =
+    let came = comes_of c.self.view_is c.self.invariant c.requires.whole c.block.view_is c.block.invariant c.requires.other c.requires.fresh in
+    subst (λ ids. Releases c.offer.new.self c.self.inside.dag.ids ids) (sym c.as_slice-ids.ensures)
+    (comes_order c.offer.new.self c.in-Present.ids c.in_ok-ids.ensures.kept came (joins_of c.in_ok-ids.field-0 c.in-Present.ids c.in-Present.is c.in_ok-ids.ensures.answer))
+
+pub invariant_of-self-in-Present : goal.invariant_of-self-in-Present
+invariant_of-self-in-Present c = λ _.
+    let came = comes_of c.self.view_is c.self.invariant c.requires.whole c.block.view_is c.block.invariant c.requires.other c.requires.fresh in
+    comes_engine c.offer.new.self c.in-Present.ids c.add_all.new.dag c.in_ok-self-inside-in-Present.field-0 c.in_ok-ids.ensures.kept came
+    (joins_of c.in_ok-ids.field-0 c.in-Present.ids c.in-Present.is c.in_ok-ids.ensures.answer) c.len-blocks.ensures.numbered c.in_ok-add_all-in-Present.ensures.numbered
+    (c.in_ok-add_all-in-Present.ensures.ids ∙ ap (λ ids. c.self.inside.dag.ids ++ ids) c.as_slice-ids.ensures) c.in_ok-self-inside-in-Present.ensures
+
+pub invariant_of-self-in-Waiting : goal.invariant_of-self-in-Waiting
+invariant_of-self-in-Waiting c = λ _.
+    let came = comes_of c.self.view_is c.self.invariant c.requires.whole c.block.view_is c.block.invariant c.requires.other c.requires.fresh in
+    waits_engine c.offer.new.self c.in_ok-ids.ensures.kept came (waits_of c.in_ok-ids.field-0 c.in-Waiting.is c.in_ok-ids.ensures.answer)
+
+pub returns-in_ok-self-inside-in-Present-clause-answer : goal.returns-in_ok-self-inside-in-Present-clause-answer
+returns-in_ok-self-inside-in-Present-clause-answer c =
+    let came = comes_of c.self.view_is c.self.invariant c.requires.whole c.block.view_is c.block.invariant c.requires.other c.requires.fresh in
+    ap (Kept c.block.inside.id) (ap length c.as_slice-ids.ensures) ∙ ap (λ (b : ReadBlock). Kept b.id (length c.in-Present.ids)) c.block.view_is
+    ∙ comes_answer c.in-Present.ids came (joins_of c.in_ok-ids.field-0 c.in-Present.ids c.in-Present.is c.in_ok-ids.ensures.answer)
+    ∙ ap (λ (l : Ledger). joined l.kept c.args.block) c.self.view_is
+
+pub returns-in-Waiting-clause-answer : goal.returns-in-Waiting-clause-answer
+returns-in-Waiting-clause-answer c =
+    let came = comes_of c.self.view_is c.self.invariant c.requires.whole c.block.view_is c.block.invariant c.requires.other c.requires.fresh in
+    ap (λ (b : ReadBlock). Held b.id) c.block.view_is ∙ waits_answer came (waits_of c.in_ok-ids.field-0 c.in-Waiting.is c.in_ok-ids.ensures.answer)
+    ∙ ap (λ (l : Ledger). joined l.kept c.args.block) c.self.view_is

@@ -1,0 +1,14 @@
+use Rattle.std.proofs.Common.{◌∙◌, ap, arith, length}
+use Rattle.sp_engine.proofs.Facts.{engine_of, few_present, present_count}
+use Rattle.sp_engine.proofs.engine.Engine.waiting.Goals as goal
+
+pub overflow_sub-result : goal.overflow_sub-result
+overflow_sub-result c =
+    let whole = ap (λ l. l.broken) c.self.view_is ∙ c.requires in
+    omega (arith, few_present (c.self.invariant whole), c.len.ensures.value, c.kept.ensures.count)
+
+pub returns : goal.returns
+returns c =
+    let e = engine_of c.self.view_is c.self.invariant c.requires in
+    let same = ap (λ l. length l.kept) c.self.view_is in
+    omega (arith, few_present e, present_count e, same, c.len.ensures.value, c.kept.ensures.count)

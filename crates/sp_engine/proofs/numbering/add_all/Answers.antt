@@ -1,0 +1,12 @@
+use Rattle.sp_engine.proofs.Released.{more_ids, next_of, rest_of}
+use Rattle.sp_engine.proofs.numbering.add_all.Goals as goal
+
+pub add_one-requires-clause-next : goal.add_one-requires-clause-next
+add_one-requires-clause-next c = next_of c.args.pool.now c.loop-id.dag.ids c.args.ids.now c.loop-id.id-index c.id-item.result c.loop-id.invariant.order c.loop-id-test.true c.id-item.is
+
+pub loop-id-preserved : goal.loop-id-preserved
+loop-id-preserved c = record {
+  numbered = c.in_ok-add_one.ensures.numbered;
+  ids = more_ids c.args.dag.now.ids c.loop-id.dag.ids c.add_one.new.dag.ids c.args.ids.now c.loop-id.id-index c.id-item.result c.loop-id.invariant.ids c.loop-id-test.true c.id-item.is c.in_ok-add_one.ensures.ids;
+  order = rest_of c.args.pool.now c.loop-id.dag.ids c.args.ids.now c.loop-id.id-index c.id-item.result c.add_one.new.dag.ids c.loop-id.invariant.order c.loop-id-test.true c.id-item.is c.in_ok-add_one.ensures.ids;
+}

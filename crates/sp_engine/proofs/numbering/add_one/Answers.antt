@@ -1,0 +1,43 @@
+use Rattle.std.proofs.Common.{◌≡◌, ◌<◌, ◌∙◌, sym, ap, length, arith}
+use Rattle.std.specs.Option.{option_copied}
+use Rattle.sp_block.specs.Block.{ReadBlock}
+use Rattle.std.specs.List.{list_all}
+use Rattle.sp_model.specs.Graph.{has, parents_of}
+use Rattle.sp_pool.specs.Kept.{graph_of}
+use Rattle.sp_engine.proofs.Facts.{all_items, is_found, room_left}
+use Rattle.sp_engine.proofs.NumberedBlocks.{AreNumbered-more, found_by, next_closed, next_fresh, next_kept}
+use Rattle.sp_engine.proofs.numbering.add_one.Goals as goal
+
+pub add-requires-clause-fresh : goal.add-requires-clause-fresh
+add-requires-clause-fresh c = next_fresh c.requires.next
+
+pub add-requires-clause-some : goal.add-requires-clause-some
+add-requires-clause-some c =
+    let kept = c.args.pool.now in
+    let is : parents_of (graph_of kept) c.args.id.now ≡ c.as_slice.result.now =
+    found_by kept c.args.id.now c.in-Some.block.now c.kept-kept.ensures.blocks.apart (sym c.block.ensures ∙ ap option_copied c.in-Some.is)
+    ∙ sym (ap (λ (b : ReadBlock). b.parents) c.block-in-Some.view_is) ∙ sym c.as_slice.ensures in
+    let some : 0 < length (parents_of (graph_of kept) c.args.id.now) = c.requires.numbered.others c.args.id.now (next_kept c.requires.next) (next_fresh c.requires.next) in
+    omega (arith, some, ap length is)
+
+pub add-requires-clause-known : goal.add-requires-clause-known
+add-requires-clause-known c =
+    let kept = c.args.pool.now in
+    let is : parents_of (graph_of kept) c.args.id.now ≡ c.as_slice.result.now =
+    found_by kept c.args.id.now c.in-Some.block.now c.kept-kept.ensures.blocks.apart (sym c.block.ensures ∙ ap option_copied c.in-Some.is)
+    ∙ sym (ap (λ (b : ReadBlock). b.parents) c.block-in-Some.view_is) ∙ sym c.as_slice.ensures in
+    λ k d le. all_items (has c.args.dag.now.ids) c.as_slice.result.now k d (sym (ap (list_all (has c.args.dag.now.ids)) is) ∙ next_closed c.kept-kept.ensures.blocks.apart c.requires.next) le
+
+pub add-requires-clause-room : goal.add-requires-clause-room
+add-requires-clause-room c = room_left c.args.pool.now c.args.dag.now c.args.id.now c.kept-kept.ensures.blocks c.len-blocks.ensures.numbered c.requires.numbered c.requires.next
+
+pub unreachable-requires : goal.unreachable-requires
+unreachable-requires c = is_found c.args.pool.now c.args.id.now (next_kept c.requires.next) (sym c.block.ensures ∙ ap option_copied c.in-None.is)
+
+pub returns-clause-numbered : goal.returns-clause-numbered
+returns-clause-numbered c =
+    let kept = c.args.pool.now in
+    let is : parents_of (graph_of kept) c.args.id.now ≡ c.as_slice.result.now =
+    found_by kept c.args.id.now c.in-Some.block.now c.kept-kept.ensures.blocks.apart (sym c.block.ensures ∙ ap option_copied c.in-Some.is)
+    ∙ sym (ap (λ (b : ReadBlock). b.parents) c.block-in-Some.view_is) ∙ sym c.as_slice.ensures in
+    AreNumbered-more kept c.args.dag.now c.add.new.self c.args.id.now c.as_slice.result.now c.kept-kept.ensures.blocks c.len-blocks.ensures.numbered c.requires.numbered c.requires.next is c.in_ok-_number-in-Some.ensures.ok

@@ -1,0 +1,41 @@
+-- What contracts see of the engine, and what it keeps.
+use Rattle.std.specs.Prelude.{ℕ, ◌≡◌, ◌≤◌, ◌<◌, true, false, Bool, List, [], map, length, slice_get, slice_index_or, Some}
+use Rattle.std.specs.List.{list_all, range_with_len}
+use Rattle.std.specs.Option.{option_map}
+use Rattle.sp_block.specs.Block.{ReadBlock}
+use Rattle.sp_model.specs.Graph.{has, parents_of}
+use Rattle.sp_pool.specs.Kept.{AreKept, graph_of, ids_of, present}
+use Rattle.sp_dag.specs.Numbered.{graph_of as numbered_graph, IsNumbered, number_of, Numbered}
+use Rattle.sp_plain.specs.Virts.{HasVirts, Virts}
+use Rattle.sp_engine.specs.Presence.{order_of}
+
+-- the bits of work, the kept blocks, and whether memory was refused
+pub record Ledger : Type 0 where
+  pub bits : ℕ
+  pub kept : List ReadBlock
+  pub broken : Bool
+
+abbrev pub ledger : ℕ → List ReadBlock → Ledger
+ledger bits kept = record { bits = bits; kept = kept; broken = false }
+
+-- the numbered blocks are kept ones, genesis among them, with the parents of each, which are numbered too
+pub record AreNumbered (kept : List ReadBlock) (blocks : Numbered) : Type 0 where
+  pub there : (id : ℕ) → has blocks.ids id ≡ true → has (ids_of kept) id ≡ true
+  pub closed : (id : ℕ) → has blocks.ids id ≡ true → list_all (has blocks.ids) (parents_of (graph_of kept) id) ≡ true
+  pub others : (id : ℕ) → has (ids_of kept) id ≡ true → has blocks.ids id ≡ false → 0 < length (parents_of (graph_of kept) id)
+  pub parents : (n id : ℕ) → slice_get blocks.ids n ≡ Some id → slice_index_or blocks.parents n [] ≡ map (number_of blocks.ids) (parents_of (graph_of kept) id)
+
+-- all numbers of blocks
+abbrev pub numbers : Numbered → List ℕ
+numbers blocks = range_with_len 0 (length blocks.parents)
+
+-- the numbered blocks are the present ones in their order, and the votes are those of all of them
+pub record IsEngine (bits : ℕ) (kept : List ReadBlock) (genesis : ℕ) (blocks : Numbered) (virts : Virts) : Type 0 where
+  pub small : bits ≤ 64
+  pub all_kept : AreKept kept
+  pub first : option_map (λ (block : ReadBlock). block.id) (slice_get kept 0) ≡ Some genesis
+  pub in_order : IsNumbered blocks
+  pub numbered : AreNumbered kept blocks
+  pub order : blocks.ids ≡ order_of kept
+  pub same : (id : ℕ) → has blocks.ids id ≡ has (present kept) id
+  pub votes : HasVirts (numbered_graph blocks.parents) (numbers blocks) (length blocks.parents) virts

@@ -1,0 +1,4 @@
+pub mod Blocks
+pub mod Presence
+pub mod Arrivals
+pub mod Engine

@@ -1,0 +1,247 @@
+//! The engine: the kept blocks, the graph of the present ones, and the votes of all of them.
+
+ghost use Rattle.std.specs.Prelude.{◌≡◌, ◌≤◌, ◌<◌, ◌+◌, ◌++◌, ◌∷◌, [], ◌==◌, ℕ, false, find, length, slice_get, Some, IfOk, OnOk, is_err};
+ghost use Rattle.std.specs.Option.{option_copied};
+ghost use Rattle.sp_ids.specs.Bits.{BeginsWithZeros};
+ghost use Rattle.sp_block.specs.Block.{IsGenesis, IsOther};
+ghost use Rattle.sp_model.specs.Graph.{has};
+ghost use Rattle.sp_model.specs.Votes.{word};
+ghost use Rattle.sp_pool.specs.Kept.{AreKept, graph_of, present, standing_of};
+ghost use Rattle.sp_pool.specs.declared.answers.Standing.{Standing};
+ghost use Rattle.sp_engine.specs.Arrivals.{answer_of, joined, kept_after};
+ghost use Rattle.sp_engine.specs.Presence.{order_of};
+
+use crate::answer::{Answer, Refusal};
+use crate::numbering::add_all;
+use crate::valid::valid_block;
+use crate::words::{votes_of_all, word_at};
+use sp_block::Block;
+use sp_dag::Dag;
+use sp_ids::{BlockId, Memory};
+use sp_model::Word;
+use sp_plain::Matrix;
+use sp_pool::{Offer, Pool, Standing};
+use std::alloc::Global;
+use std::marker::Model;
+
+/// The ledger at one node: the blocks that it keeps, and what they say. Contracts see the bits of
+/// work, the kept blocks in their order, genesis first, and whether memory was refused.
+#[derive(Drop)]
+pub struct Engine {
+    alloc: Global,
+    bits: u8,
+    genesis: BlockId,
+    pool: Pool,
+    // The present blocks by number.
+    dag: Dag,
+    // The virtual votes of all of them.
+    votes: Matrix,
+    broken: bool,
+}
+
+impl Model for Engine {
+    ghost use Rattle.std.specs.Prelude.{◌≡◌, false};
+    ghost use Rattle.sp_engine.specs.Engine.{IsEngine, Ledger};
+
+    ghost Value = { Ledger };
+
+    ghost view = { λ e. record { bits = e.bits; kept = e.pool; broken = e.broken } };
+
+    ghost invariant = { λ e. e.broken ≡ false → IsEngine e.bits e.pool e.genesis e.dag e.votes };
+}
+
+impl Engine {
+    ghost use Rattle.sp_engine.specs.Engine.{ledger};
+
+    /// An engine of genesis alone, which is present.
+    ///
+    /// # Errors
+    ///
+    /// `Memory` where its tables found none.
+    pub fn new(alloc: Global, genesis: Block, bits: u8) -> Result<Engine, Memory>
+        requires genesis { IsGenesis genesis }
+        requires bits { bits ≤ 64 }
+        ensures { IfOk result (λ engine. engine ≡ ledger bits (genesis ∷ [])) }
+    {
+        let id = genesis.id;
+        let pool = Pool::new(alloc, genesis)?;
+        let dag = Dag::new(alloc, id)?;
+        let votes = votes_of_all(alloc, &dag)?;
+        // Tell the proof what kept and numbered blocks are.
+        let _kept = pool.kept();
+        let _blocks = dag.len();
+        Ok(Engine {
+            alloc,
+            bits,
+            genesis: id,
+            pool,
+            dag,
+            votes,
+            broken: false,
+        })
+    }
+
+    /// Judges bytes that arrive, and keeps the block that they spell where it is valid, new, and
+    /// finds room. They are refused by their first fault or for their work; else the block is
+    /// known, else there is no room for it, else it is kept, and waits or is present.
+    ///
+    /// A block that becomes present costs the votes of all present blocks anew.
+    ///
+    /// # Errors
+    ///
+    /// `Memory` where there was none. The engine is broken from then on.
+    pub fn offer(&mut self, bytes: &[u8]) -> Result<Answer, Memory>
+        requires { self.old.broken ≡ false }
+        ensures answer { IfOk result (λ answer.
+            answer ≡ answer_of self.old.bits self.old.kept bytes.now) }
+        ensures kept { OnOk result
+            (self.new.kept ≡ kept_after self.old.bits self.old.kept bytes.now) }
+        ensures bits { self.new.bits ≡ self.old.bits }
+        ensures broken { self.new.broken ≡ is_err result }
+    {
+        let judged = valid_block(self.alloc, self.bits, bytes);
+        let Ok(judged) = judged else {
+            self.broken = true;
+            return Err(Memory);
+        };
+        let block = match judged {
+            Ok(block) => block,
+            Err(refusal) => return Ok(Answer::Refused(refusal)),
+        };
+        let id = block.id;
+        match self.pool.standing(&id) {
+            Standing::Known => Ok(Answer::Known { id }),
+            Standing::Full => Ok(Answer::Full),
+            Standing::Fresh => self.take(block),
+        }
+    }
+
+    /// Keeps a valid block of a new id, for which there is room.
+    ///
+    /// # Errors
+    ///
+    /// `Memory` where there was none. The engine is broken from then on.
+    pub fn take(&mut self, block: Block) -> Result<Answer, Memory>
+        requires whole { self.old.broken ≡ false }
+        requires other { IsOther block }
+        requires work { BeginsWithZeros block.id self.old.bits }
+        requires fresh { standing_of self.old.kept block.id ≡ Standing.Fresh }
+        ensures answer { IfOk result (λ answer. answer ≡ joined self.old.kept block) }
+        ensures kept { OnOk result (self.new.kept ≡ self.old.kept ++ block ∷ []) }
+        ensures bits { self.new.bits ≡ self.old.bits }
+        ensures broken { self.new.broken ≡ is_err result }
+    {
+        let id = block.id;
+        self.broken = true;
+        match self.pool.offer(block)? {
+            Offer::Present(ids) => {
+                let ids = ids.as_slice();
+                add_all(&self.pool, &mut self.dag, ids)?;
+                self.votes = votes_of_all(self.alloc, &self.dag)?;
+                // Tells the proof what numbered blocks are.
+                let _blocks = self.dag.len();
+                self.broken = false;
+                let present = ids.len() as u16;
+                Ok(Answer::Kept { id, present })
+            }
+            Offer::Waiting => {
+                self.broken = false;
+                Ok(Answer::Held { id })
+            }
+            // Its id is fresh.
+            Offer::Known | Offer::Full => unreachable!(),
+        }
+    }
+
+    /// What the present blocks say of two blocks, by look-ups alone.
+    pub fn vote(&self, x: &BlockId, y: &BlockId) -> Word
+        requires { self.now.broken ≡ false }
+        ensures { result ≡
+            word (graph_of self.now.kept) (present self.now.kept) x.now y.now }
+    {
+        let Some(first) = self.dag.number(x) else {
+            return Word::Absent;
+        };
+        let Some(second) = self.dag.number(y) else {
+            return Word::Absent;
+        };
+        if first == second {
+            return Word::Same;
+        }
+        word_at(&self.votes, first, second)
+    }
+
+    /// How many blocks are present, from 1 to 512. What stands of their order stands here, for each
+    /// caller: it has the ids of the present blocks.
+    pub fn present(&self) -> u16
+        requires { self.now.broken ≡ false }
+        ensures count { result ≡ length (present self.now.kept) }
+        ensures order { (id : ℕ) →
+            has (order_of self.now.kept) id ≡ has (present self.now.kept) id }
+        ensures long { length (order_of self.now.kept) ≡ length (present self.now.kept) }
+    {
+        self.dag.len()
+    }
+
+    /// How many kept blocks wait for an ancestor, from 0 to 511.
+    pub fn waiting(&self) -> u16
+        requires { self.now.broken ≡ false }
+        ensures { result + length (present self.now.kept) ≡ length self.now.kept }
+    {
+        self.pool.kept() - self.dag.len()
+    }
+
+    /// The id of the block that became present as the n-th one, counted from 0, which is genesis.
+    pub fn id_at(&self, n: u16) -> BlockId
+        requires whole { self.now.broken ≡ false }
+        requires within { n < length (present self.now.kept) }
+        ensures { slice_get (order_of self.now.kept) n ≡ Some result }
+    {
+        self.dag.id(n)
+    }
+
+    /// The bits of work that an id has to meet.
+    pub fn bits(&self) -> u8
+        requires { self.now.broken ≡ false }
+        ensures value { result ≡ self.now.bits }
+        ensures bound { result ≤ 64 }
+    {
+        self.bits
+    }
+
+    /// The genesis block, by one look-up.
+    pub fn genesis(&self) -> &Block
+        requires { self.now.broken ≡ false }
+        ensures { slice_get self.now.kept 0 ≡ Some result.now }
+    {
+        match self.pool.block(&self.genesis) {
+            Some(block) => block,
+            None => unreachable!(),
+        }
+    }
+
+    /// How many blocks are kept, from 1 to 512: genesis and the waiting ones count. What stands of
+    /// the kept blocks stands here, for each caller.
+    pub fn kept_count(&self) -> u16
+        requires { self.now.broken ≡ false }
+        ensures count { result ≡ length self.now.kept }
+        ensures blocks { AreKept self.now.kept }
+    {
+        self.pool.kept()
+    }
+
+    /// The kept block with this id, or `None` where there is none. It takes one look-up.
+    pub fn block(&self, id: &BlockId) -> Option<&Block>
+        requires { self.now.broken ≡ false }
+        ensures { option_copied result ≡ find (λ block. block.id == id.now) self.now.kept }
+    {
+        self.pool.block(id)
+    }
+
+    /// Whether memory was refused to an arrival. Nothing else may be asked then.
+    pub fn broken(&self) -> bool
+        ensures { result ≡ self.now.broken }
+    {
+        self.broken
+    }
+}
