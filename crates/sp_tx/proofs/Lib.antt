@@ -2,3 +2,4 @@ pub mod Fronts
 pub mod Spelled
 pub mod Judged
 pub mod Whole
+pub mod Sorts
