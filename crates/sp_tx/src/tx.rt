@@ -18,7 +18,7 @@ use std::marker::Model;
 ///
 /// In bytes: the number of inputs (1 byte), the inputs, the number of outputs (1 byte), the
 /// outputs; at most 2,210 bytes. The table of the format, with each field's rule, stands in
-/// docs/FORMATS.md.
+/// docs/FORMATS.md under "Transactions".
 #[derive(Debug, Drop)]
 pub struct Tx {
     /// At most 16, their outpoints strictly ascending. A grant has none.
@@ -40,7 +40,7 @@ impl Model for Tx {
 
 impl Tx {
     /// A transaction of these parts, the inputs sorted by outpoint, those of equal outpoints in
-    /// their order.
+    /// their order. The time is that of a sort of the inputs and of one pass over the parts.
     ///
     /// # Errors
     ///
