@@ -1,5 +1,5 @@
 -- A transaction that meets the rules has at most 2,210 bytes.
-use Rattle.std.proofs.Common.{◌≡◌, ℕ, suc, ◌+◌, ◌*◌, ◌≤◌, List, [], ◌∷◌, ◌++◌, length, Option, Some, None, refl, ap, ◌∙◌, arith}
+use Rattle.std.proofs.Common.{◌≡◌, ◌+◌, ◌*◌, ◌≤◌, List, [], ◌∷◌, length, Option, Some, None, ap, ◌∙◌, arith}
 use Rattle.std.specs.Int.{w64, to_le_bytes}
 use Rattle.std.specs.List.{flat_map}
 use Rattle.std.proofs.lemmas.List.{length-append}
@@ -10,9 +10,9 @@ use Rattle.sp_ids.specs.Key.{bytes_of}
 use Rattle.sp_ids.specs.declared.outpoint.Outpoint.{Outpoint}
 use Rattle.sp_tx.specs.declared.parts.Input.{Input}
 use Rattle.sp_tx.specs.declared.parts.Output.{Output}
-use Rattle.sp_tx.specs.Format.{last_outpoint, sum_so_far}
+use Rattle.sp_tx.specs.Format.{last_outpoint}
 use Rattle.sp_tx.specs.Parts.{Transaction}
-use Rattle.sp_tx.specs.Spelling.{input_text, IsInput, IsOutput, IsTx, outpoint_text, output_text, preimage_text, spelling}
+use Rattle.sp_tx.specs.Spelling.{input_text, IsInput, IsTx, outpoint_text, output_text, preimage_text, spelling}
 
 length-input_text : (input : Input) → length (input_text input) ≡ 34 + length input.preimage
 length-input_text input =
