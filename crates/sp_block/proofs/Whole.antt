@@ -114,6 +114,13 @@ other_kind list genesis p bytes s =
     unfit true n e = let none : n ≡ 0 = eqb-true n 0 e in rw none refl
     unfit false n e = let some : 1 ≤ n = leb-true 1 n (and_true (leb 1 n) (leb n 64) e).0 in grind (arith, nat_tests)
 
+-- a list spells one block, of one kind
+pub one_of_either_kind : (list : List ℕ) (g h : Bool) (p q : Parts) → IsBytes list → SpellsBlock list g p → SpellsBlock list h q → (g ≡ h) × (p ≡ q)
+one_of_either_kind list true true p q bytes s t = (refl, (one_block true list list [] [] p q s t refl).1)
+one_of_either_kind list false false p q bytes s t = (refl, (one_block false list list [] [] p q s t refl).1)
+one_of_either_kind list true false p q bytes s t = absurd (apart list false q ParentCount t (other_kind list true p bytes s))
+one_of_either_kind list false true p q bytes s t = absurd (apart list true q ParentCount t (other_kind list false p bytes s))
+
 -- ---- what the calls answer
 
 pub steps_are : (genesis : Bool) (list : List ℕ) → read (block_form genesis) list ≡ block_steps genesis list

@@ -13,7 +13,7 @@ use std::marker::Model;
 /// In bytes: the version (1 byte, 1), the salt and the nonce (8 bytes each, the lowest first), the
 /// number of parents (1 byte), their ids (32 bytes each), the number of transactions (2 bytes, the
 /// lowest first), the transactions; at most 65,536 bytes. The table of the format, with each
-/// field's rule, stands in docs/FORMATS.md.
+/// field's rule, stands in docs/FORMATS.md under "Blocks".
 #[derive(Debug, Drop)]
 pub struct Block {
     /// The SHA-256 of the bytes.
@@ -39,7 +39,8 @@ impl Model for Block {
     ghost invariant = { λ b. IsBlock (record { id = b.id; bytes = b.bytes; salt = b.salt; nonce = b.nonce; parents = b.parents; txs = b.txs }) };
 }
 
-/// Whether the first `bits` bits of a block's id are zero, each byte read from its highest bit.
+/// Whether the first `bits` bits of a block's id are zero, each byte read from its highest bit. The
+/// time is that of reading so many bits; the id stands in the block.
 pub fn check_work(block: &Block, bits: u8) -> bool
     requires { bits ≤ 64 }
     ensures { IsTrue result ↔ BeginsWithZeros block.now.id bits }

@@ -15,7 +15,8 @@ use sp_ids::{BlockId, Memory};
 use sp_tx::{Tx, Txs, write_tx};
 use std::alloc::{AllocError, Global};
 
-/// What a block is made of before its nonce is found.
+/// What a block is made of before its nonce is found. Its bytes are those of a `Block`, the nonce
+/// at places 9 to 16; docs/FORMATS.md says so under "Blocks".
 #[derive(Debug, Drop)]
 pub struct Draft {
     pub salt: u64,

@@ -3,7 +3,8 @@
 use sp_form::ReadFault;
 use sp_tx::TxFault;
 
-/// What is wrong with the bytes: the first fault in the order of reading.
+/// What is wrong with the bytes: the first fault in the order of reading. The table stands in
+/// docs/FORMATS.md under "Blocks".
 #[derive(Clone, Copy, Debug, PartialEq, Eq)]
 pub enum BlockFault {
     /// There are more than 65,536 bytes.

@@ -32,12 +32,14 @@ pub fn one_first_fault()
 {}
 
 /// The bytes of a genesis block read as another one, and the other way round, have the fault of the
-/// count of parents.
+/// count of parents. So a list spells at most one block, of one kind.
 pub fn kinds_are_told_apart()
     ensures genesis { (list : List ℕ) (parts : Parts) → IsBytes list → SpellsBlock list true parts
         → HasBlockFault list false ParentCount }
     ensures other { (list : List ℕ) (parts : Parts) → IsBytes list → SpellsBlock list false parts
         → HasBlockFault list true ParentCount }
+    ensures one { (list : List ℕ) (g h : Bool) (p q : Parts) → IsBytes list → SpellsBlock list g p
+        → SpellsBlock list h q → (g ≡ h) × (p ≡ q) }
 {}
 
 /// A block is a genesis block exactly where it has no parents, else it is another one, with 1 to 64

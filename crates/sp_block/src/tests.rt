@@ -110,6 +110,9 @@ type Row = (bool, &'static [Fields], Result<usize, ReadBlockFault>);
 #[rattlefmt::skip]
 const ROWS: &[Row] = &[
     (true, &[&HEAD, &[&[0], &[0, 0]]], Ok(0)),
+    // At most 65,536 bytes, which is judged before all fields.
+    (true, &[&[&[2]], &[&[0; 65_535]]], Err(VERSION)),
+    (true, &[&[&[2]], &[&[0; 65_536]]], Err(TOO_LONG)),
     (true, &[], Err(SHORT)),
     (false, &[&[&[0]]], Err(VERSION)),
     (true, &[&[&[2]]], Err(VERSION)),
@@ -185,15 +188,42 @@ fn reads(rt: HostRuntime) -> Result<(), Fail> {
     Ok(())
 }
 
-/// The longest bytes that are read, and one more.
+/// A transaction that spends the outputs 0 to 15 of another, the first 15 with one preimage. Each preimage
+/// stands behind its length.
+fn sixteen(alloc: Global, id: u8, preimage: Fields, last: Fields) -> Result<Vec<u8>, AllocError> {
+    let mut bytes = Vec::new(alloc);
+    bytes.push(16)?;
+    for index in 0..16 {
+        bytes.extend_from_slice(&[id; 32])?;
+        bytes.push(index)?;
+        let preimage = if index < 15 { preimage } else { last };
+        bytes.extend_from_slice(&preimage.concat(alloc)?)?;
+    }
+    let output: [&[u8]; 3] = [&[1], &ONE, &LOCK];
+    bytes.extend_from_slice(&output.concat(alloc)?)?;
+    Ok(bytes)
+}
+
+/// As many transactions of 16 inputs as a block can hold, and preimages that fill its last byte.
+fn longest(alloc: Global) -> Result<Vec<u8>, AllocError> {
+    let mut bytes = joined(alloc, &[&HEAD, &[&[1], &LOW, &[108, 0]]])?;
+    for id in 0..107 {
+        let tx = sixteen(alloc, id, &[&[1, b'a']], &[&[1, b'a']])?;
+        bytes.extend_from_slice(&tx)?;
+    }
+    let tx = sixteen(alloc, 107, &[&[30], &[5; 30]], &[&[34], &[5; 34]])?;
+    bytes.extend_from_slice(&tx)?;
+    Ok(bytes)
+}
+
 #[test]
 fn lengths(rt: HostRuntime) -> Result<(), Fail> {
     let alloc = rt.alloc();
-    let mut bytes = joined(alloc, &[&HEAD, &[&[0], &[0, 0]]])?;
-    bytes.resize(65_536, 0)?;
-    assert_eq!(rt; read(alloc, &bytes, true), Err(TRAILING));
+    let mut bytes = longest(alloc)?;
+    assert_eq!(rt; bytes.len(), 65_536);
+    assert_eq!(rt; read(alloc, &bytes, false), Ok(108));
     bytes.push(0)?;
-    assert_eq!(rt; read(alloc, &bytes, true), Err(TOO_LONG));
+    assert_eq!(rt; read(alloc, &bytes, false), Err(TOO_LONG));
     Ok(())
 }
 
@@ -424,6 +454,13 @@ const SEARCHES: &[(u8, u32, Option<u64>)] = &[
     (64, 99, None),
 ];
 
+/// The same for many tries, the last of them 2^20 digests of 52 bytes.
+const LONG_SEARCHES: &[(u8, u32, Option<u64>)] = &[
+    (20, 64_242, None),
+    (20, 64_243, Some(64_242)),
+    (21, 1 << 20, None),
+];
+
 fn sought(
     rt: &impl Abort,
     alloc: Global,
@@ -437,12 +474,25 @@ fn sought(
     Ok(seek_nonce(alloc, draft, bits, tries)?)
 }
 
-#[test]
-fn searches(rt: HostRuntime) -> Result<(), Fail> {
-    let alloc = rt.alloc();
+fn all_found(
+    rt: &impl Abort,
+    alloc: Global,
+    searches: &[(u8, u32, Option<u64>)],
+) -> Result<(), Fail> {
     let draft = draft(alloc, 0x0123_4567_89ab_cdef, &[PARENT], &[])?;
-    for &(bits, tries, answer) in SEARCHES {
-        assert_eq!(rt; sought(&rt, alloc, &draft, bits, tries)?, answer);
+    for &(bits, tries, answer) in searches {
+        assert_eq!(rt; sought(rt, alloc, &draft, bits, tries)?, answer);
     }
     Ok(())
+}
+
+#[test]
+fn searches(rt: HostRuntime) -> Result<(), Fail> {
+    all_found(&rt, rt.alloc(), SEARCHES)
+}
+
+/// A second or less, as it is built for the gate.
+#[test]
+fn long_searches(rt: HostRuntime) -> Result<(), Fail> {
+    all_found(&rt, rt.alloc(), LONG_SEARCHES)
 }

@@ -1,6 +1,7 @@
 //! Why a text is no id. It stands apart because all three kinds of id answer it.
 
-/// Why a text doesn't spell an id: the first of these that is true of it, in this order.
+/// Why a text doesn't spell an id: the first of these that is true of it, in this order. The table
+/// stands in docs/FORMATS.md under "Ids, locks and outpoints".
 #[derive(Clone, Copy, Debug, PartialEq, Eq)]
 pub enum HexFault {
     /// Its length is odd.

@@ -20,7 +20,7 @@ impl Model for Ids {
 }
 
 impl Ids {
-    /// These ids, in this order.
+    /// These ids, in this order. Constant time, as `as_slice`.
     pub fn of(list: Vec<BlockId>) -> Ids
         ensures { result ≡ list.items }
     {

@@ -13,6 +13,9 @@ use std::hash::{Hash, Hasher};
 use std::marker::Model;
 
 /// The SHA-256 of a transaction's bytes. Ids are ordered as the numbers of their bytes.
+///
+/// In bytes: 32 of them, the first one the highest; in a text 64 hexadecimal digits. The rules of
+/// both stand in docs/FORMATS.md under "Ids, locks and outpoints".
 #[derive(Clone, Copy, Debug)]
 pub struct TxId(pub [u8; 32]);
 
@@ -56,14 +59,15 @@ impl TxId {
         &self.0
     }
 
-    /// Writes it as 64 lower case digits, two for each byte, the first byte first.
+    /// Writes it as 64 lower case digits, two for each byte, the first byte first. Constant time.
     pub fn to_hex(&self, out: &mut [u8; 64])
         ensures { out.new ≡ encode_lower (bytes_of self.now) }
     {
         bytes::write_hex(&self.0, out);
     }
 
-    /// Reads it from 64 digits of either case, two for each byte, the first byte first.
+    /// Reads it from 64 digits of either case, two for each byte, the first byte first. Constant
+    /// time.
     ///
     /// # Errors
     ///

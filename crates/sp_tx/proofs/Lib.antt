@@ -2,3 +2,5 @@ pub mod Fronts
 pub mod Spelled
 pub mod Judged
 pub mod Whole
+pub mod Sorts
+pub mod Lengths

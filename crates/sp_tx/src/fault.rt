@@ -2,7 +2,8 @@
 
 use sp_form::ReadFault;
 
-/// What is wrong with the bytes: the first fault in the order of reading.
+/// What is wrong with the bytes: the first fault in the order of reading. The table stands in
+/// docs/FORMATS.md under "Transactions".
 #[derive(Clone, Copy, Debug, PartialEq, Eq)]
 pub enum TxFault {
     /// The bytes end within a field or before it.

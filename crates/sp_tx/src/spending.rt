@@ -20,7 +20,8 @@ fn have_common(a: &[Input], b: &[Input]) -> bool
     a.iter().any(|input| spends(b, &input.from))
 }
 
-/// Whether two transactions have different ids and an outpoint in common.
+/// Whether two transactions have different ids and an outpoint in common. At most 256 pairs of
+/// outpoints are compared.
 pub fn conflicts(a: &Tx, a_id: &TxId, b: &Tx, b_id: &TxId) -> bool
     requires a_is { a_id.now ≡ id_of a.now }
     requires b_is { b_id.now ≡ id_of b.now }
@@ -29,7 +30,8 @@ pub fn conflicts(a: &Tx, a_id: &TxId, b: &Tx, b_id: &TxId) -> bool
     *a_id != *b_id && have_common(a.inputs.as_slice(), b.inputs.as_slice())
 }
 
-/// Whether the preimage's SHA-256 is the output's lock.
+/// Whether the preimage's SHA-256 is the output's lock. The time is that of one pass over the
+/// preimage.
 pub fn opens(input: &Input, output: &Output) -> bool
     ensures { IsTrue result ↔ (sha256_number input.now.preimage ≡ output.now.lock) }
 {

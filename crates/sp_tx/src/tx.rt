@@ -18,7 +18,7 @@ use std::marker::Model;
 ///
 /// In bytes: the number of inputs (1 byte), the inputs, the number of outputs (1 byte), the
 /// outputs; at most 2,210 bytes. The table of the format, with each field's rule, stands in
-/// docs/FORMATS.md.
+/// docs/FORMATS.md under "Transactions".
 #[derive(Debug, Drop)]
 pub struct Tx {
     /// At most 16, their outpoints strictly ascending. A grant has none.
@@ -40,7 +40,7 @@ impl Model for Tx {
 
 impl Tx {
     /// A transaction of these parts, the inputs sorted by outpoint, those of equal outpoints in
-    /// their order.
+    /// their order. The time is that of a sort of the inputs and of one pass over the parts.
     ///
     /// # Errors
     ///
@@ -49,15 +49,29 @@ impl Tx {
     /// than 64 bytes; no output or more than 16; an amount of 0; amounts that come to 2^63 or more.
     /// `Memory` where the sort found none; the parts are then dropped, as after each error.
     pub fn new(alloc: Global, inputs: Inputs, outputs: Outputs) -> Result<Tx, TxReadFault>
+        // What is answered is so.
         ensures made { IfOk result (IsMadeOf inputs outputs) }
         ensures valid { IfOk result IsTx }
         ensures fault { IfErr result (IsCause (HasPartsFault inputs outputs)) }
+
+        // What is so is answered, unless memory runs out.
+        ensures only { (t : Transaction) → IsMadeOf inputs outputs t → IsTx t → Answers result (Ok t) }
+        ensures only_fault { (fault : TxFault) → HasPartsFault inputs outputs fault → Answers result (Err fault) }
     {
-        let inputs = inputs.sorted(alloc)?;
-        match check(inputs.as_slice(), outputs.as_slice()) {
-            Ok(()) => Ok(Tx { inputs, outputs }),
-            Err(fault) => Err(TxReadFault::Fault(fault)),
-        }
+        tx_of(alloc, inputs, outputs)
+    }
+}
+
+/// The transaction of these parts, or their first fault.
+fn tx_of(alloc: Global, inputs: Inputs, outputs: Outputs) -> Result<Tx, TxReadFault>
+    ensures made { IfOk result (IsMadeOf inputs outputs) }
+    ensures valid { IfOk result IsTx }
+    ensures fault { IfErr result (IsCause (HasPartsFault inputs outputs)) }
+{
+    let inputs = inputs.sorted(alloc)?;
+    match check(inputs.as_slice(), outputs.as_slice()) {
+        Ok(()) => Ok(Tx { inputs, outputs }),
+        Err(fault) => Err(TxReadFault::Fault(fault)),
     }
 }
 

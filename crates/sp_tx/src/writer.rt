@@ -66,7 +66,8 @@ fn put_tx(out: &mut Vec<u8>, tx: &Tx) -> Result<(), AllocError>
     put_outputs(out, tx.outputs.as_slice())
 }
 
-/// Appends the bytes of a transaction, at most 2,210 of them. After `Memory` nothing was appended.
+/// Appends the bytes of a transaction, at most 2,210 of them, in the layout that `Tx` names. After
+/// `Memory` nothing was appended. The time is linear in these bytes.
 pub fn write_tx(tx: &Tx, out: &mut Vec<u8>) -> Result<(), Memory>
     ensures ok { OnOk result (out.new.items ≡ out.old.items ++ spelling tx.now) }
     ensures spells { SpellsTx (spelling tx.now) tx.now }
@@ -80,7 +81,8 @@ pub fn write_tx(tx: &Tx, out: &mut Vec<u8>) -> Result<(), Memory>
     Ok(())
 }
 
-/// The id of a transaction, the SHA-256 of its bytes.
+/// The id of a transaction, the SHA-256 of its bytes, which are written for it once. The time is
+/// linear in them.
 #[tactic(auto, unfolding(crate::specs::Spending::id_of))]
 pub fn id(alloc: Global, tx: &Tx) -> Result<TxId, Memory>
     ensures { IfOk result (λ id. id ≡ id_of tx.now) }
