@@ -8,3 +8,4 @@ pub mod Signs
 pub mod Exchange
 pub mod Ancestors
 pub mod Renamed
+pub mod Everywhere

@@ -6,7 +6,7 @@ use Rattle.sp_model.specs.Renaming.{AreRenamed, IsRenamed}
 use Rattle.sp_model.specs.Votes.{vote, virt, word}
 use Rattle.sp_model.proofs.Sets.{has-filter, has-filter_from}
 use Rattle.sp_model.proofs.Pasts.{complete_downset, complete_key}
-use Rattle.sp_model.proofs.Match.{has-map, in_past_match, SameOn, virt_match, vote_match}
+use Rattle.sp_model.proofs.Match.{downset_match, has-map, in_past_match, SameOn, virt_match, vote_match}
 
 -- a set and the list of its new keys
 mapped : (r : ℕ → ℕ) (s : List ℕ) → AreRenamed r s (map r s)
@@ -101,6 +101,9 @@ module _ (r : ℕ → ℕ) (g g' : Graph) (named : IsRenamed r g g') where
       forth h =
           let both = has-filter (λ w. not (eqb w z) && not (related g w z)) s a h in
           has-filter_from (λ w. not (eqb w (r z)) && not (related g' w (r z))) s' (r a) (sets.into a both.0) (apart_renamed s s' a z down sets both.0 hz ∙ both.1)
+
+  pub downset_renamed : (s s' : List ℕ) → IsDownset g s → AreRenamed r s s' → IsDownset g' s'
+  downset_renamed s s' down sets = downset_match r IsKey g g' s s' (same_on s s' down sets)
 
   -- ---- votes and words
 
