@@ -1,21 +1,15 @@
 -- Other keys that are told apart everywhere: what stands of every block, complete or not, and of every set.
 use Rattle.std.proofs.Common.{◌≡◌, ℕ, zero, suc, Bool, true, false, not, ◌||◌, ◌&&◌, List, [], ◌∷◌, map, length, refl, sym, ap, ◌∙◌, inl, inr, eqb, arith}
 use Rattle.std.specs.Prelude.{filter, pos}
-use Rattle.std.specs.List.{list_any, list_all, find}
-use Rattle.std.proofs.lemmas.Bool.{cases_eq, eq-eqb, ne_eqb, or_parts, and_from, and_parts}
+use Rattle.std.specs.List.{list_any, list_all}
+use Rattle.std.proofs.lemmas.Bool.{cases_eq, eq-eqb, ne_eqb, and_from, and_parts}
 use Rattle.std.proofs.lemmas.Int.{ints}
 use Rattle.std.proofs.lemmas.List.{length-map}
-use Rattle.sp_model.specs.Graph.{Graph, Block, has, keys, parents_of, parents_or_none, rounds, complete, reaches_within, in_past, past, bar, future, related, anticone}
+use Rattle.sp_model.specs.Graph.{Graph, Block, has, keys, parents_of, rounds, complete, reaches_within, in_past, past, bar, future, related, anticone}
 use Rattle.sp_model.specs.Renaming.{AreRenamed, IsWhollyRenamed}
 use Rattle.sp_model.specs.Votes.{total}
-use Rattle.sp_model.proofs.Sets.{has-filter, has-filter_from}
+use Rattle.sp_model.proofs.Sets.{has-filter, has-filter_from, no_parents, same_truth}
 use Rattle.sp_model.proofs.Match.{total_matched}
-
-same_truth : (p q : Bool) → (p ≡ true → q ≡ true) → (q ≡ true → p ≡ true) → p ≡ q
-same_truth true true f h = refl
-same_truth true false f h = sym (f refl)
-same_truth false true f h = h refl
-same_truth false false f h = refl
 
 -- the members that pass are those that are members and pass
 has-filter_is : (p : ℕ → Bool) (xs : List ℕ) (x : ℕ) → has (filter p xs) x ≡ (has xs x && p x)
@@ -37,13 +31,6 @@ all_mapped r p q (x ∷ xs) h =
     let here : q (r x) ≡ p x = h x in
     let rest : list_all q (map r xs) ≡ list_all p xs = all_mapped r p q xs h in
     cc
-
--- a key that isn't there has no parents
-no_parents : (blocks : List Block) (k : ℕ) → has (map (λ (b : Block). b.key) blocks) k ≡ false → parents_or_none (find (λ b. eqb b.key k) blocks) ≡ []
-no_parents [] k h = refl
-no_parents (b ∷ blocks) k h =
-    let parts : (eqb b.key k ≡ false) × (has (map (λ (b : Block). b.key) blocks) k ≡ false) = or_parts (eqb b.key k) (has (map (λ (b : Block). b.key) blocks) k) h in
-    rw parts.0 (no_parents blocks k parts.1)
 
 total_of_ones : (xs : List ℕ) → total (λ x. pos 1) xs ≡ pos (length xs)
 total_of_ones [] = refl

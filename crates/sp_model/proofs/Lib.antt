@@ -2,6 +2,7 @@ pub mod Sets
 pub mod Pasts
 pub mod Rounds
 pub mod Paths
+pub mod Reaching
 pub mod Recursion
 pub mod Match
 pub mod Signs

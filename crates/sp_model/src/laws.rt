@@ -33,6 +33,16 @@ pub fn past_by_steps()
         ¬ IsTrue (in_past graph z z) }
 {}
 
+/// The same of any block, be it complete or not: its past is its parents and their pasts, and a path
+/// of any length leads into it. So the number of steps in the definition is no part of its meaning.
+#[tactic(auto, using(crate::proofs::Reaching::in_past_any_step, crate::proofs::Reaching::in_past_by_any_path))]
+pub fn past_of_any_block()
+    ensures parents { (graph : Graph) (a z : ℕ) →
+        in_past graph a z ≡ list_any (λ parent. (parent == a) || in_past graph a parent) (parents_of graph z) }
+    ensures path { (graph : Graph) (steps a z : ℕ) →
+        IsTrue (reaches_within steps graph a z) → IsTrue (in_past graph a z) }
+{}
+
 /// The vote of a member of a downset is given by the first case that applies, with no bound on how
 /// deep the recursion goes.
 #[tactic(auto, using(crate::proofs::Recursion::vote_is))]
