@@ -95,7 +95,7 @@ impl Dag {
         }
     }
 
-    /// The id of a block.
+    /// The id of a block, at once.
     pub fn id(&self, n: u16) -> BlockId
         requires { n < length self.now.parents }
         ensures { slice_get self.now.ids n ≡ Some result }
@@ -103,7 +103,7 @@ impl Dag {
         self.ids[n as usize]
     }
 
-    /// The numbers of the blocks in the past of a block.
+    /// The numbers of the blocks in the past of a block, ascending; the row is lent as it stands.
     pub fn past(&self, n: u16) -> &Row
         requires { n < length self.now.parents }
         ensures { result.now ≡ past (graph_of self.now.parents) n }
@@ -111,7 +111,8 @@ impl Dag {
         self.table.past(n)
     }
 
-    /// The numbers of the blocks that have this one in their past.
+    /// The numbers of the blocks that have this one in their past, ascending; the row is lent as it
+    /// stands.
     pub fn future(&self, n: u16) -> &Row
         requires { n < length self.now.parents }
         ensures { result.now ≡
@@ -129,7 +130,7 @@ impl Dag {
         self.table.in_past(a, b)
     }
 
-    /// How many pairs of blocks are unrelated, from 0 to 130,816.
+    /// How many pairs of blocks are unrelated, from 0 to 130,816, at once.
     pub fn pair_count(&self) -> u32
         ensures value { result ≡ length (pairs_of self.now.parents) }
         ensures bound { result ≤ 130816 }
@@ -137,8 +138,8 @@ impl Dag {
         self.table.pair_count()
     }
 
-    /// An unrelated pair, the lower number first. Pairs stand by their higher number, and then by
-    /// their lower one, so those of a new block come behind all others.
+    /// An unrelated pair, the lower number first, at once. Pairs stand by their higher number, and
+    /// then by their lower one, so those of a new block come behind all others.
     pub fn pair(&self, i: u32) -> (u16, u16)
         requires { i < length (pairs_of self.now.parents) }
         ensures pair { slice_get (pairs_of self.now.parents) i ≡ Some result }

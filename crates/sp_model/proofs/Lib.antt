@@ -2,9 +2,11 @@ pub mod Sets
 pub mod Pasts
 pub mod Rounds
 pub mod Paths
+pub mod Reaching
 pub mod Recursion
 pub mod Match
 pub mod Signs
 pub mod Exchange
 pub mod Ancestors
 pub mod Renamed
+pub mod Everywhere

@@ -48,7 +48,7 @@ pub record Matched (r : ℕ → ℕ) (xs ys : List ℕ) : Type 0 where
   pub into : (x : ℕ) → has xs x ≡ true → has ys (r x) ≡ true
   pub onto : (y : ℕ) → has ys y ≡ true → (x : ℕ) × (has xs x ≡ true) × (r x ≡ y)
 
-total_matched : (r : ℕ → ℕ) (f f' : ℕ → ℤ) (xs ys : List ℕ) → ((a b : ℕ) → has xs a ≡ true → has xs b ≡ true → r a ≡ r b → a ≡ b) → AreDistinct xs → AreDistinct ys → Matched r xs ys
+pub total_matched : (r : ℕ → ℕ) (f f' : ℕ → ℤ) (xs ys : List ℕ) → ((a b : ℕ) → has xs a ≡ true → has xs b ≡ true → r a ≡ r b → a ≡ b) → AreDistinct xs → AreDistinct ys → Matched r xs ys
     → ((x : ℕ) → has xs x ≡ true → f' (r x) ≡ f x) → total f' ys ≡ total f xs
 total_matched r f f' [] ys inj d d' m same = empty ys (λ y h. let x = m.onto y h in false≢true x.1)
   where
@@ -159,7 +159,7 @@ reach_match (suc m) r D g g' s s' a z same h reached =
           | inr below ↦ rest q.0 q.1 (ap (reaches_within m g' a) q.2 ∙ below)
         ]
 
-downset_match : (r : ℕ → ℕ) (D : ℕ → Type 0) (g g' : Graph) (s s' : List ℕ) → SameOn r D g g' s s' → IsDownset g' s'
+pub downset_match : (r : ℕ → ℕ) (D : ℕ → Type 0) (g g' : Graph) (s s' : List ℕ) → SameOn r D g g' s s' → IsDownset g' s'
 unfolding in_past
 downset_match r D g g' s s' same =
     record {

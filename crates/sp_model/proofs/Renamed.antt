@@ -1,12 +1,12 @@
 -- Pasts, futures, anticones, votes and words under other keys.
-use Rattle.std.proofs.Common.{◌≡◌, ℕ, Bool, true, false, not, ◌&&◌, List, [], ◌∷◌, map, refl, sym, ap, ◌∙◌, inl, inr, eqb}
+use Rattle.std.proofs.Common.{◌≡◌, ℕ, true, not, ◌&&◌, List, [], ◌∷◌, map, refl, sym, ap, ◌∙◌, inl, inr, eqb}
 use Rattle.std.proofs.lemmas.Bool.{cases_eq, eq-eqb, eqb-true, false≢true, ne_eqb, or_cases, or_left, or_right}
 use Rattle.sp_model.specs.Graph.{Graph, AreDistinct, has, keys, complete, in_past, future, related, anticone, IsDownset}
 use Rattle.sp_model.specs.Renaming.{AreRenamed, IsRenamed}
 use Rattle.sp_model.specs.Votes.{vote, virt, word}
-use Rattle.sp_model.proofs.Sets.{has-filter, has-filter_from}
+use Rattle.sp_model.proofs.Sets.{has-filter, has-filter_from, same_truth}
 use Rattle.sp_model.proofs.Pasts.{complete_downset, complete_key}
-use Rattle.sp_model.proofs.Match.{has-map, in_past_match, SameOn, virt_match, vote_match}
+use Rattle.sp_model.proofs.Match.{downset_match, has-map, in_past_match, SameOn, virt_match, vote_match}
 
 -- a set and the list of its new keys
 mapped : (r : ℕ → ℕ) (s : List ℕ) → AreRenamed r s (map r s)
@@ -43,12 +43,6 @@ module _ (r : ℕ → ℕ) (g g' : Graph) (named : IsRenamed r g g') where
         | inl e ↦ eq-eqb (r a) (r b) (ap r e) ∙ sym (eq-eqb a b e)
         | inr ne ↦ ne_eqb (r a) (r b) (λ e. ne (named.one_to_one a b ka kb e)) ∙ sym (ne_eqb a b ne)
       ]
-
-  same_truth : (p q : Bool) → (p ≡ true → q ≡ true) → (q ≡ true → p ≡ true) → p ≡ q
-  same_truth true true f h = refl
-  same_truth true false f h = sym (f refl)
-  same_truth false true f h = h refl
-  same_truth false false f h = refl
 
   -- a key is in the set exactly where its new key is in the other one
   pub same_member : (s s' : List ℕ) (k : ℕ) → IsDownset g s → AreRenamed r s s' → IsKey k → has s' (r k) ≡ has s k
@@ -101,6 +95,9 @@ module _ (r : ℕ → ℕ) (g g' : Graph) (named : IsRenamed r g g') where
       forth h =
           let both = has-filter (λ w. not (eqb w z) && not (related g w z)) s a h in
           has-filter_from (λ w. not (eqb w (r z)) && not (related g' w (r z))) s' (r a) (sets.into a both.0) (apart_renamed s s' a z down sets both.0 hz ∙ both.1)
+
+  pub downset_renamed : (s s' : List ℕ) → IsDownset g s → AreRenamed r s s' → IsDownset g' s'
+  downset_renamed s s' down sets = downset_match r IsKey g g' s s' (same_on s s' down sets)
 
   -- ---- votes and words
 

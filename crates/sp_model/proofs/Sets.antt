@@ -1,9 +1,9 @@
 -- Membership tests, and sums of signed numbers.
-use Rattle.std.proofs.Common.{◌≡◌, ℕ, Bool, true, false, cond, List, [], ◌∷◌, refl, sym, ap, ◌∙◌, inl, inr, eqb}
+use Rattle.std.proofs.Common.{◌≡◌, ℕ, Bool, true, false, cond, List, [], ◌∷◌, map, refl, sym, ap, ◌∙◌, inl, inr, eqb}
 use Rattle.std.specs.Prelude.{filter, ℤ}
-use Rattle.std.specs.List.{list_any, list_all}
-use Rattle.std.proofs.lemmas.Bool.{or_cases, and_parts, eqb-true, eq-eqb, false≢true, or_left, or_right, and_from}
-use Rattle.sp_model.specs.Graph.{has}
+use Rattle.std.specs.List.{list_any, list_all, find}
+use Rattle.std.proofs.lemmas.Bool.{or_cases, or_parts, and_parts, eqb-true, eq-eqb, false≢true, or_left, or_right, and_from}
+use Rattle.sp_model.specs.Graph.{Block, has, parents_or_none}
 use Rattle.sp_model.specs.Votes.{total}
 
 -- some member passes a test that finds one
@@ -83,3 +83,17 @@ any_same f g (x ∷ xs) h =
     let here : f x ≡ g x = h x (or_left (eqb x x) (has xs x) (eq-eqb x x refl)) in
     let rest : list_any f xs ≡ list_any g xs = any_same f g xs (λ y there. h y (or_right (eqb x y) (has xs y) there)) in
     cc
+
+-- a key that isn't there has no parents
+pub no_parents : (blocks : List Block) (k : ℕ) → has (map (λ (b : Block). b.key) blocks) k ≡ false → parents_or_none (find (λ b. eqb b.key k) blocks) ≡ []
+no_parents [] k h = refl
+no_parents (b ∷ blocks) k h =
+    let parts : (eqb b.key k ≡ false) × (has (map (λ (b : Block). b.key) blocks) k ≡ false) = or_parts (eqb b.key k) (has (map (λ (b : Block). b.key) blocks) k) h in
+    rw parts.0 (no_parents blocks k parts.1)
+
+-- two truth values of which each follows from the other
+pub same_truth : (p q : Bool) → (p ≡ true → q ≡ true) → (q ≡ true → p ≡ true) → p ≡ q
+same_truth true true f h = refl
+same_truth true false f h = sym (f refl)
+same_truth false true f h = h refl
+same_truth false false f h = refl

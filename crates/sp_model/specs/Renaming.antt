@@ -15,3 +15,10 @@ pub record IsRenamed (rename : ℕ → ℕ) (graph other : Graph) : Type 0 where
 pub record AreRenamed (rename : ℕ → ℕ) (set other : List ℕ) : Type 0 where
   pub into : (k : ℕ) → has set k ≡ true → has other (rename k) ≡ true
   pub onto : (k : ℕ) → has other k ≡ true → (j : ℕ) × (has set j ≡ true) × (rename j ≡ k)
+
+-- The other graph has the blocks of the graph under new keys, in any order of the list, and no others. All
+-- numbers have different new keys.
+pub record IsWhollyRenamed (rename : ℕ → ℕ) (graph other : Graph) : Type 0 where
+  pub one_to_one : (a b : ℕ) → rename a ≡ rename b → a ≡ b
+  pub named : IsRenamed rename graph other
+  pub whole : AreRenamed rename (keys graph) (keys other)

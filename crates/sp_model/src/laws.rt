@@ -6,7 +6,7 @@ ghost use Rattle.std.specs.List.{list_any};
 ghost use Rattle.sp_model.specs.declared.word.Word.TheVariants.{Before, After, Tie, Same, Absent};
 ghost use Rattle.sp_model.specs.Graph.{Graph, IsDownset, AreDistinct, has, keys, parents_of, round, complete, reaches_within, in_past, past, bar, future, related, anticone};
 ghost use Rattle.sp_model.specs.Agreement.{AgreesOn};
-ghost use Rattle.sp_model.specs.Renaming.{AreRenamed, IsRenamed};
+ghost use Rattle.sp_model.specs.Renaming.{AreRenamed, IsRenamed, IsWhollyRenamed};
 ghost use Rattle.sp_model.specs.Votes.{sgn, total, case_of, vote_by, vote, virt, word};
 ghost use Rattle.sp_model.specs.Examples as example;
 ghost use Rattle.sp_model.specs.Examples.{said};
@@ -31,6 +31,16 @@ pub fn past_by_steps()
         IsTrue (reaches_within steps graph a z) → IsTrue (in_past graph a z) }
     ensures apart { (graph : Graph) (z : ℕ) → IsTrue (has (complete graph) z) →
         ¬ IsTrue (in_past graph z z) }
+{}
+
+/// The same of any block, be it complete or not: its past is its parents and their pasts, and a path
+/// of any length leads into it. So the number of steps in the definition is no part of its meaning.
+#[tactic(auto, using(crate::proofs::Reaching::in_past_any_step, crate::proofs::Reaching::in_past_by_any_path))]
+pub fn past_of_any_block()
+    ensures parents { (graph : Graph) (a z : ℕ) →
+        in_past graph a z ≡ list_any (λ parent. (parent == a) || in_past graph a parent) (parents_of graph z) }
+    ensures path { (graph : Graph) (steps a z : ℕ) →
+        IsTrue (reaches_within steps graph a z) → IsTrue (in_past graph a z) }
 {}
 
 /// The vote of a member of a downset is given by the first case that applies, with no bound on how
@@ -80,9 +90,10 @@ pub fn ancestors_first()
         IsTrue (has set y) → IsTrue (in_past graph x y) → virt graph set x y ≡ negsuc 0 }
 {}
 
-/// Other keys, and any order of the lists, change no past, future, anticone, vote or word. The new
-/// keys are told apart where the old ones are keys of the graph.
-#[tactic(auto, using(crate::proofs::Renamed::in_past_renamed, crate::proofs::Renamed::future_renamed, crate::proofs::Renamed::anticone_renamed, crate::proofs::Renamed::vote_renamed, crate::proofs::Renamed::virt_renamed, crate::proofs::Renamed::word_renamed))]
+/// Other keys, and any order of the lists, change no past, future, anticone, downset, vote or word.
+/// The new keys are told apart where the old ones are keys of the graph; there may be more blocks
+/// under other keys.
+#[tactic(auto, using(crate::proofs::Renamed::in_past_renamed, crate::proofs::Renamed::downset_renamed, crate::proofs::Renamed::future_renamed, crate::proofs::Renamed::anticone_renamed, crate::proofs::Renamed::vote_renamed, crate::proofs::Renamed::virt_renamed, crate::proofs::Renamed::word_renamed))]
 pub fn renaming()
     ensures past { (rename : ℕ → ℕ) (graph other : Graph) (a z : ℕ) → IsRenamed rename graph other →
         IsTrue (has (keys graph) a) → IsTrue (has (complete graph) z) →
@@ -95,6 +106,9 @@ pub fn renaming()
         IsRenamed rename graph other → IsDownset graph set → AreRenamed rename set new →
         IsTrue (has (keys graph) a) → IsTrue (has set z) →
         has (anticone other new (rename z)) (rename a) ≡ has (anticone graph set z) a }
+    ensures downset { (rename : ℕ → ℕ) (graph other : Graph) (set new : List ℕ) →
+        IsRenamed rename graph other → IsDownset graph set → AreRenamed rename set new →
+        IsDownset other new }
     ensures vote { (rename : ℕ → ℕ) (graph other : Graph) (set new : List ℕ) (z x y : ℕ) →
         IsRenamed rename graph other → IsDownset graph set → AreRenamed rename set new →
         AreDistinct set → AreDistinct new →
@@ -110,6 +124,34 @@ pub fn renaming()
         AreDistinct set → AreDistinct new →
         IsTrue (has (keys graph) x) → IsTrue (has (keys graph) y) →
         word other new (rename x) (rename y) ≡ word graph set x y }
+{}
+
+/// Where all numbers have different new keys and the other list has no further blocks, other keys
+/// and any order of the lists change no past, future or anticone of any block in any set, be it
+/// complete or not, nor which blocks are complete.
+#[tactic(auto, using(crate::proofs::Everywhere::in_past_everywhere, crate::proofs::Everywhere::past_everywhere, crate::proofs::Everywhere::bar_everywhere, crate::proofs::Everywhere::complete_everywhere, crate::proofs::Everywhere::related_everywhere, crate::proofs::Everywhere::future_everywhere, crate::proofs::Everywhere::anticone_everywhere))]
+pub fn renaming_everywhere()
+    ensures in_past { (rename : ℕ → ℕ) (graph other : Graph) (a z : ℕ) →
+        IsWhollyRenamed rename graph other →
+        in_past other (rename a) (rename z) ≡ in_past graph a z }
+    ensures past { (rename : ℕ → ℕ) (graph other : Graph) (z a : ℕ) →
+        IsWhollyRenamed rename graph other →
+        has (past other (rename z)) (rename a) ≡ has (past graph z) a }
+    ensures bar { (rename : ℕ → ℕ) (graph other : Graph) (z a : ℕ) →
+        IsWhollyRenamed rename graph other →
+        has (bar other (rename z)) (rename a) ≡ has (bar graph z) a }
+    ensures complete { (rename : ℕ → ℕ) (graph other : Graph) (z : ℕ) →
+        IsWhollyRenamed rename graph other →
+        has (complete other) (rename z) ≡ has (complete graph) z }
+    ensures related { (rename : ℕ → ℕ) (graph other : Graph) (a b : ℕ) →
+        IsWhollyRenamed rename graph other →
+        related other (rename a) (rename b) ≡ related graph a b }
+    ensures future { (rename : ℕ → ℕ) (graph other : Graph) (set new : List ℕ) (z a : ℕ) →
+        IsWhollyRenamed rename graph other → AreRenamed rename set new →
+        has (future other new (rename z)) (rename a) ≡ has (future graph set z) a }
+    ensures anticone { (rename : ℕ → ℕ) (graph other : Graph) (set new : List ℕ) (z a : ℕ) →
+        IsWhollyRenamed rename graph other → AreRenamed rename set new →
+        has (anticone other new (rename z)) (rename a) ≡ has (anticone graph set z) a }
 {}
 
 /// The definitions computed on small graphs: pasts, and words that were worked out by hand.
