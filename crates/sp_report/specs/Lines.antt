@@ -1,0 +1,67 @@
+-- The lines that answer messages and tell faults. Each ends with byte 10; numbers are decimal.
+use Rattle.std.specs.Prelude.{ℕ, List, [], ◌∷◌, ◌++◌, codes}
+use Rattle.std.specs.Fmt.{decimal}
+use Rattle.hex.specs.Hex.{encode_lower}
+use Rattle.sp_ids.specs.Key.{bytes_of}
+use Rattle.sp_model.specs.declared.word.Word.{Word}
+use Rattle.sp_model.specs.declared.word.Word.TheVariants as word_is
+use Rattle.sp_engine.specs.declared.answer.Answer.{Answer}
+use Rattle.sp_engine.specs.declared.answer.Answer.TheVariants.{Kept, Held, Known, Refused, Full}
+use Rattle.sp_engine.specs.declared.answer.Refusal.{Refusal}
+use Rattle.sp_report.specs.Reasons.{reason}
+
+-- an id as a label: its 32 bytes as 64 lower case hexadecimal digits, the first byte first
+unfoldable pub hex_label : ℕ → List ℕ
+hex_label id = encode_lower (bytes_of id)
+
+-- a kept block, with the number of blocks that became present
+unfoldable pub kept_text : List ℕ → ℕ → List ℕ
+kept_text label present = codes "kept " ++ label ++ codes " present " ++ decimal present ++ 10 ∷ []
+
+-- a kept block that waits for an ancestor
+unfoldable pub waiting_text : List ℕ → List ℕ
+waiting_text label = codes "kept " ++ label ++ codes " waiting" ++ 10 ∷ []
+
+-- a block that was kept before
+unfoldable pub known_text : List ℕ → List ℕ
+known_text label = codes "known " ++ label ++ 10 ∷ []
+
+-- refused bytes
+unfoldable pub refused_text : Refusal → List ℕ
+refused_text refusal = codes "refused " ++ reason refusal ++ 10 ∷ []
+
+-- a block for which there is no room
+unfoldable pub full_text : List ℕ
+full_text = codes "full" ++ 10 ∷ []
+
+-- the line of an answer, with ids in hexadecimal
+abbrev pub answer_text : Answer → List ℕ
+answer_text (Kept id present) = kept_text (hex_label id) present
+answer_text (Held id) = waiting_text (hex_label id)
+answer_text (Known id) = known_text (hex_label id)
+answer_text (Refused refusal) = refused_text refusal
+answer_text Full = full_text
+
+-- the word for what is said of two blocks
+abbrev pub word_text : Word → List ℕ
+word_text word_is.Before = codes "before"
+word_text word_is.After = codes "after"
+word_text word_is.Tie = codes "tie"
+word_text word_is.Same = codes "same"
+word_text word_is.Absent = codes "absent"
+
+-- what is said of two blocks, the first and the second one asked for
+unfoldable pub vote_text : List ℕ → List ℕ → Word → List ℕ
+vote_text x y word = codes "vote " ++ x ++ 32 ∷ [] ++ y ++ 32 ∷ [] ++ word_text word ++ 10 ∷ []
+
+-- a feed that breaks its rules at a place
+unfoldable pub malformed_text : ℕ → List ℕ
+malformed_text place = codes "fault malformed " ++ decimal place ++ 10 ∷ []
+
+-- a feed that ends too early, after so many bytes
+unfoldable pub truncated_text : ℕ → List ℕ
+truncated_text taken = codes "fault truncated " ++ decimal taken ++ 10 ∷ []
+
+-- a feed that goes on after so many bytes, which are the most that are taken
+unfoldable pub too_long_text : ℕ → List ℕ
+too_long_text taken = codes "fault too-long " ++ decimal taken ++ 10 ∷ []

@@ -1,0 +1,40 @@
+//! Answers written to a sink.
+
+ghost use Rattle.std.specs.Prelude.{◌≡◌, OnErr, OnOk};
+ghost use Rattle.std.specs.Io.KnownBytes.{Appends};
+ghost use Rattle.sp_io.specs.Causes.{HasCause};
+ghost use Rattle.sp_io.specs.Whole.{AppendsFront};
+ghost use Rattle.sp_report.specs.Lines.{answer_text};
+
+use crate::line::Line;
+use crate::lines::{full_line, kept_line, known_line, refused_line, waiting_line};
+use crate::naming::{Naming, label};
+use sp_engine::Answer;
+use sp_io::{Failed, Sink, write_whole};
+
+// The line of an answer.
+fn line_of(answer: &Answer, naming: &Naming) -> Line
+    ensures { result ≡ answer_text answer.now }
+{
+    match answer {
+        Answer::Kept { id, present } => kept_line(&label(naming, id), u32::from(*present)),
+        Answer::Held { id } => waiting_line(&label(naming, id)),
+        Answer::Known { id } => known_line(&label(naming, id)),
+        Answer::Refused(refusal) => refused_line(*refusal),
+        Answer::Full => full_line(),
+    }
+}
+
+/// Writes the line of an answer.
+///
+/// # Errors
+///
+/// `Failed` at the first call of the sink that fails. The sink keeps what it took before.
+pub fn answer_line<K: Sink>(answer: &Answer, naming: &Naming, sink: &mut K) -> Result<(), Failed>
+    ensures ok { OnOk result (Appends (K.taken sink.old) (K.taken sink.new) (answer_text answer.now)) }
+    ensures err { OnErr result
+        (AppendsFront (K.taken sink.old) (K.taken sink.new) (answer_text answer.now)) }
+    ensures cause { HasCause (K.faults sink.old) (K.faults sink.new) result }
+{
+    write_whole(sink, line_of(answer, naming).as_slice())
+}

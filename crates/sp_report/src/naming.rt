@@ -1,0 +1,27 @@
+//! What stands in a line for a block.
+
+ghost use Rattle.std.specs.Prelude.{◌≡◌, length};
+ghost use Rattle.sp_report.specs.Lines.{hex_label};
+
+use sp_ids::BlockId;
+
+/// How the lines name blocks.
+#[derive(Clone, Copy, Debug, PartialEq, Eq)]
+pub enum Naming {
+    /// By the id, in 64 lower case hexadecimal digits.
+    Hex,
+}
+
+// What stands in a line for the block of this id.
+#[tactic(auto, unfolding(crate::specs::Lines::hex_label))]
+pub(crate) fn label(naming: &Naming, id: &BlockId) -> [u8; 64]
+    ensures { result ≡ hex_label id.now }
+{
+    match naming {
+        Naming::Hex => {
+            let mut label = [0; 64];
+            id.to_hex(&mut label);
+            label
+        }
+    }
+}
