@@ -6,6 +6,8 @@
 #![tactic(auto)]
 
 mod answers;
+mod ask;
+mod asks;
 mod faults;
 mod line;
 mod lines;
@@ -15,6 +17,8 @@ mod reasons;
 mod tests;
 
 pub use answers::answer_line;
+pub use ask::Ask;
+pub use asks::ask_line;
 pub use faults::{malformed_line, too_long_line, truncated_line};
 pub use line::Line;
 pub use lines::{full_line, kept_line, known_line, refused_line, vote_line, waiting_line};

@@ -1,0 +1,35 @@
+//! Why a message wasn't answered.
+
+use sp_ids::Memory;
+use sp_io::Failed;
+
+/// Why a message wasn't answered.
+#[derive(Clone, Copy, Debug, PartialEq, Eq)]
+pub enum NodeFault {
+    /// The sink failed. It took a front of the line.
+    WriteFault,
+    /// There was no memory for a block. Nothing was written.
+    Memory,
+}
+
+impl From<Failed> for NodeFault {
+    ghost use Rattle.std.specs.Prelude.{◌≡◌};
+    ghost use Rattle.sp_node.specs.declared.fault.NodeFault.TheVariants as faults;
+
+    ghost from_gives = { λ _ e. e ≡ faults.WriteFault };
+
+    fn from(_failed: Failed) -> NodeFault {
+        NodeFault::WriteFault
+    }
+}
+
+impl From<Memory> for NodeFault {
+    ghost use Rattle.std.specs.Prelude.{◌≡◌};
+    ghost use Rattle.sp_node.specs.declared.fault.NodeFault.TheVariants as faults;
+
+    ghost from_gives = { λ _ e. e ≡ faults.Memory };
+
+    fn from(_refused: Memory) -> NodeFault {
+        NodeFault::Memory
+    }
+}

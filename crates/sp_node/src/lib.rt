@@ -1,0 +1,12 @@
+//! One message at a time: a block that arrives is offered to the engine, a question is asked of it,
+//! and the line of the answer is written.
+//!
+//! `specs/Answers.antt` says what line answers each message, over the blocks that arrived before it.
+//! The commands that take a feed stand on this crate.
+#![tactic(auto)]
+
+mod fault;
+mod node;
+
+pub use fault::NodeFault;
+pub use node::Node;

@@ -1,0 +1,175 @@
+//! A node: an engine, and whether anything failed.
+
+ghost use Rattle.std.specs.Prelude.{◌≡◌, ◌≢◌, ◌≤◌, ◌∷◌, [], ℕ, false, true, Err, is_err, IfErr, IfOk, IfSome, IsSome, OnErr, OnOk, Some};
+ghost use Rattle.std.specs.Io.KnownBytes.{Appends};
+ghost use Rattle.sp_io.specs.Whole.{AppendsFront};
+ghost use Rattle.sp_feed.specs.Kinds.{SaysBlock, SaysVote};
+ghost use Rattle.sp_feed.specs.Told.{told};
+ghost use Rattle.sp_node.specs.Answers.{kept_then, line_of};
+ghost use Rattle.sp_node.specs.Node.{HasCause};
+
+use crate::fault::NodeFault;
+use sp_engine::Engine;
+use sp_feed::{FeedHead, Message};
+use sp_ids::{BlockId, Memory};
+use sp_io::Sink;
+use sp_report::{Ask, Naming, answer_line, ask_line};
+use std::alloc::Global;
+use std::marker::Model;
+
+/// A node that keeps its blocks in memory alone. Contracts see the bits of work, the kept blocks,
+/// and whether it is stopped.
+#[derive(Drop)]
+pub struct Node {
+    engine: Engine,
+    stopped: bool,
+}
+
+impl Model for Node {
+    ghost use Rattle.std.specs.Prelude.{◌≡◌, false};
+    ghost use Rattle.sp_node.specs.Node.{State};
+
+    ghost Value = { State };
+
+    ghost view = { λ n. record { bits = n.engine.bits; kept = n.engine.kept; stopped = n.stopped } };
+
+    ghost invariant = { λ n. n.stopped ≡ false → n.engine.broken ≡ false };
+}
+
+impl Node {
+    ghost use Rattle.sp_node.specs.Node.{state};
+
+    /// A node without a journal, which keeps the genesis block of the feed.
+    ///
+    /// # Errors
+    ///
+    /// `Memory` where there was none for the engine.
+    pub fn plain(alloc: Global, head: FeedHead) -> Result<Node, Memory>
+        ensures { IfOk result (λ node. node ≡ state head.bits (head.genesis ∷ [])) }
+    {
+        let FeedHead { bits, genesis } = head;
+        let engine = Engine::new(alloc, genesis, bits)?;
+        Ok(Node {
+            engine,
+            stopped: false,
+        })
+    }
+
+    /// Answers a message that isn't the end: writes the line of what became of the block, or of
+    /// what the present blocks say of two blocks.
+    ///
+    /// # Errors
+    ///
+    /// `WriteFault` where the sink failed; a block is kept all the same. `Memory` where there was
+    /// none for a block; nothing was written. The node is stopped from then on.
+    pub fn message<K: Sink>(
+        &mut self,
+        message: &Message<'_>,
+        naming: &Naming,
+        sink: &mut K,
+    ) -> Result<(), NodeFault>
+        requires live { self.old.stopped ≡ false }
+        requires before_end { IsSome (told message.now) }
+
+        // The line of the message is written, and a block that was to be kept is.
+        ensures ok { OnOk result (IfSome (told message.now) (λ said.
+            Appends (K.taken sink.old) (K.taken sink.new)
+            (line_of self.old.bits self.old.kept said))) }
+        ensures kept { OnOk result (IfSome (told message.now) (λ said.
+            self.new.kept ≡ kept_then self.old.bits self.old.kept said)) }
+        ensures bits { self.new.bits ≡ self.old.bits }
+
+        // Where that failed, a front of the line was; nothing, where memory was refused.
+        ensures err { OnErr result (IfSome (told message.now) (λ said.
+            AppendsFront (K.taken sink.old) (K.taken sink.new)
+            (line_of self.old.bits self.old.kept said))) }
+        ensures memory { result ≡ Err NodeFault.Memory → sink.new ≡ sink.old }
+        ensures cause { IfErr result (HasCause (K.faults sink.old) (K.faults sink.new)) }
+        ensures vote { (x y : ℕ) → told message.now ≡ Some (SaysVote x y)
+            → result ≢ Err NodeFault.Memory }
+        ensures later { K.faults sink.old ≤ K.faults sink.new }
+
+        ensures stopped { self.new.stopped ≡ is_err result }
+    {
+        match message {
+            Message::Block(bytes) => self.arrive(bytes, naming, sink),
+            Message::Vote(x, y) => self.ask(x, y, naming, sink),
+            Message::End => unreachable!(),
+        }
+    }
+
+    /// Whether a message wasn't answered. No other is then.
+    pub fn stopped(&self) -> bool
+        ensures { result ≡ self.now.stopped }
+    {
+        self.stopped
+    }
+
+    /// The engine, which is whole while the node isn't stopped.
+    pub fn engine(&self) -> &Engine
+        ensures bits { result.now.bits ≡ self.now.bits }
+        ensures kept { result.now.kept ≡ self.now.kept }
+        ensures whole { self.now.stopped ≡ false → result.now.broken ≡ false }
+    {
+        &self.engine
+    }
+
+    // Offers a block's bytes to the engine, and writes what became of them.
+    #[tactic(auto, using(sp_io::proofs::Stops::stops_at_start), unfolding(crate::specs::Answers::line_of))]
+    fn arrive<K: Sink>(
+        &mut self,
+        bytes: &[u8],
+        naming: &Naming,
+        sink: &mut K,
+    ) -> Result<(), NodeFault>
+        requires { self.old.stopped ≡ false }
+        ensures ok { OnOk result (Appends (K.taken sink.old) (K.taken sink.new)
+            (line_of self.old.bits self.old.kept (SaysBlock bytes.now))) }
+        ensures kept { OnOk result (self.new.kept
+            ≡ kept_then self.old.bits self.old.kept (SaysBlock bytes.now)) }
+        ensures bits { self.new.bits ≡ self.old.bits }
+        ensures err { OnErr result (AppendsFront (K.taken sink.old) (K.taken sink.new)
+            (line_of self.old.bits self.old.kept (SaysBlock bytes.now))) }
+        ensures memory { result ≡ Err NodeFault.Memory → sink.new ≡ sink.old }
+        ensures cause { IfErr result (HasCause (K.faults sink.old) (K.faults sink.new)) }
+        ensures later { K.faults sink.old ≤ K.faults sink.new }
+        ensures stopped { self.new.stopped ≡ is_err result }
+    {
+        self.stopped = true;
+        let answer = self.engine.offer(bytes)?;
+        answer_line(&answer, naming, sink)?;
+        self.stopped = false;
+        Ok(())
+    }
+
+    // Writes what the present blocks say of two blocks.
+    #[tactic(auto, unfolding(crate::specs::Answers::line_of))]
+    fn ask<K: Sink>(
+        &mut self,
+        x: &BlockId,
+        y: &BlockId,
+        naming: &Naming,
+        sink: &mut K,
+    ) -> Result<(), NodeFault>
+        requires { self.old.stopped ≡ false }
+        ensures ok { OnOk result (Appends (K.taken sink.old) (K.taken sink.new)
+            (line_of self.old.bits self.old.kept (SaysVote x.now y.now))) }
+        ensures kept { self.new.kept ≡ self.old.kept }
+        ensures bits { self.new.bits ≡ self.old.bits }
+        ensures err { OnErr result (AppendsFront (K.taken sink.old) (K.taken sink.new)
+            (line_of self.old.bits self.old.kept (SaysVote x.now y.now))) }
+        ensures never { result ≢ Err NodeFault.Memory }
+        ensures cause { IfErr result (HasCause (K.faults sink.old) (K.faults sink.new)) }
+        ensures later { K.faults sink.old ≤ K.faults sink.new }
+        ensures stopped { self.new.stopped ≡ is_err result }
+    {
+        let ask = Ask::Vote(*x, *y);
+        match ask_line(&self.engine, &ask, naming, sink) {
+            Ok(()) => Ok(()),
+            Err(_) => {
+                self.stopped = true;
+                Err(NodeFault::WriteFault)
+            }
+        }
+    }
+}

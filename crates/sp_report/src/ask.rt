@@ -1,0 +1,10 @@
+//! What is asked of the engine. It stands apart from the lines because the definitions cite it.
+
+use sp_ids::BlockId;
+
+/// What is asked of the present blocks.
+#[derive(Clone, Copy, Debug, PartialEq, Eq)]
+pub enum Ask {
+    /// The order of two blocks, the first of them first.
+    Vote(BlockId, BlockId),
+}

@@ -1,0 +1,48 @@
+//! Questions answered to a sink.
+
+ghost use Rattle.std.specs.Prelude.{◌≡◌, false, OnErr, OnOk};
+ghost use Rattle.std.specs.Io.KnownBytes.{Appends};
+ghost use Rattle.sp_io.specs.Causes.{HasCause};
+ghost use Rattle.sp_io.specs.Whole.{AppendsFront};
+ghost use Rattle.sp_report.specs.Asks.{ask_text};
+
+use crate::ask::Ask;
+use crate::line::Line;
+use crate::lines::vote_line;
+use crate::naming::{Naming, label};
+use sp_engine::Engine;
+use sp_io::{Failed, Sink, write_whole};
+
+// The line that answers a question.
+fn line_of(engine: &Engine, ask: &Ask, naming: &Naming) -> Line
+    requires { engine.now.broken ≡ false }
+    ensures { result ≡ ask_text engine.now.kept ask.now }
+{
+    match ask {
+        Ask::Vote(x, y) => {
+            let word = engine.vote(x, y);
+            vote_line(&label(naming, x), &label(naming, y), word)
+        }
+    }
+}
+
+/// Writes the line that answers a question. It takes no memory.
+///
+/// # Errors
+///
+/// `Failed` at the first call of the sink that fails. The sink keeps what it took before.
+pub fn ask_line<K: Sink>(
+    engine: &Engine,
+    ask: &Ask,
+    naming: &Naming,
+    sink: &mut K,
+) -> Result<(), Failed>
+    requires { engine.now.broken ≡ false }
+    ensures ok { OnOk result
+        (Appends (K.taken sink.old) (K.taken sink.new) (ask_text engine.now.kept ask.now)) }
+    ensures err { OnErr result
+        (AppendsFront (K.taken sink.old) (K.taken sink.new) (ask_text engine.now.kept ask.now)) }
+    ensures cause { HasCause (K.faults sink.old) (K.faults sink.new) result }
+{
+    write_whole(sink, line_of(engine, ask, naming).as_slice())
+}
