@@ -64,5 +64,5 @@ gives_head {limit = limit} {old = old} {new = new} {view = view} {r = r} z f = r
   given = f.given;
   took = f.took;
   says = head_says limit old new view f.given r z f.took f.says;
-  needs = λ m front rest e l. feed_truncated limit (length front) front (at_start limit head_form old.taken front Short z (f.needs m front rest e l)) refl (omega (arith, z, f.took.counted, f.took.within, ap length e, length-append front rest));
+  needs = λ front rest e l. feed_truncated limit (length front) front (at_start limit head_form old.taken front Short z (f.needs front rest e l)) refl (omega (arith, z, f.took.counted, f.took.within, ap length e, length-append front rest));
 }

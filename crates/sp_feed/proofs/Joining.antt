@@ -6,7 +6,7 @@ use Rattle.sp_form.proofs.Places.{placed_then}
 use Rattle.sp_io.proofs.Known.{consumes_then}
 use Rattle.sp_feed.specs.declared.fault.FeedFault.{FeedFault}
 use Rattle.sp_feed.specs.declared.fault.FeedFault.TheVariants.{Malformed, Truncated, ReadFault, TooLong}
-use Rattle.sp_feed.specs.declared.fault.HeadFault.TheVariants.{Feed}
+use Rattle.sp_feed.specs.declared.fault.HeadFault.TheVariants.{Feed, Memory}
 use Rattle.sp_feed.specs.Feed.{judged}
 use Rattle.sp_feed.specs.Format.{Flaw}
 use Rattle.sp_feed.specs.Reads.{Moment, Took, StopsShort, Says, Needs, Reads, ReadsFront}
@@ -45,7 +45,7 @@ says_then limit a b c w p q v xs ys (Err ReadFault) l h s = (onward limit a.take
 says_then limit a b c w p q v xs ys (Err (TooLong taken)) l h s = (onward limit a.taken b.taken p q v xs ys h ∙ s.0, stops_then limit a b c (TooLong taken) l s.1)
 
 -- a front of two parts is shorter than the first, or the first and a front of the second
-split_front : (xs ys front rest : List ℕ) → xs ++ ys ≡ front ++ rest → ((more : List ℕ) × (xs ≡ front ++ more) × (0 < length more)) ⊎ ((more : List ℕ) × (front ≡ xs ++ more) × (ys ≡ more ++ rest))
+pub split_front : (xs ys front rest : List ℕ) → xs ++ ys ≡ front ++ rest → ((more : List ℕ) × (xs ≡ front ++ more) × (0 < length more)) ⊎ ((more : List ℕ) × (front ≡ xs ++ more) × (ys ≡ more ++ rest))
 split_front [] ys front rest e = inr (front, refl, e)
 split_front (x ∷ xs) ys [] rest e = inl (x ∷ xs, refl, omega arith)
 split_front (x ∷ xs) ys (f ∷ front) rest e =
@@ -105,7 +105,11 @@ reads_stop {limit = limit} {a = a} {b = b} {v = v} {w = w} {p = p} {e = e} q f =
 -- The same readings with a head's faults.
 
 pub head_ok : {X A : Type 0} {limit : ℕ} {a b : Moment} {v : X → A} {p : Form Flaw A} {x : X} → Reads limit a b v p (Ok x) → ReadsFront limit a b v p (Ok x)
-head_ok r = record { given = r.given; took = r.took; says = r.says; needs = λ _. r.needs }
+head_ok r = record { given = r.given; took = r.took; says = r.says; needs = r.needs }
 
 pub head_err : {X A : Type 0} {limit : ℕ} {a b : Moment} {v : X → A} {p : Form Flaw A} {e : FeedFault} → Reads limit a b v p (Err e) → ReadsFront limit a b v p (Err (Feed e))
-head_err r = record { given = r.given; took = r.took; says = r.says; needs = λ _. r.needs }
+head_err r = record { given = r.given; took = r.took; says = r.says; needs = r.needs }
+
+-- memory was wanted for what was read, whatever it says
+pub head_memory : {X Y A : Type 0} {limit : ℕ} {a b : Moment} {v : X → A} {w : Y → A} {p : Form Flaw A} {r : Result Y FeedFault} → Reads limit a b w p r → ReadsFront limit a b v p (Err Memory)
+head_memory r = record { given = r.given; took = r.took; says = tt; needs = r.needs }

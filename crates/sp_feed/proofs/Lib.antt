@@ -1,6 +1,7 @@
 pub mod GenesisBytes
 pub mod Reading
 pub mod Joining
+pub mod Judged
 pub mod FrameRuns
 pub mod Rests
 pub mod Gives

@@ -1,5 +1,5 @@
 -- A whole feed, call by call.
-use Rattle.std.proofs.Common.{◌≡◌, ℕ, ◌≤◌, List, [], ◌∷◌, ◌++◌, Option, Some, None, Result, Ok, Err, refl, ap, sym, ◌∙◌, arith, append_assoc, subst, IsTrue}
+use Rattle.std.proofs.Common.{◌≡◌, ℕ, ◌+◌, ◌<◌, ◌≤◌, List, [], ◌∷◌, ◌++◌, length, Option, Some, None, Result, Ok, Err, inl, inr, refl, ap, sym, ◌∙◌, arith, append_assoc, length-append, subst, IsTrue}
 use Rattle.std.specs.Io.KnownBytes.{Consumes, IsAtEnd}
 use Rattle.sp_feed.specs.declared.fault.FeedFault.{FeedFault}
 use Rattle.sp_feed.specs.declared.fault.FeedFault.TheVariants as faults
@@ -15,11 +15,15 @@ use Rattle.sp_feed.specs.Told.{told}
 use Rattle.sp_feed.specs.declared.message.Message.{Message}
 use Rattle.sp_feed.specs.declared.message.Message.TheVariants as variants
 use Rattle.std.proofs.lemmas.List.{append-nil}
-use Rattle.sp_feed.proofs.Joining.{took_then}
+use Rattle.sp_feed.proofs.Joining.{split_front, took_then}
 
 -- the feed of a head, messages so far and a rest
 abbrev pub onto : Head → List Said → Rest → Feed
 onto h messages rest = record { head = Some h; messages = messages ++ rest.messages; end = rest.end }
+
+-- no proper front of these bytes would have been enough
+abbrev pub NeedsAll : ℕ → List ℕ → Type 0
+NeedsAll limit given = (front rest : List ℕ) → given ≡ front ++ rest → 0 < length rest → (feed limit front).end ≡ Truncated (length front)
 
 -- what was read so far says these messages, and then the rest
 pub record SoFar (limit : ℕ) (start now : Moment) (h : Head) (before after : List Said) : Type 0 where
@@ -28,15 +32,29 @@ pub record SoFar (limit : ℕ) (start now : Moment) (h : Head) (before after : L
   pub messages : List Said
   pub seen : after ≡ before ++ messages
   pub says : (more : List ℕ) → feed limit (given ++ more) ≡ onto h messages (rest_of limit now.taken more)
+  pub whole : start.taken ≡ 0
+  pub needs : NeedsAll limit given
 
-pub so_far_head : {X : Type 0} {limit : ℕ} {start now : Moment} {view : X → Head} {x : X} (before : List Said) → GivesHead limit start now view (Ok x) → SoFar limit start now (view x) before before
-so_far_head {limit = limit} {now = now} {view = view} {x = x} before g = record {
+pub so_far_head : {X : Type 0} {limit : ℕ} {start now : Moment} {view : X → Head} {x : X} (before : List Said) → start.taken ≡ 0 → GivesHead limit start now view (Ok x) → SoFar limit start now (view x) before before
+so_far_head {limit = limit} {now = now} {view = view} {x = x} before z g = record {
   given = g.given;
   took = g.took;
   messages = [];
   seen = sym (append-nil before);
   says = λ more. g.says more;
+  whole = z;
+  needs = λ front rest e l. ap (λ (f : Feed). f.end) (g.needs front rest e l);
 }
+
+-- nor would one of the bytes so far and those of one call more
+needs_more : (limit now : ℕ) (h : Head) (messages : List Said) (xs ys : List ℕ) → now ≡ length xs → NeedsAll limit xs → ((more : List ℕ) → feed limit (xs ++ more) ≡ onto h messages (rest_of limit now more))
+    → ((front rest : List ℕ) → ys ≡ front ++ rest → 0 < length rest → rest_of limit now front ≡ no_more (Truncated (now + length front))) → NeedsAll limit (xs ++ ys)
+needs_more limit now h messages xs ys e f g k front rest split l =
+    elim (split_front xs ys front rest split) [
+      | inl s ↦ f front s.0 s.1 s.2
+      | inr s ↦ (let long : now + length s.0 ≡ length front = omega (arith, e, ap length s.1, length-append xs s.0) in
+          ap (λ bytes. (feed limit bytes).end) s.1 ∙ ap (λ (f : Feed). f.end) (g s.0) ∙ ap (λ (r : Rest). r.end) (k s.0 rest s.2 l) ∙ ap (λ n. Truncated n) long)
+    ]
 
 -- one message more
 pub so_far_more : {X : Type 0} {limit : ℕ} {start mid now : Moment} {view : X → Option Said} {x : X} {h : Head} {before after : List Said} (m : Said) (new : List Said) → SoFar limit start mid h before after → GivesNext limit mid now view (Ok x) → view x ≡ Some m → new ≡ after ++ m ∷ [] → SoFar limit start now h before new
@@ -49,6 +67,8 @@ so_far_more {limit = limit} {start = start} {mid = mid} {now = now} {view = view
       ap (feed limit) (append_assoc f.given g.given more) ∙ f.says (g.given ++ more)
       ∙ ap (onto h f.messages) (g.says more ∙ ap (λ t. after_frame limit now.taken t more) e)
       ∙ ap (λ t. record { head = Some h; messages = t; end = (rest_of limit now.taken more).end }) (sym (append_assoc f.messages (m ∷ []) (rest_of limit now.taken more).messages));
+  whole = f.whole;
+  needs = needs_more limit mid.taken h f.messages f.given g.given (omega (arith, f.took.counted, f.whole)) f.needs f.says g.needs;
 }
 
 -- whatever follows, the messages so far come first
@@ -68,6 +88,7 @@ all_end {limit = limit} {start = start} {mid = mid} {now = now} {h = h} of y f g
       ap (feed limit) (append_assoc f.given g.given more) ∙ f.says (g.given ++ more)
       ∙ ap (onto h f.messages) (g.says more ∙ ap (λ t. after_frame limit now.taken t more) e)
       ∙ ap (λ t. record { head = Some h; messages = t; end = Whole more }) (append-nil f.messages) ∙ ap (λ t. record { head = Some t; messages = f.messages; end = Whole more }) k;
+  needs = needs_more limit mid.taken h f.messages f.given g.given (omega (arith, f.took.counted, f.whole)) f.needs f.says g.needs;
 }
 
 -- a fault says of the whole what it says of the rest
@@ -85,6 +106,7 @@ all_fault {limit = limit} {start = start} {mid = mid} {now = now} {h = h} {e = e
   seen = f.seen;
   begins = λ more. begins_more limit mid.taken h f.messages f.given g.given more f.says;
   says = (Some h, fault_onto limit start mid now h f.messages f.given g.given e f.took.later f.says g.says);
+  needs = needs_more limit mid.taken h f.messages f.given g.given (omega (arith, f.took.counted, f.whole)) f.needs f.says g.needs;
 }
 
 -- a fault of the head is one of the whole
@@ -100,6 +122,7 @@ all_head {limit = limit} {start = start} {now = now} {view = view} {e = e} of be
   seen = sym (append-nil before);
   begins = λ more. ((feed limit (g.given ++ more)).messages, refl);
   says = all_says limit start now view of g.given e g.says;
+  needs = λ front rest k l. ap (λ (f : Feed). f.end) (g.needs front rest k l);
 }
 
 -- a message was refused
@@ -111,6 +134,7 @@ all_refused {limit = limit} {start = start} {mid = mid} {now = now} {h = h} of m
   seen = s ∙ f.seen;
   begins = λ more. begins_more limit mid.taken h f.messages f.given g.given more f.says;
   says = tt;
+  needs = needs_more limit mid.taken h f.messages f.given g.given (omega (arith, f.took.counted, f.whole)) f.needs f.says g.needs;
 }
 
 consumes_nothing : (a : Option (List ℕ)) → Consumes a a []
@@ -126,6 +150,7 @@ all_memory limit start of before h = record {
   seen = sym (append-nil before);
   begins = λ more. ((feed limit more).messages, refl);
   says = tt;
+  needs = λ front rest e l. absurd (omega (arith, ap length e, length-append front rest, l));
 }
 
 -- A reader's numbers by what they are known to be.

@@ -30,7 +30,7 @@ pub record GivesHead {X : Type 0} (limit : ℕ) (old new : Moment) (view : X →
   pub took : Took limit old new given
   pub says : SaysHead limit old new view given result
   -- not a byte more was taken than is needed
-  pub needs : (result ≡ Err heads.Memory → ⊥) → (front rest : List ℕ) → given ≡ front ++ rest → 0 < length rest → feed limit front ≡ no_head (Truncated (length front))
+  pub needs : (front rest : List ℕ) → given ≡ front ++ rest → 0 < length rest → feed limit front ≡ no_head (Truncated (length front))
 
 -- the next frame, and then the rest
 abbrev pub SaysNext : {X : Type 0} → ℕ → Moment → Moment → (X → Option Said) → List ℕ → Result X FeedFault → Type 0
@@ -61,6 +61,8 @@ pub record GivesAll {X : Type 0} (limit : ℕ) (old new : Moment) (view : X → 
   pub seen : after ≡ before ++ messages
   pub begins : (more : List ℕ) → BeginsWith (feed limit (given ++ more)).messages messages
   pub says : SaysAll limit old new view messages given result
+  -- not a byte more was taken than is needed
+  pub needs : (front rest : List ℕ) → given ≡ front ++ rest → 0 < length rest → (feed limit front).end ≡ Truncated (length front)
 
 -- The result, the messages and what is left unread are those of the feed; the messages are its first ones
 -- where a read failed or memory was wanted.

@@ -70,4 +70,4 @@ pub record ReadsFront {X A : Type 0} (limit : ℕ) (old new : Moment) (view : X 
   pub given : List ℕ
   pub took : Took limit old new given
   pub says : SaysFront limit old new view form given result
-  pub needs : (result ≡ Err Memory → ⊥) → Needs limit old.taken form given
+  pub needs : Needs limit old.taken form given

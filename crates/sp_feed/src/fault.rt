@@ -1,4 +1,5 @@
-//! Why a feed isn't read on. Places are counted in bytes from the feed's first, which is 0.
+//! Why a feed isn't read on (docs/FORMATS.md, "Feeds"). Places are counted in bytes from the feed's
+//! first, which is 0.
 
 use sp_ids::Memory;
 use std::alloc::AllocError;

@@ -1,7 +1,7 @@
 //! The fields that stand before a payload. Each is read whole and then judged, and where it breaks
 //! its rule the feed is malformed at the place of the field's first byte.
 
-ghost use Rattle.std.specs.Prelude.{◌≤◌, ◌<◌, IfOk, IsTrue};
+ghost use Rattle.std.specs.Prelude.{◌≡◌, ◌≤◌, ◌<◌, IfOk, IsTrue};
 ghost use Rattle.sp_feed.specs.Format.{bits_form, block_letter_form, kind_form, length_form, name_form};
 ghost use Rattle.sp_feed.specs.Kinds.{allows};
 ghost use Rattle.sp_feed.specs.Reads.{moment, Reads};
@@ -18,10 +18,12 @@ pub(crate) fn read_name<S: Source>(
     taken: &mut u32,
 ) -> Result<[u8; 8], FeedFault>
     requires { taken.old ≤ limit }
-    ensures { Reads limit
+    ensures reads { Reads limit
         (moment (S.left source.old) (S.faults source.old) taken.old)
         (moment (S.left source.new) (S.faults source.new) taken.new)
         (λ bytes. bytes) name_form result }
+    ensures progress { IfOk result (λ _. taken.old < taken.new) }
+    ensures unasked { taken.old ≡ limit → source.new ≡ source.old }
 {
     let start = *taken;
     let mut bytes = [0; 8];
@@ -68,6 +70,7 @@ pub(crate) fn read_kind<S: Source>(
         (moment (S.left source.new) (S.faults source.new) taken.new)
         (λ kind. kind) kind_form result }
     ensures progress { IfOk result (λ _. taken.old < taken.new) }
+    ensures unasked { taken.old ≡ limit → source.new ≡ source.old }
 {
     let start = *taken;
     let mut bytes = [0; 1];

@@ -1,6 +1,6 @@
 //! The one place where bytes are asked of a source.
 
-ghost use Rattle.std.specs.Prelude.{◌≤◌};
+ghost use Rattle.std.specs.Prelude.{◌≡◌, ◌≤◌};
 ghost use Rattle.sp_feed.specs.Reads.{moment, Fills};
 
 use crate::fault::FeedFault;
@@ -20,10 +20,11 @@ pub(crate) fn fill<S: Source>(
     taken: &mut u32,
 ) -> Result<(), FeedFault>
     requires { taken.old ≤ limit }
-    ensures { Fills limit
+    ensures fills { Fills limit
         (moment (S.left source.old) (S.faults source.old) taken.old)
         (moment (S.left source.new) (S.faults source.new) taken.new)
         out.new result }
+    ensures unasked { taken.old ≡ limit → source.new ≡ source.old }
 {
     let room = (limit - *taken) as usize;
     let wanted = out.len().min(room);

@@ -36,6 +36,7 @@ fn read_frame<S: Source>(
     ensures fits { IfOk result (λ found. found.1 ≤ LONGEST) }
     ensures allowed { IfOk result (λ found. IsTrue (allows found.0 found.1)) }
     ensures progress { IfOk result (λ _. taken.old < taken.new) }
+    ensures unasked { taken.old ≡ limit → source.new ≡ source.old }
 {
     let kind = read_kind(source, limit, taken)?;
     let length = read_length(source, kind, limit, taken)? as usize;
@@ -59,6 +60,7 @@ pub(crate) fn next_frame<S: Source>(
     ensures fits { IfOk result (λ found. found.1 ≤ LONGEST) }
     ensures allowed { IfOk result (λ found. IsTrue (allows found.0 found.1)) }
     ensures progress { IfOk result (λ _. taken.old < taken.new) }
+    ensures unasked { taken.old ≡ limit → source.new ≡ source.old }
 {
     read_frame(source, payload, limit, taken)
 }
@@ -73,10 +75,11 @@ fn read_head<S: Source>(
 ) -> Result<FeedHead, HeadFault>
     requires limit { taken.old ≤ limit }
     requires room { length payload.old ≡ LONGEST }
-    ensures { ReadsFront limit
+    ensures reads { ReadsFront limit
         (moment (S.left source.old) (S.faults source.old) taken.old)
         (moment (S.left source.new) (S.faults source.new) taken.new)
         head_in head_form result }
+    ensures unasked { taken.old ≡ limit → source.new ≡ source.old }
 {
     read_name(source, limit, taken)?;
     let bits = read_bits(source, limit, taken)?;
@@ -101,10 +104,11 @@ pub(crate) fn first_head<S: Source>(
 ) -> Result<FeedHead, HeadFault>
     requires start { taken.old ≡ 0 }
     requires room { length payload.old ≡ LONGEST }
-    ensures { GivesHead limit
+    ensures gives { GivesHead limit
         (moment (S.left source.old) (S.faults source.old) taken.old)
         (moment (S.left source.new) (S.faults source.new) taken.new)
         head_in result }
+    ensures unasked { taken.old ≡ limit → source.new ≡ source.old }
 {
     read_head(alloc, source, payload, limit, taken)
 }

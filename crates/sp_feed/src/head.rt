@@ -5,7 +5,7 @@ use std::marker::Model;
 
 /// The head of a feed: the bits of work that its blocks have to show, 0 to 64, and its genesis
 /// block. It is written as the eight bytes `SPCTRF01`, the bits (1 byte), and a frame `B` with the
-/// genesis block's bytes.
+/// genesis block's bytes (docs/FORMATS.md, "Feeds").
 #[derive(Debug, Drop)]
 pub struct FeedHead {
     pub bits: u8,

@@ -5,7 +5,7 @@ use sp_ids::BlockId;
 /// A message of a feed. A block's bytes are lent from the reader's buffer, and may spell no block.
 ///
 /// It is written as a frame: a letter (1 byte), the payload's length (4 bytes, the lowest first)
-/// and the payload.
+/// and the payload (docs/FORMATS.md, "Feeds").
 ///
 /// | letter | length | payload | message |
 /// |---|---|---|---|

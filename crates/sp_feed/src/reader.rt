@@ -51,6 +51,10 @@ impl FeedReader {
     ghost use Rattle.sp_feed.specs.Told.{told};
 
     /// A reader that takes at most 4,294,967,295 bytes.
+    ///
+    /// # Errors
+    ///
+    /// `Memory` where there was none for the buffer.
     pub fn new(alloc: Global) -> Result<FeedReader, Memory>
         ensures { IfOk result (λ reader. reader ≡ new_reader 4294967295) }
     {
@@ -58,6 +62,10 @@ impl FeedReader {
     }
 
     /// A reader that takes at most `limit` bytes.
+    ///
+    /// # Errors
+    ///
+    /// `Memory` where there was none for the buffer.
     pub fn with_limit(alloc: Global, limit: u32) -> Result<FeedReader, Memory>
         ensures { IfOk result (λ reader. reader ≡ new_reader limit) }
     {
@@ -73,7 +81,7 @@ impl FeedReader {
     }
 
     /// Reads the head, before anything else is asked. The genesis block's bytes are copied once, by
-    /// `read_block`.
+    /// `read_block`. The format is that of docs/FORMATS.md, "Feeds".
     ///
     /// # Errors
     ///
@@ -88,6 +96,7 @@ impl FeedReader {
             (moment (S.left source.old) (S.faults source.old) self.old.taken)
             (moment (S.left source.new) (S.faults source.new) self.new.taken)
             head_in result }
+        ensures unasked { self.old.limit ≡ 0 → source.new ≡ source.old }
         ensures ok { OnOk result (self.new.stage ≡ AtFrames) }
         ensures err { OnErr result (self.new.stage ≡ Dead) }
         ensures limit { self.new.limit ≡ self.old.limit }
@@ -107,7 +116,8 @@ impl FeedReader {
 
     /// Reads the next message, which `message` then tells, once `head` has given the head. After
     /// `End` it is `End` again, and nothing is read. The source is asked once for the kind, the
-    /// length and the payload each, and again where it gives less than all.
+    /// length and the payload each, and again where it gives less than all. The time is that of
+    /// the bytes taken.
     ///
     /// # Errors
     ///
@@ -122,6 +132,7 @@ impl FeedReader {
             (moment (S.left source.old) (S.faults source.old) self.old.taken)
             (moment (S.left source.new) (S.faults source.new) self.new.taken)
             (λ _. last_of self.new.stage) result }
+        ensures unasked { self.old.taken ≡ self.old.limit → source.new ≡ source.old }
         ensures progress { OnOk result
             ((self.old.stage ≡ Behind None → ⊥) → self.old.taken < self.new.taken) }
         ensures again { self.old.stage ≡ Behind None

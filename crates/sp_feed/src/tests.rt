@@ -162,6 +162,15 @@ fn faults(rt: HostRuntime) -> Result<(), Fail> {
         changed(37, 1, 39, malformed(35)),
         changed(42, 63, 46, malformed(42)),
         changed(111, 1, WHOLE, malformed(111)),
+        // The length at 35 is 65,538. It is judged once its four bytes are within the limit.
+        Row {
+            limit: 38,
+            ..changed(37, 1, 38, too_long(38))
+        },
+        Row {
+            limit: 39,
+            ..changed(37, 1, 39, malformed(35))
+        },
         within(0, u32::MAX, 0, truncated(0)),
         within(20, u32::MAX, 20, truncated(20)),
         within(20, 21, 20, truncated(20)),
@@ -170,6 +179,8 @@ fn faults(rt: HostRuntime) -> Result<(), Fail> {
         within(117, 33, 33, too_long(33)),
         within(117, 114, 114, too_long(114)),
         within(117, 115, WHOLE, None),
+        within(115, 115, WHOLE, None),
+        within(114, 115, 114, truncated(114)),
     ];
     for row in &rows {
         let mut bytes = feed(rt.alloc())?;

@@ -12,3 +12,4 @@ mod Graphs
 mod Answered
 mod Orders
 mod Firsts
+mod Waiting

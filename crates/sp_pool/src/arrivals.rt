@@ -18,7 +18,11 @@ use std::alloc::Global;
 ///
 /// The pool keeps genesis and each block whose id is none of those before it, until 512 blocks
 /// stand. The answers tell of each present block but genesis once, in the order in which the blocks
-/// became present.
+/// became present. The time is that of the offers.
+///
+/// # Errors
+///
+/// `Memory` where the pool, the list of answers or an offer found none.
 pub fn offer_all(
     alloc: Global,
     genesis: Block,

@@ -1,11 +1,11 @@
 //! Laws of kept and present blocks, over the definitions alone. Each is the contract of a function
 //! that does nothing, so that the check proves it.
 
-ghost use Rattle.std.specs.Prelude.{◌≡◌, ◌≤◌, ◌++◌, ◌∷◌, [], ℕ, IsFalse, length, List, take};
+ghost use Rattle.std.specs.Prelude.{◌≡◌, ◌≤◌, ◌++◌, ◌∷◌, [], ℕ, IsFalse, IsTrue, length, List, take};
 ghost use Rattle.std.specs.List.{list_all};
 ghost use Rattle.std.specs.List.Sorted.{IsPermutation};
 ghost use Rattle.sp_block.specs.Block.{ReadBlock};
-ghost use Rattle.sp_model.specs.Graph.{has, IsGraph};
+ghost use Rattle.sp_model.specs.Graph.{has, in_past, IsGraph};
 ghost use Rattle.sp_pool.specs.Kept.{AreApart, AreKept, firsts, graph_of, ids_of, kept_of, present};
 ghost use Rattle.sp_pool.specs.Offers.{IsAnswer};
 ghost use Rattle.sp_pool.specs.declared.answers.Offer.{Offer};
@@ -27,6 +27,18 @@ pub fn kept_blocks_are_a_graph()
 pub fn present_by_parents()
     ensures { (kept : List ReadBlock) (block : ReadBlock) → IsFalse (has (ids_of kept) block.id) →
         has (present (kept ++ block ∷ [])) block.id ≡ list_all (has (present kept)) block.parents }
+{}
+
+/// A block that is one of its own ancestors is never present, and a block with an ancestor that
+/// isn't kept isn't present either. No bytes are known that name their own SHA-256, so the first is
+/// shown here and by no test.
+#[tactic(auto, using(crate::proofs::Waiting::on_a_cycle, crate::proofs::Waiting::without_ancestor))]
+pub fn waits_for_ancestors()
+    ensures cycle { (kept : List ReadBlock) (id : ℕ) →
+        IsTrue (in_past (graph_of kept) id id) → IsFalse (has (present kept) id) }
+    ensures missing { (kept : List ReadBlock) (ancestor id : ℕ) →
+        IsTrue (in_past (graph_of kept) ancestor id) → IsFalse (has (ids_of kept) ancestor) →
+        IsFalse (has (present kept) id) }
 {}
 
 /// There is one answer to a block.

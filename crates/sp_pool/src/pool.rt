@@ -41,7 +41,11 @@ impl Model for Pool {
 }
 
 impl Pool {
-    /// A pool of genesis alone, which is present. `Memory` where its tables found none.
+    /// A pool of genesis alone, which is present.
+    ///
+    /// # Errors
+    ///
+    /// `Memory` where the pool's tables found none.
     pub fn new(alloc: Global, genesis: Block) -> Result<Pool, Memory>
         requires { IsGenesis genesis }
         ensures kept { IfOk result (λ pool. pool ≡ genesis ∷ []) }

@@ -205,6 +205,34 @@ fn a_chain_from_its_end(rt: HostRuntime) -> Result<(), Fail> {
     Ok(())
 }
 
+/// The numbers of the 64 blocks before a block, or of all of them where they are fewer.
+fn before(alloc: Global, number: usize) -> Result<Vec<usize>, Fail> {
+    let mut list = Vec::new(alloc);
+    for earlier in number.saturating_sub(64)..number {
+        list.push(earlier)?;
+    }
+    Ok(list)
+}
+
+#[test]
+fn wide_blocks_from_their_end(rt: HostRuntime) -> Result<(), Fail> {
+    let mut world = World::new(rt.alloc())?;
+    let mut numbers = Vec::new(rt.alloc());
+    for number in 1..512usize {
+        let block = world.block(number, &before(rt.alloc(), number)?)?;
+        world.ids.push(block.id)?;
+        numbers.push(number)?;
+    }
+    for number in (2..512usize).rev() {
+        let offer = world.offer(number, &before(rt.alloc(), number)?)?;
+        assert!(rt; is_said(&offer, Said::Waiting, &world.ids));
+    }
+    let offer = world.offer(1, &[0])?;
+    assert!(rt; is_said(&offer, Said::Present(&numbers), &world.ids));
+    assert_eq!(rt; (world.pool.kept(), world.pool.waiting()), (512, 0));
+    Ok(())
+}
+
 #[test]
 fn a_full_pool(rt: HostRuntime) -> Result<(), Fail> {
     let mut world = World::new(rt.alloc())?;
@@ -220,7 +248,7 @@ fn a_full_pool(rt: HostRuntime) -> Result<(), Fail> {
         let offer = world.offer(number, &[0])?;
         assert!(rt; is_said(&offer, expected, &world.ids));
     }
-    let again = world.offer(7, &[0])?;
+    let again = world.offer(1, &[0])?;
     assert!(rt; is_said(&again, Said::Known, &world.ids));
     let [first, .., last] = world.ids.as_slice() else {
         return Err("no blocks".into());

@@ -12,10 +12,10 @@ use Rattle.sp_feed.proofs.field.read_kind.Goals as goal
 pub returns-in_err-fill-clause-reads : goal.returns-in_err-fill-clause-reads
 returns-in_err-fill-clause-reads g c =
     let p = err_from_is_err_and c.from_residual.result c.from_residual.ensures.1 in
-    rw (p.1, p.2) (reads_short 1 (λ bytes. rule (is_some (kind_of (byte bytes))) broken ∷ []) (λ bytes. unwrap_or (kind_of (byte bytes)) End) (λ kind. kind) c.in_err-fill.ensures c.fill.auto.out)
+    rw (p.1, p.2) (reads_short 1 (λ bytes. rule (is_some (kind_of (byte bytes))) broken ∷ []) (λ bytes. unwrap_or (kind_of (byte bytes)) End) (λ kind. kind) c.in_err-fill.ensures.fills c.fill.auto.out)
 
 pub returns-in-Some-clause-reads : goal.returns-in-Some-clause-reads
-returns-in-Some-clause-reads g c = reads_field 1 (λ bytes. rule (is_some (kind_of (byte bytes))) broken ∷ []) (λ bytes. unwrap_or (kind_of (byte bytes)) End) (λ kind. kind) c.in-Some.kind c.in_ok-fill.ensures c.fill.auto.out (met (is_some (kind_of (byte c.fill.new.out))) (ap is_some (sym c.of.ensures ∙ c.in-Some.is))) (ap (λ o. unwrap_or o End) (sym c.of.ensures ∙ c.in-Some.is))
+returns-in-Some-clause-reads g c = reads_field 1 (λ bytes. rule (is_some (kind_of (byte bytes))) broken ∷ []) (λ bytes. unwrap_or (kind_of (byte bytes)) End) (λ kind. kind) c.in-Some.kind c.in_ok-fill.ensures.fills c.fill.auto.out (met (is_some (kind_of (byte c.fill.new.out))) (ap is_some (sym c.of.ensures ∙ c.in-Some.is))) (ap (λ o. unwrap_or o End) (sym c.of.ensures ∙ c.in-Some.is))
 
 pub returns-in-None-clause-reads : goal.returns-in-None-clause-reads
-returns-in-None-clause-reads g c = reads_faulty 1 (λ bytes. rule (is_some (kind_of (byte bytes))) broken ∷ []) (λ bytes. unwrap_or (kind_of (byte bytes)) End) (λ kind. kind) broken c.in_ok-fill.ensures c.fill.auto.out (unmet (is_some (kind_of (byte c.fill.new.out))) (ap is_some (sym c.of.ensures ∙ c.in-None.is)))
+returns-in-None-clause-reads g c = reads_faulty 1 (λ bytes. rule (is_some (kind_of (byte bytes))) broken ∷ []) (λ bytes. unwrap_or (kind_of (byte bytes)) End) (λ kind. kind) broken c.in_ok-fill.ensures.fills c.fill.auto.out (unmet (is_some (kind_of (byte c.fill.new.out))) (ap is_some (sym c.of.ensures ∙ c.in-None.is)))

@@ -6,8 +6,8 @@ use Rattle.sp_io.proofs.Known.{consumes_then, consumes_keeps, take_more-put_mid}
 use Rattle.sp_feed.proofs.Reading.{consumes_none}
 use Rattle.sp_feed.proofs.fill.fill.Goals as goal
 
-pub returns-in_default : goal.returns-in_default
-returns-in_default g c =
+pub returns-in_default-clause-fills : goal.returns-in_default-clause-fills
+returns-in_default-clause-fills g c =
     let left = g.S.Source.left in
     let filled = c.pieces.filled in
     let given = take filled c.pieces.out in
@@ -26,8 +26,8 @@ returns-in_default g c =
       fills = (grind (arith, common_steps), (omega arith, omega (arith, c.in_default.ensures.cause.failed)));
     }
 
-pub returns-then-count-eq0 : goal.returns-then-count-eq0
-returns-then-count-eq0 g c =
+pub returns-then-count-eq0-clause-fills : goal.returns-then-count-eq0-clause-fills
+returns-then-count-eq0-clause-fills g c =
     let left = g.S.Source.left in
     let filled = c.pieces.filled in
     let given = take filled c.pieces.out in
@@ -63,4 +63,5 @@ pieces-preserved g c =
       counted = omega arith;
       bytes = subst P (sym joined) consumed;
       later = omega (arith, c.in-Ok.ensures.cause.later);
+      unasked = λ e. absurd (let room : filled < c.args.limit - c.args.taken.now = omega arith in omega (arith, e, room));
     }

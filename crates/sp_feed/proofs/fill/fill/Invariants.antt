@@ -10,6 +10,7 @@ invariant-pieces g l =
       counted : l.taken ≡ l.fn.taken + l.filled;
       bytes : Consumes (left l.fn.source) (left l.source) (take l.filled l.out);
       later : faults l.fn.source ≤ faults l.source;
+      unasked : l.fn.taken ≡ l.limit → l.source ≡ l.fn.source;
     }
 
 abbrev pub decreases-pieces : goal.decreases-pieces

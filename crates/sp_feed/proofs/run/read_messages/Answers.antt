@@ -21,7 +21,7 @@ messages-init g c = record {
   limit = c.in_ok-head.ensures.limit ∙ ap (λ r. r.limit) c.in_ok-reader.ensures;
   opened = opened _ c.in_ok-head.ensures.ok;
   unended = not_behind _ c.in_ok-head.ensures.ok;
-  so_far = so_far_head _ (from_start (ap (λ r. r.limit) c.in_ok-reader.ensures) (ap (λ r. r.taken) c.in_ok-reader.ensures) c.in_ok-head.ensures.gives);
+  so_far = so_far_head _ refl (from_start (ap (λ r. r.limit) c.in_ok-reader.ensures) (ap (λ r. r.taken) c.in_ok-reader.ensures) c.in_ok-head.ensures.gives);
 }
 
 pub returns-in_err-next : goal.returns-in_err-next
