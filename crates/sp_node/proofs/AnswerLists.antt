@@ -1,0 +1,44 @@
+-- The kept blocks and the answers after one message more, and after a front of the messages.
+use Rattle.std.proofs.Common.{◌≡◌, ℕ, List, [], ◌∷◌, ◌++◌, sym, ap, ◌∙◌, append_assoc}
+use Rattle.std.specs.List.{flat_map, fold}
+use Rattle.std.proofs.lemmas.List.{append-nil}
+use Rattle.std.proofs.lemmas.List.Sums.{fold_push}
+use Rattle.sp_block.specs.Block.{ReadBlock}
+use Rattle.sp_engine.specs.Arrivals.{kept_after, kept_by_all}
+use Rattle.sp_feed.specs.Kinds.{Said, SaysBlock, SaysVote}
+use Rattle.sp_node.specs.Answers.{answers, arrivals_of, kept_then, line}
+
+-- one arrival more
+pub kept_by_all-push : (bits : ℕ) (genesis : ReadBlock) (arrivals : List (List ℕ)) (bytes : List ℕ) → kept_by_all bits genesis (arrivals ++ bytes ∷ []) ≡ kept_after bits (kept_by_all bits genesis arrivals) bytes
+kept_by_all-push bits genesis arrivals bytes = fold_push (kept_after bits) (genesis ∷ []) arrivals bytes
+
+-- one message more
+pub kept_then_by_all : (bits : ℕ) (genesis : ReadBlock) (arrivals : List (List ℕ)) (m : Said) → kept_then bits (kept_by_all bits genesis arrivals) m ≡ kept_by_all bits genesis (arrivals ++ arrivals_of m)
+kept_then_by_all bits genesis arrivals (SaysBlock bytes) = sym (kept_by_all-push bits genesis arrivals bytes)
+kept_then_by_all bits genesis arrivals (SaysVote x y) = ap (kept_by_all bits genesis) (sym (append-nil arrivals))
+
+-- many messages more
+pub kept_by_messages : (bits : ℕ) (genesis : ReadBlock) (arrivals : List (List ℕ)) (messages : List Said) → fold (kept_then bits) (kept_by_all bits genesis arrivals) messages ≡ kept_by_all bits genesis (arrivals ++ flat_map arrivals_of messages)
+kept_by_messages bits genesis arrivals [] = ap (kept_by_all bits genesis) (sym (append-nil arrivals))
+kept_by_messages bits genesis arrivals (m ∷ messages) =
+    ap (λ (kept : List ReadBlock). fold (kept_then bits) kept messages) (kept_then_by_all bits genesis arrivals m)
+    ∙ kept_by_messages bits genesis (arrivals ++ arrivals_of m) messages
+    ∙ ap (kept_by_all bits genesis) (append_assoc arrivals (arrivals_of m) (flat_map arrivals_of messages))
+
+-- the answers to a front of the messages, and then those to the rest
+pub answers-append : (genesis : ReadBlock) (bits : ℕ) (arrivals : List (List ℕ)) (front rest : List Said) → answers genesis bits arrivals (front ++ rest) ≡ answers genesis bits arrivals front ++ answers genesis bits (arrivals ++ flat_map arrivals_of front) rest
+unfolding answers
+answers-append genesis bits arrivals [] rest = ap (λ (a : List (List ℕ)). answers genesis bits a rest) (sym (append-nil arrivals))
+answers-append genesis bits arrivals (m ∷ front) rest =
+    let after : List (List ℕ) = arrivals ++ arrivals_of m in
+    let here : List ℕ = line genesis bits arrivals m in
+    ap (λ (l : List ℕ). here ++ l) (answers-append genesis bits after front rest)
+    ∙ ap (λ (a : List (List ℕ)). here ++ (answers genesis bits after front ++ answers genesis bits a rest)) (append_assoc arrivals (arrivals_of m) (flat_map arrivals_of front))
+    ∙ sym (append_assoc here (answers genesis bits after front) (answers genesis bits (arrivals ++ (arrivals_of m ++ flat_map arrivals_of front)) rest))
+
+-- the answers to one message more
+pub answers-push : (genesis : ReadBlock) (bits : ℕ) (arrivals : List (List ℕ)) (messages : List Said) (m : Said) → answers genesis bits arrivals (messages ++ m ∷ []) ≡ answers genesis bits arrivals messages ++ line genesis bits (arrivals ++ flat_map arrivals_of messages) m
+unfolding answers
+answers-push genesis bits arrivals messages m =
+    answers-append genesis bits arrivals messages (m ∷ [])
+    ∙ ap (λ (l : List ℕ). answers genesis bits arrivals messages ++ l) (append-nil (line genesis bits (arrivals ++ flat_map arrivals_of messages) m))
