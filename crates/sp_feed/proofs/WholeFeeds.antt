@@ -92,7 +92,7 @@ all_end {limit = limit} {start = start} {mid = mid} {now = now} {h = h} of y f g
 }
 
 -- a fault says of the whole what it says of the rest
-fault_onto : (limit : ℕ) (start mid now : Moment) (h : Head) (messages : List Said) (xs ys : List ℕ) (e : FeedFault) → start.faults ≤ mid.faults → ((more : List ℕ) → feed limit (xs ++ more) ≡ onto h messages (rest_of limit mid.taken more)) → SaysFault (rest_of limit mid.taken) no_more mid now ys e → SaysFault (feed limit) (λ end. record { head = Some h; messages = messages; end = end }) start now (xs ++ ys) e
+pub fault_onto : (limit : ℕ) (start mid now : Moment) (h : Head) (messages : List Said) (xs ys : List ℕ) (e : FeedFault) → start.faults ≤ mid.faults → ((more : List ℕ) → feed limit (xs ++ more) ≡ onto h messages (rest_of limit mid.taken more)) → SaysFault (rest_of limit mid.taken) no_more mid now ys e → SaysFault (feed limit) (λ end. record { head = Some h; messages = messages; end = end }) start now (xs ++ ys) e
 fault_onto limit start mid now h messages xs ys (faults.Malformed at) l f s = λ more. ap (feed limit) (append_assoc xs ys more) ∙ f (ys ++ more) ∙ ap (onto h messages) (s more) ∙ ap (λ t. record { head = Some h; messages = t; end = Malformed at }) (append-nil messages)
 fault_onto limit start mid now h messages xs ys (faults.Truncated at) l f s = (f ys ∙ ap (onto h messages) s.0 ∙ ap (λ t. record { head = Some h; messages = t; end = Truncated at }) (append-nil messages), s.1)
 fault_onto limit start mid now h messages xs ys faults.ReadFault l f s = (f ys ∙ ap (onto h messages) s.0 ∙ ap (λ t. record { head = Some h; messages = t; end = Truncated now.taken }) (append-nil messages), omega (arith, s.1, l))

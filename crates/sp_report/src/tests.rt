@@ -1,13 +1,13 @@
 //! Lines against texts written out by hand, whole, in pieces and cut off.
 
-ghost use Rattle.std.specs.Prelude.{◌<◌};
+ghost use Rattle.std.specs.Prelude.{◌≡◌, ◌<◌, false, IfOk};
 
 use crate::{
-    Line, Naming, answer_line, full_line, kept_line, known_line, malformed_line, refused_line,
-    too_long_line, truncated_line, vote_line, waiting_line,
+    Ask, Line, Naming, answer_line, ask_line, full_line, kept_line, known_line, malformed_line,
+    refused_line, too_long_line, truncated_line, vote_line, waiting_line,
 };
-use sp_block::BlockFault;
-use sp_engine::{Answer, Refusal};
+use sp_block::{BlockFault, read_block};
+use sp_engine::{Answer, Engine, Refusal};
 use sp_ids::BlockId;
 use sp_io::{Calls, Failed, Fails, MemSink};
 use sp_model::Word;
@@ -198,4 +198,54 @@ fn other_lines(rt: HostRuntime) {
     let mut line = Line::new();
     line.push_number(18446744073709551615);
     same(&rt, line, "18446744073709551615");
+}
+
+/// An engine of a genesis block and one child of it, both without transactions.
+fn two_blocks(alloc: Global, genesis: &BlockId) -> Result<Engine, Fail>
+    ensures { IfOk result (λ engine. engine.broken ≡ false) }
+{
+    let mut first = [0; 20];
+    first[0] = 1;
+    let mut second = [0; 52];
+    second[0] = 1;
+    second[17] = 1;
+    second[18..50].copy_from_slice(genesis.as_bytes());
+    let mut engine = Engine::new(alloc, read_block(alloc, &first, true)?, 0)?;
+    let _ = engine.offer(&second)?;
+    Ok(engine)
+}
+
+fn read_id(text: &[u8]) -> Result<BlockId, Fail> {
+    Ok(BlockId::from_hex(text).ok().ok_or("no id")?)
+}
+
+#[test]
+fn questions(rt: HostRuntime) -> Result<(), Fail> {
+    // The SHA-256 of both blocks.
+    let genesis = read_id(b"21fc3f955c14305ed66b2f6064de082e8447f29048da3ab7c5c01090c1b722ab")?;
+    let child = read_id(b"7b6152704e229398dfe1409648af9d6414fb7b2685467d0eaf9b008c9b1747af")?;
+    let engine = two_blocks(rt.alloc(), &genesis)?;
+    for (ask, text) in [
+        (
+            Ask::Vote(genesis, child),
+            "vote 21fc3f955c14305ed66b2f6064de082e8447f29048da3ab7c5c01090c1b722ab 7b6152704e229398dfe1409648af9d6414fb7b2685467d0eaf9b008c9b1747af before\n",
+        ),
+        (
+            Ask::Vote(child, genesis),
+            "vote 7b6152704e229398dfe1409648af9d6414fb7b2685467d0eaf9b008c9b1747af 21fc3f955c14305ed66b2f6064de082e8447f29048da3ab7c5c01090c1b722ab after\n",
+        ),
+        (
+            Ask::Vote(child, child),
+            "vote 7b6152704e229398dfe1409648af9d6414fb7b2685467d0eaf9b008c9b1747af 7b6152704e229398dfe1409648af9d6414fb7b2685467d0eaf9b008c9b1747af same\n",
+        ),
+        (
+            Ask::Vote(genesis, id()),
+            "vote 21fc3f955c14305ed66b2f6064de082e8447f29048da3ab7c5c01090c1b722ab 00112233445566778899aabbccddeeff0f1e2d3c4b5a69788796a5b4c3d2e1f0 absent\n",
+        ),
+    ] {
+        let mut sink = sink(rt.alloc(), 192, Fails::Never)?;
+        assert_eq!(rt; ask_line(&engine, &ask, &Naming::Hex, &mut sink), Ok(()));
+        assert_eq!(rt; sink.bytes(), text.as_bytes());
+    }
+    Ok(())
 }

@@ -12,3 +12,5 @@ pub mod Outputs
 pub mod KeptLine
 pub mod SaidBlocks
 pub mod SceneGraphs
+pub mod Replies
+pub mod Replayed

@@ -44,7 +44,7 @@ abbrev pub Comes : Status → Type 0
 Comes status.Done = Unit {0}
 Comes status.Usage = Unit {0}
 Comes status.Malformed = Unit {0}
-Comes status.Truncated = ⊥
+Comes status.Truncated = Unit {0}
 Comes status.ReadFault = Unit {0}
 Comes status.WriteFault = Unit {0}
 Comes status.DiskFault = ⊥
@@ -53,3 +53,33 @@ Comes status.OtherChain = ⊥
 Comes status.Memory = Unit {0}
 Comes status.Damaged = ⊥
 Comes status.TooLong = Unit {0}
+
+-- the statuses that a scenario can end with
+abbrev pub Plays : Status → Type 0
+Plays status.Done = Unit {0}
+Plays status.Usage = ⊥
+Plays status.Malformed = Unit {0}
+Plays status.Truncated = ⊥
+Plays status.ReadFault = Unit {0}
+Plays status.WriteFault = Unit {0}
+Plays status.DiskFault = ⊥
+Plays status.NotJournal = ⊥
+Plays status.OtherChain = ⊥
+Plays status.Memory = Unit {0}
+Plays status.Damaged = ⊥
+Plays status.TooLong = Unit {0}
+
+-- the statuses that a feed can end with
+abbrev pub Replays : Status → Type 0
+Replays status.Done = Unit {0}
+Replays status.Usage = ⊥
+Replays status.Malformed = Unit {0}
+Replays status.Truncated = Unit {0}
+Replays status.ReadFault = Unit {0}
+Replays status.WriteFault = Unit {0}
+Replays status.DiskFault = ⊥
+Replays status.NotJournal = ⊥
+Replays status.OtherChain = ⊥
+Replays status.Memory = Unit {0}
+Replays status.Damaged = ⊥
+Replays status.TooLong = Unit {0}

@@ -2,7 +2,12 @@ pub mod Words
 pub mod Blocks
 pub mod Scenario
 pub mod Lines
+pub mod Calls
 pub mod Output
+pub mod Faults
+pub mod Replay
+pub mod Heads
+pub mod Replaying
 pub mod Gives
 pub mod Reading
 pub mod Tables

@@ -1,18 +1,12 @@
 -- The defined output: what the program writes for these words and this input, if nothing fails.
-use Rattle.std.specs.Prelude.{ℕ, ◌==◌, ◌&&◌, Bool, if◌then◌else◌, List, [], ◌++◌, length, nat_le, slice_index_or, codes, map, string_bytes, String}
-use Rattle.std.specs.Global.{Global}
-use Rattle.std.specs.Str.{bytes_eq}
+use Rattle.std.specs.Prelude.{ℕ, Bool, if◌then◌else◌, List, [], ◌++◌, length, nat_le, Option, Some, None}
+use Rattle.spectre.specs.Calls.{command_in}
 use Rattle.spectre.specs.Words.{scenario_limit}
 use Rattle.spectre.specs.Scenario.{scene, first_names}
 use Rattle.spectre.specs.Lines.{answers, first_blocks, fault_text, too_long_line}
-
--- the words after the program's name, as lists of bytes
-abbrev pub texts : List (String Global) → List (List ℕ)
-texts words = map string_bytes words
-
--- the words are the one word `play`
-abbrev pub is_play : List (List ℕ) → Bool
-is_play words = (length words == 1) && bytes_eq (slice_index_or words 0 []) (codes "play")
+use Rattle.spectre.specs.Replay.{replayed}
+use Rattle.spectre.specs.declared.call.Command.{Command}
+use Rattle.spectre.specs.declared.call.Command.TheVariants.{Play, Replay}
 
 -- the answers to a scenario's messages, and then its fault line
 abbrev pub played : List ℕ → List ℕ
@@ -21,5 +15,11 @@ played text = answers first_names first_blocks (scene text).messages ++ fault_te
 abbrev pub is_too_long : List ℕ → Bool
 is_too_long input = nat_le scenario_limit (length input)
 
+-- what a command writes for this input; words that are no command write nothing
+abbrev pub output_by : Option Command → List ℕ → List ℕ
+output_by None input = []
+output_by (Some Play) input = if is_too_long input then too_long_line else played input
+output_by (Some Replay) input = replayed input
+
 abbrev pub output : List (List ℕ) → List ℕ → List ℕ
-output words input = if is_play words then (if is_too_long input then too_long_line else played input) else []
+output words input = output_by (command_in words) input

@@ -1,109 +1,88 @@
 //! The top call: all that the program does, with the theorem as its contract.
 
-ghost use Rattle.std.specs.Prelude.{◌⊎◌, ◌≡◌, ◌↔◌, ◌<◌, ◌≤◌, ◌≢◌, false, true, length, IfSome, IsNone, IsSome};
-ghost use Rattle.std.specs.Io.KnownBytes.{Appends, IsAtEnd};
+ghost use Rattle.std.specs.Prelude.{◌⊎◌, ◌≡◌, ◌↔◌, ◌≢◌, ℕ, List, IfSome, IsNone, Some};
+ghost use Rattle.std.specs.Io.KnownBytes.{Appends, Consumes};
 ghost use Rattle.sp_io.specs.Causes.{Rose};
 ghost use Rattle.sp_io.specs.Whole.{AppendsFront};
-ghost use Rattle.spectre.specs.Words.{scenario_limit};
-ghost use Rattle.spectre.specs.Scenario.{scene};
-ghost use Rattle.spectre.specs.Lines.{too_long_line};
-ghost use Rattle.spectre.specs.Output.{output, is_play, texts};
+ghost use Rattle.spectre.specs.Calls.{command_in, texts};
 ghost use Rattle.spectre.specs.Ends.{Comes};
+ghost use Rattle.spectre.specs.Faults.{IsFaultless, IsMalformed, IsTooLong, IsTruncated, unread};
+ghost use Rattle.spectre.specs.Output.{output};
+ghost use Rattle.spectre.specs.Replay.{replied};
 
-use crate::ending::{Ending, Stop};
-use crate::play::play_text;
-use crate::scenario::reading::{ScenarioFault, read_scenario};
+use crate::call::{Command, command_of};
+use crate::play::play;
+use crate::replay::replay;
 use crate::status::Status;
-use sp_io::{Sink, Source, write_whole};
+use sp_io::{Sink, Source};
 use std::alloc::Global;
 
-/// Whether the words are the one word `play`.
-fn asks_to_play(words: &[String]) -> bool
-    ensures { result ≡ is_play (texts words.now) }
-{
-    words.len() == 1 && words[0].as_bytes() == b"play".as_slice()
-}
-
-/// Writes the line of a scenario that is too long.
-#[tactic(auto, unfolding(crate::specs::Lines::too_long_line))]
-fn write_too_long<K: Sink>(sink: &mut K) -> Status
-    ensures too_long { result ≡ Status.TooLong →
-        Appends (K.taken sink.old) (K.taken sink.new) too_long_line }
-    ensures write_fault { result ≡ Status.WriteFault →
-        AppendsFront (K.taken sink.old) (K.taken sink.new) too_long_line }
-    ensures cause { result ≡ Status.WriteFault → Rose (K.faults sink.old) (K.faults sink.new) }
-    ensures among { result ≢ Status.TooLong → result ≡ Status.WriteFault }
-{
-    match write_whole(sink, b"fault too-long 16777216\n") {
-        Ok(()) => Status::TooLong,
-        Err(_) => Status::WriteFault,
-    }
-}
-
 /// Runs the program on the words after its name, and answers how the run ended. `play` reads its
-/// scenario from `source` to the end before it writes the first line to `sink`. It takes time in
+/// scenario from `source` to the end before it writes the first line to `sink`; it takes time in
 /// proportion to the scenario's bytes, and for n blocks at most n^4 steps for each block and for
-/// each question that follows one.
+/// each question that follows one. `replay` reads a feed from `source` message by message and
+/// writes the line of each to `sink` before it reads the next; it takes at most n^5 steps for a
+/// block that makes n blocks present, and a look-up for each question.
 pub fn run<S: Source, K: Sink>(
     alloc: Global,
     words: &[String],
     source: &mut S,
     sink: &mut K,
 ) -> Status
-    // Where the run is done, the sink took the output and nothing else, and the scenario has no
-    // fault.
+    // Where the run is done, the sink took the output and nothing else, the input has no fault, and
+    // what stays of it is what follows a feed's end, and nothing of a scenario.
     ensures done { result ≡ Status.Done → IfSome (S.left source.old) (λ input.
         Appends (K.taken sink.old) (K.taken sink.new) (output (texts words.now) input)
-        × IsNone (scene input).fault × (length input < scenario_limit)) }
-    ensures done_end { result ≡ Status.Done → IsAtEnd (S.left source.new) }
+        × IsFaultless (command_in (texts words.now)) input) }
+    ensures done_end { result ≡ Status.Done → IfSome (S.left source.old) (λ input.
+        S.left source.new ≡ Some (unread (command_in (texts words.now)) input)) }
 
     // Where the words are wrong, nothing was read or written.
-    ensures usage { (result ≡ Status.Usage) ↔ (is_play (texts words.now) ≡ false) }
+    ensures usage { (result ≡ Status.Usage) ↔ IsNone (command_in (texts words.now)) }
     ensures unread { result ≡ Status.Usage → source.new ≡ source.old }
     ensures unwritten { result ≡ Status.Usage → sink.new ≡ sink.old }
 
-    // Where the scenario is at fault or too long, the sink took the output, which ends with that
-    // fault's line.
+    // Where the input is at fault, ends too early or is too long, the sink took the output, which
+    // ends with that fault's line.
     ensures malformed { result ≡ Status.Malformed → IfSome (S.left source.old) (λ input.
         Appends (K.taken sink.old) (K.taken sink.new) (output (texts words.now) input)
-        × IsSome (scene input).fault × (length input < scenario_limit)) }
+        × IsMalformed (command_in (texts words.now)) input) }
+    ensures truncated { result ≡ Status.Truncated → IfSome (S.left source.old) (λ input.
+        Appends (K.taken sink.old) (K.taken sink.new) (output (texts words.now) input)
+        × IsTruncated (command_in (texts words.now)) input) }
     ensures too_long { result ≡ Status.TooLong → IfSome (S.left source.old) (λ input.
         Appends (K.taken sink.old) (K.taken sink.new) (output (texts words.now) input)
-        × (scenario_limit ≤ length input)) }
+        × IsTooLong (command_in (texts words.now)) input) }
 
-    // Where something failed, the sink took a front of the output, and nothing where it was a read.
-    ensures read_fault { result ≡ Status.ReadFault → sink.new ≡ sink.old }
+    // Where a read failed, the sink took nothing of a scenario, and of a feed exactly the lines of
+    // the messages in the bytes that were given.
+    ensures read_fault { result ≡ Status.ReadFault
+        → command_in (texts words.now) ≡ Some Command.Play → sink.new ≡ sink.old }
+    ensures read_fault_fed { result ≡ Status.ReadFault
+        → command_in (texts words.now) ≡ Some Command.Replay → (given : List ℕ)
+        × Consumes (S.left source.old) (S.left source.new) given
+        × Appends (K.taken sink.old) (K.taken sink.new) (replied given) }
+    ensures read_cause { result ≡ Status.ReadFault → Rose (S.faults source.old) (S.faults source.new) }
+
+    // Where a write failed or memory was refused, the sink took a front of the output.
     ensures write_fault { result ≡ Status.WriteFault → IfSome (S.left source.old) (λ input.
         AppendsFront (K.taken sink.old) (K.taken sink.new) (output (texts words.now) input)) }
+    ensures write_cause { result ≡ Status.WriteFault → Rose (K.faults sink.old) (K.faults sink.new) }
     ensures memory { result ≡ Status.Memory → IfSome (S.left source.old) (λ input.
         AppendsFront (K.taken sink.old) (K.taken sink.new) (output (texts words.now) input)) }
-    ensures read_cause { result ≡ Status.ReadFault → Rose (S.faults source.old) (S.faults source.new) }
-    ensures write_cause { result ≡ Status.WriteFault → Rose (K.faults sink.old) (K.faults sink.new) }
 
-    // Where nothing failed and the scenario is short and without a fault, the run is done, or
-    // memory was refused.
-    ensures complete { is_play (texts words.now) ≡ true
-        → ¬ Rose (S.faults source.old) (S.faults source.new)
+    // Where nothing failed and the input has no fault, the run is done, or memory was refused.
+    ensures complete { ¬ Rose (S.faults source.old) (S.faults source.new)
         → ¬ Rose (K.faults sink.old) (K.faults sink.new)
-        → IfSome (S.left source.old) (λ input. length input < scenario_limit
-        → IsNone (scene input).fault → (result ≡ Status.Done) ⊎ (result ≡ Status.Memory)) }
+        → IfSome (S.left source.old) (λ input. IsFaultless (command_in (texts words.now)) input
+        → (result ≡ Status.Done) ⊎ (result ≡ Status.Memory)) }
 
     // The other statuses never come.
     ensures among { Comes result }
 {
-    if !asks_to_play(words) {
-        return Status::Usage;
-    }
-    let text = match read_scenario(alloc, source) {
-        Ok(text) => text,
-        Err(ScenarioFault::ReadFault) => return Status::ReadFault,
-        Err(ScenarioFault::TooLong { .. }) => return write_too_long(sink),
-        Err(ScenarioFault::Memory) => return Status::Memory,
-    };
-    match play_text(alloc, &text, sink) {
-        Ok(Ending::Whole) => Status::Done,
-        Ok(Ending::Faulty) => Status::Malformed,
-        Err(Stop::WriteFault) => Status::WriteFault,
-        Err(Stop::Memory) => Status::Memory,
+    match command_of(words) {
+        Some(Command::Play) => play(alloc, source, sink),
+        Some(Command::Replay) => replay(alloc, source, sink),
+        None => Status::Usage,
     }
 }

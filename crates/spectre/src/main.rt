@@ -3,11 +3,13 @@
 //! `main` hands it the real ends.
 #![tactic(auto)]
 
+mod call;
 mod command;
 mod ending;
 mod laws;
 mod lines;
 mod play;
+mod replay;
 mod scenario;
 mod status;
 #[cfg(test)]
@@ -47,7 +49,7 @@ fn main(rt: HostRuntime) -> ExitCode {
         Err(status) => status,
     };
     if status == Status::Usage {
-        let _ = eprintln!(rt; "usage: spectre play");
+        let _ = eprintln!(rt; "usage: spectre play | replay");
     }
     ExitCode::from(status.code())
 }

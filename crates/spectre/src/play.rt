@@ -1,25 +1,29 @@
-//! The playing of a scenario: line by line up to its first fault, each answer written before the
-//! next line is judged.
+//! The playing of a scenario: it is read whole, and then answered line by line up to its first
+//! fault, each answer written before the next line is judged.
 
-ghost use Rattle.std.specs.Prelude.{◌≡◌, ◌<◌, ◌≤◌, ℕ, length, IfOk, IfErr, OnOk, OnErr, vec_len};
+ghost use Rattle.std.specs.Prelude.{◌≡◌, ◌≢◌, ◌<◌, ◌≤◌, [], ℕ, length, IfErr, IfOk, IfSome, IsNone, IsSome, OnErr, OnOk, Some, vec_len};
 ghost use Rattle.std.specs.Io.KnownBytes.{Appends};
+ghost use Rattle.sp_io.specs.Causes.{Rose};
 ghost use Rattle.sp_io.specs.Whole.{AppendsFront};
 ghost use Rattle.spectre.specs.Words.{scenario_limit};
 ghost use Rattle.spectre.specs.Scenario as meant;
-ghost use Rattle.spectre.specs.Lines.{first_blocks, fault_line};
-ghost use Rattle.spectre.specs.Output.{played};
-ghost use Rattle.spectre.specs.Ends.{HasStopCause, EndsAs};
+ghost use Rattle.spectre.specs.Lines.{first_blocks, fault_line, too_long_line};
+ghost use Rattle.spectre.specs.Output.{output_by, played};
+ghost use Rattle.spectre.specs.Ends.{HasStopCause, EndsAs, Plays};
 
+use crate::call::Command;
 use crate::ending::{Ending, Stop};
 use crate::lines;
 use crate::scenario::message::{Message, message_of};
 use crate::scenario::name::Name;
+use crate::scenario::reading::{ScenarioFault, read_scenario};
 use crate::scenario::why::{LineError, Why};
 use crate::scenario::words::first_line;
+use crate::status::Status;
 use crate::votes::places::Places;
 use crate::votes::poll::Poll;
 use sp_ids::Memory as Refused;
-use sp_io::{Sink, write_whole};
+use sp_io::{Sink, Source, write_whole};
 use std::alloc::Global;
 
 /// The blocks so far, each with its name.
@@ -151,7 +155,7 @@ fn write_fault<K: Sink>(alloc: Global, number: u32, why: Why, sink: &mut K) -> R
 }
 
 /// Plays a scenario up to its first fault, and writes that fault's line.
-pub fn play_text<K: Sink>(alloc: Global, text: &[u8], sink: &mut K) -> Result<Ending, Stop>
+fn play_text<K: Sink>(alloc: Global, text: &[u8], sink: &mut K) -> Result<Ending, Stop>
     requires { length text.now < scenario_limit }
     ensures ok { OnOk result (Appends (K.taken sink.old) (K.taken sink.new) (played text.now)) }
     ensures ending { IfOk result (EndsAs text.now) }
@@ -176,5 +180,60 @@ pub fn play_text<K: Sink>(alloc: Global, text: &[u8], sink: &mut K) -> Result<En
         }
         number += 1;
         rest = after;
+    }
+}
+
+/// Writes the line of a scenario that is too long.
+#[tactic(auto, unfolding(crate::specs::Lines::too_long_line))]
+fn write_too_long<K: Sink>(sink: &mut K) -> Status
+    ensures too_long { result ≡ Status.TooLong →
+        Appends (K.taken sink.old) (K.taken sink.new) too_long_line }
+    ensures write_fault { result ≡ Status.WriteFault →
+        AppendsFront (K.taken sink.old) (K.taken sink.new) too_long_line }
+    ensures cause { result ≡ Status.WriteFault → Rose (K.faults sink.old) (K.faults sink.new) }
+    ensures among { result ≢ Status.TooLong → result ≡ Status.WriteFault }
+{
+    match write_whole(sink, b"fault too-long 16777216\n") {
+        Ok(()) => Status::TooLong,
+        Err(_) => Status::WriteFault,
+    }
+}
+
+/// Reads a scenario to its end and then plays it.
+pub fn play<S: Source, K: Sink>(alloc: Global, source: &mut S, sink: &mut K) -> Status
+    ensures done { result ≡ Status.Done → IfSome (S.left source.old) (λ input.
+        Appends (K.taken sink.old) (K.taken sink.new) (output_by (Some Command.Play) input)
+        × IsNone (meant.scene input).fault × (length input < scenario_limit)) }
+    ensures done_end { result ≡ Status.Done → IfSome (S.left source.old) (λ input.
+        S.left source.new ≡ Some []) }
+
+    ensures malformed { result ≡ Status.Malformed → IfSome (S.left source.old) (λ input.
+        Appends (K.taken sink.old) (K.taken sink.new) (output_by (Some Command.Play) input)
+        × IsSome (meant.scene input).fault × (length input < scenario_limit)) }
+    ensures too_long { result ≡ Status.TooLong → IfSome (S.left source.old) (λ input.
+        Appends (K.taken sink.old) (K.taken sink.new) (output_by (Some Command.Play) input)
+        × (scenario_limit ≤ length input)) }
+
+    ensures read_fault { result ≡ Status.ReadFault → sink.new ≡ sink.old }
+    ensures write_fault { result ≡ Status.WriteFault → IfSome (S.left source.old) (λ input.
+        AppendsFront (K.taken sink.old) (K.taken sink.new) (output_by (Some Command.Play) input)) }
+    ensures memory { result ≡ Status.Memory → IfSome (S.left source.old) (λ input.
+        AppendsFront (K.taken sink.old) (K.taken sink.new) (output_by (Some Command.Play) input)) }
+    ensures read_cause { result ≡ Status.ReadFault → Rose (S.faults source.old) (S.faults source.new) }
+    ensures write_cause { result ≡ Status.WriteFault → Rose (K.faults sink.old) (K.faults sink.new) }
+
+    ensures among { Plays result }
+{
+    let text = match read_scenario(alloc, source) {
+        Ok(text) => text,
+        Err(ScenarioFault::ReadFault) => return Status::ReadFault,
+        Err(ScenarioFault::TooLong { .. }) => return write_too_long(sink),
+        Err(ScenarioFault::Memory) => return Status::Memory,
+    };
+    match play_text(alloc, &text, sink) {
+        Ok(Ending::Whole) => Status::Done,
+        Ok(Ending::Faulty) => Status::Malformed,
+        Err(Stop::WriteFault) => Status::WriteFault,
+        Err(Stop::Memory) => Status::Memory,
     }
 }

@@ -20,7 +20,7 @@ const NO_COMMAND: [&[u8]; 14] = [
     b"plays\n",
     b"play \n",
     b"--help\n",
-    b"replay\n",
+    b"replays\n",
     b"node\nf\n",
     b"--\nplay\n",
 ];

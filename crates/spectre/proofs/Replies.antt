@@ -1,0 +1,177 @@
+-- The answering of a feed: what was read so far, and what was written.
+use Rattle.std.proofs.Common.{◌≡◌, ◌≤◌, ℕ, true, arith, List, [], ◌∷◌, ◌++◌, Option, Some, None, Ok, Err, refl, ap, sym, subst, ◌∙◌, append_assoc}
+use Rattle.std.specs.List.{flat_map}
+use Rattle.std.specs.Io.KnownBytes.{Appends}
+use Rattle.std.proofs.lemmas.List.{append-nil}
+use Rattle.std.proofs.lemmas.Grind.{flat_map-append}
+use Rattle.sp_block.specs.Block.{IsBlock, IsGenesis, parts_of, ReadBlock}
+use Rattle.sp_engine.specs.Arrivals.{kept_by_all}
+use Rattle.sp_engine.specs.Blocks.{block_in}
+use Rattle.sp_engine.proofs.SpelledBlocks.{spelled_block}
+use Rattle.sp_feed.specs.Calls.{GivesHead, GivesNext, SaysFault}
+use Rattle.sp_feed.specs.Feed.{Feed as FeedOf, feed, rest_of}
+use Rattle.sp_feed.specs.Format.{Head, head_of}
+use Rattle.sp_feed.specs.Genesis.{ReadHead}
+use Rattle.sp_feed.specs.Kinds.{Said}
+use Rattle.sp_feed.specs.Reader.{head_in}
+use Rattle.sp_feed.specs.Reads.{Moment, Took}
+use Rattle.sp_feed.specs.declared.fault.FeedFault.{FeedFault}
+use Rattle.sp_feed.specs.declared.fault.FeedFault.TheVariants as faults
+use Rattle.sp_feed.specs.declared.fault.HeadFault.{HeadFault}
+use Rattle.sp_feed.specs.declared.fault.HeadFault.TheVariants as heads
+use Rattle.sp_feed.proofs.WholeFeeds.{all_end, fault_onto, SoFar, so_far_head, so_far_more}
+use Rattle.sp_feed.proofs.Joining.{took_then}
+use Rattle.sp_io.specs.Whole.{AppendsFront, Wrote}
+use Rattle.sp_io.proofs.Writing.{appends_then, wrote_none, wrote_stops}
+use Rattle.sp_node.specs.declared.fault.NodeFault.{NodeFault}
+use Rattle.sp_node.specs.declared.fault.NodeFault.TheVariants as nodes
+use Rattle.sp_node.specs.Node.{HasCause}
+use Rattle.sp_node.specs.Answers.{answers, arrivals_of, kept_then, line, line_of}
+use Rattle.sp_node.proofs.AnswerLists.{answers-append, answers-push, kept_then_by_all}
+use Rattle.spectre.specs.Replay.{fed, feed_limit, lines_by, lines_under, message_lines, replied}
+use Rattle.spectre.specs.Replaying.{HasWriteCause, Replies, SaysReply}
+use Rattle.spectre.specs.declared.replay.ReplayFault.TheVariants.{Feed, Memory}
+use Rattle.spectre.specs.Heads.{as_replay, of_node}
+
+-- the genesis block is the one that its bytes spell
+pub genesis_in : (g : ReadBlock) → IsBlock g → IsGenesis g → block_in true g.bytes ≡ Ok g
+genesis_in g block kind =
+    spelled_block true g.bytes (parts_of g) kind ∙ ap (λ (i : ℕ). Ok (record g { id = i })) (sym block.id)
+
+appends_none : (a : Option (List ℕ)) → Appends a a []
+appends_none None = tt
+appends_none (Some ws) = sym (append-nil ws)
+
+-- the messages so far were answered, over the genesis block of the head
+pub record Answering (start now : Moment) (old new : Option (List ℕ)) (bits : ℕ) (kept : List ReadBlock) : Type 0 where
+  pub genesis : ReadBlock
+  pub spelled : block_in true genesis.bytes ≡ Ok genesis
+  pub messages : List Said
+  pub so_far : SoFar feed_limit start now (head_of bits genesis.bytes) [] messages
+  pub kept_is : kept ≡ kept_by_all bits genesis (flat_map arrivals_of messages)
+  pub wrote : Appends old new (answers genesis bits [] messages)
+
+lines_are : (genesis : ReadBlock) (bits : ℕ) (messages : List Said) → block_in true genesis.bytes ≡ Ok genesis → lines_under (Some (head_of bits genesis.bytes)) messages ≡ answers genesis bits [] messages
+lines_are genesis bits messages spelled = ap (λ r. lines_by r bits messages) spelled
+
+-- what a feed with these messages writes for them
+replied_is : (input : List ℕ) (f : FeedOf) → fed input ≡ f → replied input ≡ message_lines f
+unfolding replied
+replied_is input f e = ap message_lines e
+
+-- the head was read, and nothing is written yet
+pub at_head : {start now : Moment} {head : ReadHead} {bits : ℕ} {kept : List ReadBlock} (old : Option (List ℕ)) → start.taken ≡ 0 → GivesHead feed_limit start now head_in (Ok head) → block_in true head.genesis.bytes ≡ Ok head.genesis
+    → bits ≡ head.bits → kept ≡ head.genesis ∷ [] → Answering start now old old bits kept
+unfolding answers
+at_head {start = start} {now = now} {head = head} {bits = bits} {kept = kept} old z g spelled b k =
+    subst (λ (n : ℕ). Answering start now old old n kept) (sym b) (record {
+      genesis = head.genesis;
+      spelled = spelled;
+      messages = [];
+      so_far = so_far_head [] z g;
+      kept_is = k;
+      wrote = appends_none old;
+    })
+
+-- one message more was answered
+pub one_more : {start mid now : Moment} {old seen new : Option (List ℕ)} {bits bits' : ℕ} {kept kept' : List ReadBlock} {X : Type 0} {view : X → Option Said} {x : X} (m : Said)
+    → Answering start mid old seen bits kept → GivesNext feed_limit mid now view (Ok x) → view x ≡ Some m
+    → Appends seen new (line_of bits kept m) → kept' ≡ kept_then bits kept m → bits' ≡ bits → Answering start now old new bits' kept'
+one_more {start = start} {mid = mid} {now = now} {old = old} {seen = seen} {new = new} {bits = bits} {bits' = bits'} {kept = kept} {kept' = kept'} m a g e wrote k b =
+    let arrivals = flat_map arrivals_of a.messages in
+    let more : flat_map arrivals_of (a.messages ++ m ∷ []) ≡ arrivals ++ arrivals_of m = flat_map-append arrivals_of a.messages (m ∷ []) ∙ ap (λ (l : List (List ℕ)). arrivals ++ l) (append-nil (arrivals_of m)) in
+    subst (λ (n : ℕ). Answering start now old new n kept') (sym b) (record {
+      genesis = a.genesis;
+      spelled = a.spelled;
+      messages = a.messages ++ m ∷ [];
+      so_far = so_far_more m (a.messages ++ m ∷ []) a.so_far g e refl;
+      kept_is = k ∙ ap (λ (l : List ReadBlock). kept_then bits l m) a.kept_is ∙ kept_then_by_all bits a.genesis arrivals m ∙ ap (kept_by_all bits a.genesis) (sym more);
+      wrote = subst (λ (t : List ℕ). Appends old new t) (sym (answers-push a.genesis bits [] a.messages m))
+          (appends_then old seen new (answers a.genesis bits [] a.messages) (line a.genesis bits arrivals m) a.wrote (subst (λ (l : List ReadBlock). Appends seen new (line_of bits l m)) a.kept_is wrote));
+    })
+
+-- the end was read
+pub at_end : {start mid now : Moment} {old new : Option (List ℕ)} {bits : ℕ} {kept : List ReadBlock} {X : Type 0} {view : X → Option Said} {x : X}
+    → Answering start mid old new bits kept → GivesNext feed_limit mid now view (Ok x) → view x ≡ None → Replies start now old new (Ok tt)
+at_end {start = start} {now = now} {old = old} {new = new} {bits = bits} a g e =
+    let head = head_of bits a.genesis.bytes in
+    let whole = all_end (λ (h : Head). h) head a.so_far g e refl in
+    record {
+      given = whole.given;
+      took = whole.took;
+      says = λ more. (
+        subst (λ (t : List ℕ). Appends old new t)
+            (sym (replied_is (whole.given ++ more) _ (whole.says more) ∙ ap (lines_under (Some head)) (sym whole.seen) ∙ lines_are a.genesis bits a.messages a.spelled)) a.wrote,
+        ap (λ (f : FeedOf). f.end) (whole.says more),
+      );
+    }
+
+-- a fault of the feed, or of its source
+fault_says : (start now : Moment) (old new : Option (List ℕ)) (given : List ℕ) (head : Option Head) (messages : List Said) (e : FeedFault)
+    → SaysFault (feed feed_limit) (λ end. record { head = head; messages = messages; end = end }) start now given e → Appends old new (lines_under head messages) → SaysReply start now old new given (Err (Feed e))
+fault_says start now old new given head messages (faults.Malformed at) s w = λ more. (
+  subst (λ (t : List ℕ). Appends old new t) (sym (replied_is (given ++ more) _ (s more))) w,
+  ap (λ (f : FeedOf). f.end) (s more),
+)
+fault_says start now old new given head messages (faults.Truncated at) s w = (
+  (subst (λ (t : List ℕ). Appends old new t) (sym (replied_is given _ s.0)) w, ap (λ (f : FeedOf). f.end) s.0),
+  s.1,
+)
+fault_says start now old new given head messages faults.ReadFault s w = (subst (λ (t : List ℕ). Appends old new t) (sym (replied_is given _ s.0)) w, s.1)
+fault_says start now old new given head messages (faults.TooLong taken) s w = λ more. (
+  subst (λ (t : List ℕ). Appends old new t) (sym (replied_is (given ++ more) _ (s more))) w,
+  ap (λ (f : FeedOf). f.end) (s more),
+)
+
+pub at_fault : {start mid now : Moment} {old new : Option (List ℕ)} {bits : ℕ} {kept : List ReadBlock} {X : Type 0} {view : X → Option Said} {e : FeedFault}
+    → Answering start mid old new bits kept → GivesNext feed_limit mid now view (Err e) → Replies start now old new (Err (Feed e))
+at_fault {start = start} {mid = mid} {now = now} {old = old} {new = new} {bits = bits} {e = e} a g =
+    let head = head_of bits a.genesis.bytes in
+    record {
+      given = a.so_far.given ++ g.given;
+      took = took_then feed_limit start mid now a.so_far.given g.given a.so_far.took g.took;
+      says = fault_says start now old new (a.so_far.given ++ g.given) (Some head) a.so_far.messages e
+          (fault_onto feed_limit start mid now head a.so_far.messages a.so_far.given g.given e a.so_far.took.later a.so_far.says g.says)
+          (subst (λ (t : List ℕ). Appends old new t) (sym (ap (lines_under (Some head)) (sym a.so_far.seen) ∙ lines_are a.genesis bits a.messages a.spelled)) a.wrote);
+    }
+
+-- nothing was written
+pub nothing_yet : {start now : Moment} (old : Option (List ℕ)) (given : List ℕ) → Took feed_limit start now given → Replies start now old old (Err Memory)
+nothing_yet old given took = record { given = given; took = took; says = λ more. (replied (given ++ more), wrote_none old (replied (given ++ more))) }
+
+-- the head was at fault
+pub head_fault : {start now : Moment} {X : Type 0} {view : X → Head} (old : Option (List ℕ)) (e : HeadFault) → GivesHead feed_limit start now view (Err e) → Replies start now old old (Err (as_replay e))
+head_fault {start = start} {now = now} old (heads.Feed e) g = record { given = g.given; took = g.took; says = fault_says start now old old g.given None [] e g.says (appends_none old) }
+head_fault old heads.Memory g = nothing_yet old g.given g.took
+
+-- a message wasn't answered
+pub not_answered : {start mid now : Moment} {old seen new : Option (List ℕ)} {bits : ℕ} {kept : List ReadBlock} {X : Type 0} {view : X → Option Said} {x : X} (m : Said)
+    → Answering start mid old seen bits kept → GivesNext feed_limit mid now view (Ok x) → view x ≡ Some m → AppendsFront seen new (line_of bits kept m)
+    → (given : List ℕ) × Took feed_limit start now given × ((more : List ℕ) → AppendsFront old new (replied (given ++ more)))
+not_answered {start = start} {mid = mid} {now = now} {old = old} {seen = seen} {new = new} {bits = bits} m a g e front =
+    let head = head_of bits a.genesis.bytes in
+    let arrivals = flat_map arrivals_of a.messages in
+    let s = so_far_more m (a.messages ++ m ∷ []) a.so_far g e refl in (
+      s.given,
+      s.took,
+      λ more.
+          let rest = rest_of feed_limit now.taken more in
+          let here : List ℕ = line a.genesis bits arrivals m in
+          let behind : List ℕ = answers a.genesis bits (flat_map arrivals_of (a.messages ++ m ∷ [])) rest.messages in
+          let whole : replied (s.given ++ more) ≡ answers a.genesis bits [] a.messages ++ (here ++ behind) =
+          replied_is (s.given ++ more) _ (s.says more) ∙ ap (λ (l : List Said). lines_under (Some head) (l ++ rest.messages)) (sym s.seen)
+          ∙ lines_are a.genesis bits ((a.messages ++ m ∷ []) ++ rest.messages) a.spelled
+          ∙ answers-append a.genesis bits [] (a.messages ++ m ∷ []) rest.messages
+          ∙ ap (λ (t : List ℕ). t ++ behind) (answers-push a.genesis bits [] a.messages m)
+          ∙ append_assoc (answers a.genesis bits [] a.messages) here behind in
+          let w : Wrote old seen (replied (s.given ++ more)) (here ++ behind) = record { front = answers a.genesis bits [] a.messages; appended = a.wrote; split = whole } in
+          wrote_stops here behind w (subst (λ (l : List ReadBlock). AppendsFront seen new (line_of bits l m)) a.kept_is front),
+    )
+
+pub stopped_at : {start now : Moment} {old new : Option (List ℕ)} (e : NodeFault) → (given : List ℕ) × Took feed_limit start now given × ((more : List ℕ) → AppendsFront old new (replied (given ++ more))) → Replies start now old new (Err (of_node e))
+stopped_at nodes.WriteFault h = record { given = h.0; took = h.1; says = h.2 }
+stopped_at nodes.Memory h = record { given = h.0; took = h.1; says = h.2 }
+
+pub stop_cause : (e : NodeFault) (before mid now : ℕ) → before ≤ mid → HasCause mid now e → HasWriteCause before now (of_node e)
+stop_cause nodes.WriteFault before mid now le rose = omega (arith, le, rose)
+stop_cause nodes.Memory before mid now le rose = tt

@@ -1,0 +1,21 @@
+use Rattle.std.proofs.Common.{◌≡◌, ◌≤◌, ◌-◌, None, IsTrue, false}
+use Rattle.sp_feed.specs.Reader.{Behind, is_open}
+use Rattle.sp_feed.specs.Reads.{moment}
+use Rattle.spectre.specs.Replay.{feed_limit}
+use Rattle.spectre.proofs.Replies.{Answering}
+use Rattle.spectre.proofs.replay.answer_messages.Given as goal
+
+abbrev pub invariant-messages : goal.invariant-messages
+invariant-messages g l =
+    let left = g.S.Source.left in let faults = g.S.Source.faults in let taken = g.K.Sink.taken in
+    record {
+      limit : l.reader.limit ≡ feed_limit;
+      opened : IsTrue (is_open l.reader.stage);
+      unended : l.reader.stage ≡ Behind None → ⊥;
+      live : l.node.stopped ≡ false;
+      answering : Answering (moment (left l.fn.source) (faults l.fn.source) 0) (moment (left l.source) (faults l.source) l.reader.taken) (taken l.fn.sink) (taken l.sink) l.node.bits l.node.kept;
+      later : g.K.Sink.faults l.fn.sink ≤ g.K.Sink.faults l.sink;
+    }
+
+abbrev pub decreases-messages : goal.decreases-messages
+decreases-messages g l = feed_limit - l.reader.taken

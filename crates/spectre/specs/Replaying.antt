@@ -1,0 +1,40 @@
+-- How the answering of a feed's messages can end.
+use Rattle.std.specs.Prelude.{◌≡◌, ℕ, List, ◌++◌, Option, Result, Ok, Err}
+use Rattle.std.specs.Io.KnownBytes.{Appends, IsAtEnd}
+use Rattle.sp_io.specs.Causes.{Rose}
+use Rattle.sp_io.specs.Whole.{AppendsFront}
+use Rattle.sp_feed.specs.Feed.{End, Malformed, TooLong, Truncated, Whole}
+use Rattle.sp_feed.specs.Reads.{Moment, Took}
+use Rattle.sp_feed.specs.declared.fault.FeedFault.TheVariants as faults
+use Rattle.spectre.specs.Replay.{fed, feed_limit, replied}
+use Rattle.spectre.specs.declared.replay.ReplayFault.{ReplayFault}
+use Rattle.spectre.specs.declared.replay.ReplayFault.TheVariants.{Feed, WriteFault, Memory}
+
+-- whatever follows these bytes, the lines of all messages were written, and the feed ends so
+abbrev pub RepliesAll : Option (List ℕ) → Option (List ℕ) → List ℕ → (List ℕ → End) → Type 0
+RepliesAll old new given ends = (more : List ℕ) → Appends old new (replied (given ++ more)) × ((fed (given ++ more)).end ≡ ends more)
+
+-- the bytes end here: so do the messages, whose lines were written
+abbrev pub RepliesTo : Option (List ℕ) → Option (List ℕ) → List ℕ → End → Type 0
+RepliesTo old new given end = Appends old new (replied given) × ((fed given).end ≡ end)
+
+abbrev pub SaysReply : Moment → Moment → Option (List ℕ) → Option (List ℕ) → List ℕ → Result (Unit {0}) ReplayFault → Type 0
+SaysReply start now old new given (Ok u) = RepliesAll old new given (λ more. Whole more)
+SaysReply start now old new given (Err (Feed (faults.Malformed at))) = RepliesAll old new given (λ more. Malformed at)
+SaysReply start now old new given (Err (Feed (faults.Truncated at))) = RepliesTo old new given (Truncated at) × IsAtEnd now.left
+SaysReply start now old new given (Err (Feed faults.ReadFault)) = Appends old new (replied given) × Rose start.faults now.faults
+SaysReply start now old new given (Err (Feed (faults.TooLong taken))) = RepliesAll old new given (λ more. TooLong taken)
+SaysReply start now old new given (Err WriteFault) = (more : List ℕ) → AppendsFront old new (replied (given ++ more))
+SaysReply start now old new given (Err Memory) = (more : List ℕ) → AppendsFront old new (replied (given ++ more))
+
+-- between two moments of a source these bytes were taken, and this was written
+pub record Replies (start now : Moment) (old new : Option (List ℕ)) (result : Result (Unit {0}) ReplayFault) : Type 0 where
+  pub given : List ℕ
+  pub took : Took feed_limit start now given
+  pub says : SaysReply start now old new given result
+
+-- the sink's count rose at a failed write
+abbrev pub HasWriteCause : ℕ → ℕ → ReplayFault → Type 0
+HasWriteCause before now (Feed fault) = Unit {0}
+HasWriteCause before now WriteFault = Rose before now
+HasWriteCause before now Memory = Unit {0}

@@ -1,0 +1,200 @@
+//! The answering of a feed: message by message up to its end or its first fault, each line written
+//! before the next message is read.
+
+ghost use Rattle.std.specs.Prelude.{◌≡◌, ◌≢◌, ◌≤◌, ◌∷◌, ◌⊎◌, [], ℕ, true, IfErr, IfOk, IfSome, List, Ok, Some};
+ghost use Rattle.std.specs.Io.KnownBytes.{Appends, Consumes};
+ghost use Rattle.sp_io.specs.Causes.{Rose};
+ghost use Rattle.sp_io.specs.Whole.{AppendsFront};
+ghost use Rattle.sp_engine.specs.Blocks.{block_in};
+ghost use Rattle.sp_feed.specs.Reads.{moment};
+ghost use Rattle.sp_node.specs.Node.{state};
+ghost use Rattle.spectre.specs.Ends.{Replays};
+ghost use Rattle.spectre.specs.Faults.{EndsMalformed, EndsTooLong, EndsTruncated, EndsWhole, fault_text, rest_behind, status_of};
+ghost use Rattle.spectre.specs.Replay.{fed, replayed, replied};
+ghost use Rattle.spectre.specs.Replaying.{HasWriteCause, Replies};
+
+use crate::status::Status;
+use sp_feed::{FeedFault, FeedHead, FeedReader, HeadFault, Message};
+use sp_ids::Memory as Refused;
+use sp_io::{Sink, Source, write_whole};
+use sp_node::{Node, NodeFault};
+use sp_report::{Line, Naming, malformed_line, too_long_line, truncated_line};
+use std::alloc::Global;
+
+/// Why a feed isn't answered to its end.
+#[derive(Clone, Copy, Debug, PartialEq, Eq)]
+pub enum ReplayFault {
+    /// The feed, or its source, is at fault.
+    Feed(FeedFault),
+    /// A write failed.
+    WriteFault,
+    /// Memory was refused.
+    Memory,
+}
+
+impl From<FeedFault> for ReplayFault {
+    ghost use Rattle.std.specs.Prelude.{◌≡◌};
+    ghost use Rattle.spectre.specs.declared.replay.ReplayFault.TheVariants as faults;
+
+    ghost from_gives = { λ fault e. e ≡ faults.Feed fault };
+
+    fn from(fault: FeedFault) -> ReplayFault {
+        ReplayFault::Feed(fault)
+    }
+}
+
+impl From<HeadFault> for ReplayFault {
+    ghost use Rattle.std.specs.Prelude.{◌≡◌};
+    ghost use Rattle.spectre.specs.Heads.{as_replay};
+
+    ghost from_gives = { λ fault e. e ≡ as_replay fault };
+
+    fn from(fault: HeadFault) -> ReplayFault {
+        match fault {
+            HeadFault::Feed(fault) => ReplayFault::Feed(fault),
+            HeadFault::Memory => ReplayFault::Memory,
+        }
+    }
+}
+
+impl From<NodeFault> for ReplayFault {
+    ghost use Rattle.std.specs.Prelude.{◌≡◌};
+    ghost use Rattle.spectre.specs.Heads.{of_node};
+
+    ghost from_gives = { λ fault e. e ≡ of_node fault };
+
+    fn from(fault: NodeFault) -> ReplayFault {
+        match fault {
+            NodeFault::WriteFault => ReplayFault::WriteFault,
+            NodeFault::Memory => ReplayFault::Memory,
+        }
+    }
+}
+
+impl From<Refused> for ReplayFault {
+    ghost use Rattle.std.specs.Prelude.{◌≡◌};
+    ghost use Rattle.spectre.specs.declared.replay.ReplayFault.TheVariants as faults;
+
+    ghost from_gives = { λ _ e. e ≡ faults.Memory };
+
+    fn from(_refused: Refused) -> ReplayFault {
+        ReplayFault::Memory
+    }
+}
+
+/// A node on the head of a feed, whose genesis block is the one that its bytes spell.
+fn node_of(alloc: Global, head: FeedHead) -> Result<Node, Refused>
+    ensures node { IfOk result (λ node. node ≡ state head.bits (head.genesis ∷ [])) }
+    ensures genesis { block_in true head.genesis.bytes ≡ Ok head.genesis }
+{
+    let FeedHead { bits, genesis } = head;
+    // Tells the proof what its bytes spell.
+    let _id = genesis.id;
+    Node::plain(alloc, FeedHead { bits, genesis })
+}
+
+/// Answers each message of a feed. Not a byte behind the frame `E` is read.
+fn answer_messages<S: Source, K: Sink>(
+    alloc: Global,
+    source: &mut S,
+    sink: &mut K,
+) -> Result<(), ReplayFault>
+    ensures replies { (taken : ℕ) × Replies
+        (moment (S.left source.old) (S.faults source.old) 0)
+        (moment (S.left source.new) (S.faults source.new) taken)
+        (K.taken sink.old) (K.taken sink.new) result }
+    ensures cause { IfErr result (HasWriteCause (K.faults sink.old) (K.faults sink.new)) }
+    ensures later { K.faults sink.old ≤ K.faults sink.new }
+{
+    let mut reader = FeedReader::new(alloc)?;
+    let head = reader.head(source)?;
+    let mut node = node_of(alloc, head)?;
+    'messages: loop {
+        reader.next(source)?;
+        let message = reader.message();
+        match message {
+            Message::End => return Ok(()),
+            _ => node.message(&message, &Naming::Hex, sink)?,
+        }
+    }
+}
+
+/// The line of a feed's fault; none where a read failed.
+fn line_of(fault: FeedFault) -> Line
+    ensures { result ≡ fault_text fault }
+{
+    match fault {
+        FeedFault::Malformed { at } => malformed_line(at),
+        FeedFault::Truncated { at } => truncated_line(at),
+        FeedFault::ReadFault => Line::new(),
+        FeedFault::TooLong { taken } => too_long_line(taken),
+    }
+}
+
+/// The status that a feed's fault gives.
+fn status_by(fault: FeedFault) -> Status
+    ensures { result ≡ status_of fault }
+{
+    match fault {
+        FeedFault::Malformed { .. } => Status::Malformed,
+        FeedFault::Truncated { .. } => Status::Truncated,
+        FeedFault::ReadFault => Status::ReadFault,
+        FeedFault::TooLong { .. } => Status::TooLong,
+    }
+}
+
+/// Writes the line of a feed's fault.
+fn tell<K: Sink>(fault: FeedFault, sink: &mut K) -> Status
+    ensures told { result ≢ Status.WriteFault → result ≡ status_of fault }
+    ensures text { result ≢ Status.WriteFault →
+        Appends (K.taken sink.old) (K.taken sink.new) (fault_text fault) }
+    ensures front { result ≡ Status.WriteFault →
+        AppendsFront (K.taken sink.old) (K.taken sink.new) (fault_text fault) }
+    ensures cause { result ≡ Status.WriteFault → Rose (K.faults sink.old) (K.faults sink.new) }
+    ensures quiet { fault ≡ FeedFault.ReadFault → result ≡ Status.ReadFault }
+{
+    let line = line_of(fault);
+    match write_whole(sink, line.as_slice()) {
+        Ok(()) => status_by(fault),
+        Err(_) => Status::WriteFault,
+    }
+}
+
+/// Answers a feed: one line for each message, and then the line of the feed's fault, where it has
+/// one. What follows the frame `E` stays unread. It takes the time of the engine for each block,
+/// and a look-up for each question.
+pub fn replay<S: Source, K: Sink>(alloc: Global, source: &mut S, sink: &mut K) -> Status
+    ensures done { result ≡ Status.Done → IfSome (S.left source.old) (λ input.
+        Appends (K.taken sink.old) (K.taken sink.new) (replayed input) × EndsWhole (fed input).end) }
+    ensures done_end { result ≡ Status.Done → IfSome (S.left source.old) (λ input.
+        S.left source.new ≡ Some (rest_behind (fed input).end)) }
+
+    ensures malformed { result ≡ Status.Malformed → IfSome (S.left source.old) (λ input.
+        Appends (K.taken sink.old) (K.taken sink.new) (replayed input)
+        × EndsMalformed (fed input).end) }
+    ensures truncated { result ≡ Status.Truncated → IfSome (S.left source.old) (λ input.
+        Appends (K.taken sink.old) (K.taken sink.new) (replayed input)
+        × EndsTruncated (fed input).end) }
+    ensures too_long { result ≡ Status.TooLong → IfSome (S.left source.old) (λ input.
+        Appends (K.taken sink.old) (K.taken sink.new) (replayed input)
+        × EndsTooLong (fed input).end) }
+
+    ensures read_fault { result ≡ Status.ReadFault → (given : List ℕ)
+        × Consumes (S.left source.old) (S.left source.new) given
+        × Appends (K.taken sink.old) (K.taken sink.new) (replied given) }
+    ensures write_fault { result ≡ Status.WriteFault → IfSome (S.left source.old) (λ input.
+        AppendsFront (K.taken sink.old) (K.taken sink.new) (replayed input)) }
+    ensures memory { result ≡ Status.Memory → IfSome (S.left source.old) (λ input.
+        AppendsFront (K.taken sink.old) (K.taken sink.new) (replayed input)) }
+    ensures read_cause { result ≡ Status.ReadFault → Rose (S.faults source.old) (S.faults source.new) }
+    ensures write_cause { result ≡ Status.WriteFault → Rose (K.faults sink.old) (K.faults sink.new) }
+
+    ensures among { Replays result }
+{
+    match answer_messages(alloc, source, sink) {
+        Ok(()) => Status::Done,
+        Err(ReplayFault::Feed(fault)) => tell(fault, sink),
+        Err(ReplayFault::WriteFault) => Status::WriteFault,
+        Err(ReplayFault::Memory) => Status::Memory,
+    }
+}
