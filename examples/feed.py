@@ -113,7 +113,14 @@ def cycle():
     return HEAD + b"".join(map(send, blocks)) + vote(a, b) + vote(b, c) + vote(c, a) + END
 
 
-FEEDS = {feed.__name__: feed for feed in (first, waiting, refused, cut, malformed, cycle)}
+def full():
+    """One block more than there is room for, all on a block that isn't sent, and the first again."""
+    unsent = block(1, G)
+    blocks = [block(salt, unsent) for salt in range(2, 514)]
+    return HEAD + b"".join(map(send, blocks)) + send(blocks[0]) + END
+
+
+FEEDS = {feed.__name__: feed for feed in (first, waiting, refused, cut, malformed, cycle, full)}
 
 
 def main(words):
