@@ -1,0 +1,133 @@
+#!/usr/bin/env python3
+"""Writes a feed of real blocks to standard output, for the command `replay`:
+
+    python3 examples/feed.py first | bin/spectre replay
+
+The word is the feed's name, `first` where there is none. The formats are those of
+docs/FORMATS.md. examples/README.md has the lines that each feed is answered with.
+"""
+
+import hashlib
+import itertools
+import sys
+
+BITS = 8  # the first bits of an id that have to be zero
+
+
+def block_id(block):
+    return hashlib.sha256(block).digest()
+
+
+def meets_work(block):
+    return int.from_bytes(block_id(block), "big") < 2 ** (256 - BITS)
+
+
+def spelled(salt, nonce, parents):
+    """The bytes of a block without transactions, its parents in the order given."""
+    version = b"\x01"
+    count_of_txs = (0).to_bytes(2, "little")
+    return (
+        version
+        + salt.to_bytes(8, "little")
+        + nonce.to_bytes(8, "little")
+        + bytes([len(parents)])
+        + b"".join(parents)
+        + count_of_txs
+    )
+
+
+def block(salt, *parents, works=True):
+    """A block on these blocks, with the least nonce that meets the work, or that misses it."""
+    ids = sorted(block_id(parent) for parent in parents)
+    tries = (spelled(salt, nonce, ids) for nonce in itertools.count())
+    return next(made for made in tries if meets_work(made) == works)
+
+
+def frame(kind, payload=b""):
+    return kind + len(payload).to_bytes(4, "little") + payload
+
+
+def send(block):
+    return frame(b"B", block)
+
+
+def vote(x, y):
+    return frame(b"V", block_id(x) + block_id(y))
+
+
+G = spelled(0, 0, [])  # genesis, which isn't judged for work
+HEAD = b"SPCTRF01" + bytes([BITS]) + send(G)
+END = frame(b"E")
+
+
+def first():
+    """Two blocks on genesis, a third on the first of them, and the question on the two."""
+    a, b = block(1, G), block(2, G)
+    c = block(3, a)
+    return HEAD + send(a) + send(b) + send(c) + vote(a, b) + END
+
+
+def waiting():
+    """A child that comes before its parent, and then the parent twice."""
+    a = block(1, G)
+    b = block(2, a)
+    return HEAD + send(b) + vote(G, b) + send(a) + send(a) + vote(b, a) + END
+
+
+def refused():
+    """Bytes that are no valid block, and a question on a block that was refused."""
+    a, b = block(1, G), block(2, G)
+    turned = spelled(3, 0, sorted([block_id(a), block_id(b)], reverse=True))
+    lazy = block(4, G, works=False)
+    return (
+        HEAD
+        + send(turned)
+        + send(a + b"\x00")
+        + send(a[:-1])
+        + send(G)
+        + send(b"\x00" * 65537)
+        + send(lazy)
+        + vote(G, lazy)
+        + END
+    )
+
+
+def cut():
+    """A feed that ends within its last block, one byte early."""
+    a, b = block(1, G), block(2, G)
+    return HEAD + send(a) + send(b)[:-1]
+
+
+def malformed():
+    """A frame of a kind that there isn't. What follows it isn't read."""
+    a, b = block(1, G), block(2, G)
+    return HEAD + send(a) + frame(b"Z") + send(b) + END
+
+
+def cycle():
+    """Three blocks, each before the next and the last before the first, as in cycle.txt."""
+    a, b, c = block(1, G), block(2, G), block(3, G)
+    x1, x2, x3 = block(4, a), block(6, b), block(8, c)
+    y1, y2, y3 = block(5, x1, b), block(7, x2, c), block(9, x3, a)
+    blocks = [a, b, c, x1, y1, x2, y2, x3, y3]
+    return HEAD + b"".join(map(send, blocks)) + vote(a, b) + vote(b, c) + vote(c, a) + END
+
+
+def full():
+    """One block more than there is room for, all on a block that isn't sent, and the first again."""
+    unsent = block(1, G)
+    blocks = [block(salt, unsent) for salt in range(2, 514)]
+    return HEAD + b"".join(map(send, blocks)) + send(blocks[0]) + END
+
+
+FEEDS = {feed.__name__: feed for feed in (first, waiting, refused, cut, malformed, cycle, full)}
+
+
+def main(words):
+    name = words[0] if words else "first"
+    if len(words) > 1 or name not in FEEDS:
+        sys.exit("usage: feed.py [" + " | ".join(FEEDS) + "]")
+    sys.stdout.buffer.write(FEEDS[name]())
+
+
+main(sys.argv[1:])
