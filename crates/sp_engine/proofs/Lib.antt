@@ -9,3 +9,4 @@ pub mod Released
 pub mod Arriving
 pub mod Judged
 pub mod Alone
+pub mod Judgements

@@ -1,8 +1,9 @@
 -- What becomes of bytes that arrive.
-use Rattle.std.specs.Prelude.{ℕ, ◌-◌, if◌then◌else◌, false, List, [], ◌∷◌, ◌++◌, length, fold, Result, Ok, Err}
+use Rattle.std.specs.Prelude.{ℕ, ◌≡◌, ◌-◌, if◌then◌else◌, false, List, [], ◌∷◌, ◌++◌, length, fold, Result, Ok, Err}
 use Rattle.sp_block.specs.Block.{ReadBlock}
 use Rattle.sp_block.specs.declared.fault.BlockFault.{BlockFault}
 use Rattle.sp_model.specs.Graph.{has}
+use Rattle.sp_pool.specs.Arrivals.{AreKeptOf}
 use Rattle.sp_pool.specs.Kept.{keep, present, standing_of}
 use Rattle.sp_pool.specs.declared.answers.Standing.{Standing}
 use Rattle.sp_pool.specs.declared.answers.Standing.TheVariants as standing
@@ -51,3 +52,10 @@ kept_after bits kept bytes = kept_with kept (valid_in bits bytes)
 -- genesis, and each valid arrival whose id is none of those before it, until 512 blocks stand
 abbrev pub kept_by_all : ℕ → ReadBlock → List (List ℕ) → List ReadBlock
 kept_by_all bits genesis arrivals = fold (kept_after bits) (genesis ∷ []) arrivals
+
+-- over the bytes of all arrivals these are the kept blocks by the pool's relation, and no others are
+abbrev pub KeptAreOfArrivals : Type 0
+KeptAreOfArrivals = (bits : ℕ) (genesis : ReadBlock) (arrivals : List (List ℕ)) → AreKeptOf genesis bits arrivals (kept_by_all bits genesis arrivals)
+
+abbrev pub NoOthersAreKept : Type 0
+NoOthersAreKept = (bits : ℕ) (genesis : ReadBlock) (arrivals : List (List ℕ)) (kept : List ReadBlock) → AreKeptOf genesis bits arrivals kept → kept ≡ kept_by_all bits genesis arrivals

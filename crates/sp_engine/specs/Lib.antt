@@ -1,4 +1,5 @@
 pub mod Blocks
 pub mod Presence
 pub mod Arrivals
+pub mod Causes
 pub mod Engine

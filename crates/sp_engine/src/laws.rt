@@ -1,7 +1,9 @@
 //! Laws of arrivals, over the definitions alone. Each is the contract of a function that does
 //! nothing, so that the check proves it.
 
+ghost use Rattle.sp_engine.specs.Arrivals.{KeptAreOfArrivals, NoOthersAreKept};
 ghost use Rattle.sp_engine.specs.Blocks.{BlockIsSpelled, BlockIsWhole, FaultIsFirst, WorkIsMet};
+ghost use Rattle.sp_engine.specs.Causes.{FullIsCaused, HeldIsCaused, KeptIsCaused, KnownIsCaused, SpellingIsCaused, WorkIsCaused};
 
 /// What a list of bytes is as a block, by the function that arrivals are judged with, is what it
 /// spells, or else its first fault.
@@ -14,4 +16,23 @@ pub fn blocks_are_spelled()
 /// The test of an id's first bits is what the rule says.
 pub fn work_is_met()
     ensures { WorkIsMet }
+{}
+
+/// Over the bytes of all arrivals the kept blocks are those of the pool's relation: genesis, and
+/// each block that some arrival spells, whose id meets the work and is none of those before it,
+/// until 512 blocks stand.
+pub fn kept_are_of_arrivals()
+    ensures kept { KeptAreOfArrivals }
+    ensures only { NoOthersAreKept }
+{}
+
+/// Each answer to bytes that arrive has its cause, in the words of the rules: it is given exactly
+/// where that stands.
+pub fn causes()
+    ensures spelling { SpellingIsCaused }
+    ensures work { WorkIsCaused }
+    ensures known { KnownIsCaused }
+    ensures full { FullIsCaused }
+    ensures held { HeldIsCaused }
+    ensures kept { KeptIsCaused }
 {}
