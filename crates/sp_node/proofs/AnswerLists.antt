@@ -7,6 +7,7 @@ use Rattle.sp_block.specs.Block.{ReadBlock}
 use Rattle.sp_engine.specs.Arrivals.{kept_after, kept_by_all}
 use Rattle.sp_feed.specs.Kinds.{Said, SaysBlock, SaysVote}
 use Rattle.sp_node.specs.Answers.{answers, arrivals_of, kept_then, line}
+use Rattle.sp_node.specs.Messages.{AnswersInTurn, KeptByMessages}
 
 -- one arrival more
 pub kept_by_all-push : (bits : ℕ) (genesis : ReadBlock) (arrivals : List (List ℕ)) (bytes : List ℕ) → kept_by_all bits genesis (arrivals ++ bytes ∷ []) ≡ kept_after bits (kept_by_all bits genesis arrivals) bytes
@@ -25,6 +26,9 @@ kept_by_messages bits genesis arrivals (m ∷ messages) =
     ∙ kept_by_messages bits genesis (arrivals ++ arrivals_of m) messages
     ∙ ap (kept_by_all bits genesis) (append_assoc arrivals (arrivals_of m) (flat_map arrivals_of messages))
 
+pub kept_from_genesis : KeptByMessages
+kept_from_genesis bits genesis messages = kept_by_messages bits genesis [] messages
+
 -- the answers to a front of the messages, and then those to the rest
 pub answers-append : (genesis : ReadBlock) (bits : ℕ) (arrivals : List (List ℕ)) (front rest : List Said) → answers genesis bits arrivals (front ++ rest) ≡ answers genesis bits arrivals front ++ answers genesis bits (arrivals ++ flat_map arrivals_of front) rest
 unfolding answers
@@ -35,6 +39,9 @@ answers-append genesis bits arrivals (m ∷ front) rest =
     ap (λ (l : List ℕ). here ++ l) (answers-append genesis bits after front rest)
     ∙ ap (λ (a : List (List ℕ)). here ++ (answers genesis bits after front ++ answers genesis bits a rest)) (append_assoc arrivals (arrivals_of m) (flat_map arrivals_of front))
     ∙ sym (append_assoc here (answers genesis bits after front) (answers genesis bits (arrivals ++ (arrivals_of m ++ flat_map arrivals_of front)) rest))
+
+pub answers_in_turn : AnswersInTurn
+answers_in_turn = answers-append
 
 -- the answers to one message more
 pub answers-push : (genesis : ReadBlock) (bits : ℕ) (arrivals : List (List ℕ)) (messages : List Said) (m : Said) → answers genesis bits arrivals (messages ++ m ∷ []) ≡ answers genesis bits arrivals messages ++ line genesis bits (arrivals ++ flat_map arrivals_of messages) m

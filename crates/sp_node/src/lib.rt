@@ -6,7 +6,10 @@
 #![tactic(auto)]
 
 mod fault;
+pub mod laws;
 mod node;
+#[cfg(test)]
+mod tests;
 
 pub use fault::NodeFault;
 pub use node::Node;

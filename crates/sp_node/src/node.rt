@@ -79,6 +79,10 @@ impl Node {
             self.new.kept ≡ kept_then self.old.bits self.old.kept said)) }
         ensures bits { self.new.bits ≡ self.old.bits }
 
+        // So is one whose line wasn't written.
+        ensures kept_unwritten { result ≡ Err NodeFault.WriteFault → IfSome (told message.now)
+            (λ said. self.new.kept ≡ kept_then self.old.bits self.old.kept said) }
+
         // Where that failed, a front of the line was; nothing, where memory was refused.
         ensures err { OnErr result (IfSome (told message.now) (λ said.
             AppendsFront (K.taken sink.old) (K.taken sink.new)
@@ -127,6 +131,8 @@ impl Node {
             (line_of self.old.bits self.old.kept (SaysBlock bytes.now))) }
         ensures kept { OnOk result (self.new.kept
             ≡ kept_then self.old.bits self.old.kept (SaysBlock bytes.now)) }
+        ensures kept_unwritten { result ≡ Err NodeFault.WriteFault →
+            self.new.kept ≡ kept_then self.old.bits self.old.kept (SaysBlock bytes.now) }
         ensures bits { self.new.bits ≡ self.old.bits }
         ensures err { OnErr result (AppendsFront (K.taken sink.old) (K.taken sink.new)
             (line_of self.old.bits self.old.kept (SaysBlock bytes.now))) }
