@@ -1,23 +1,16 @@
 -- The lines that answer the messages of a scenario, each from the definitions of presence and votes over the blocks before it.
 use Rattle.std.specs.Prelude.{ℕ, ◌-◌, if◌then◌else◌, List, [], ◌∷◌, ◌++◌, Option, Some, None, length, slice_index_or, codes}
 use Rattle.std.specs.Fmt.{decimal}
-use Rattle.sp_model.specs.declared.word.Word.{Word}
-use Rattle.sp_model.specs.declared.word.Word.TheVariants as word_is
 use Rattle.sp_model.specs.Graph.{Graph, has, complete}
 use Rattle.sp_model.specs.Votes.{word}
+use Rattle.sp_report.specs.Lines.{kept_text, too_long_text, vote_text, waiting_text}
 use Rattle.spectre.specs.Blocks.{graph_of}
 use Rattle.spectre.specs.Scenario.{Fault, names_after}
+use Rattle.spectre.specs.Words.{scenario_limit}
 use Rattle.spectre.specs.declared.scenario.message.Message.{Message}
 use Rattle.spectre.specs.declared.scenario.message.Message.TheVariants.{Block, Vote}
 use Rattle.spectre.specs.declared.scenario.why.Why.{Why}
 use Rattle.spectre.specs.declared.scenario.why.Why.TheVariants as why
-
-abbrev pub word_text : Word → List ℕ
-word_text word_is.Before = codes "before"
-word_text word_is.After = codes "after"
-word_text word_is.Tie = codes "tie"
-word_text word_is.Same = codes "same"
-word_text word_is.Absent = codes "absent"
 
 abbrev pub reason : Why → List ℕ
 reason why.Byte = codes "byte"
@@ -37,20 +30,19 @@ label names place = slice_index_or names place []
 unfoldable pub kept_line : List ℕ → Graph → Graph → ℕ → List ℕ
 kept_line name before after key =
     if has (complete after) key
-    then (codes "kept " ++ name ++ codes " present " ++ decimal (length (complete after) - length (complete before)) ++ 10 ∷ [])
-    else (codes "kept " ++ name ++ codes " waiting" ++ 10 ∷ [])
+    then kept_text name (length (complete after) - length (complete before)) else waiting_text name
 
 -- what all present blocks say of two blocks
 unfoldable pub vote_line : List (List ℕ) → Graph → ℕ → ℕ → List ℕ
 vote_line names graph x y =
-    codes "vote " ++ label names x ++ 32 ∷ [] ++ label names y ++ 32 ∷ [] ++ word_text (word graph (complete graph) x y) ++ 10 ∷ []
+    vote_text (label names x) (label names y) (word graph (complete graph) x y)
 
 unfoldable pub fault_line : ℕ → Why → List ℕ
 fault_line number why = codes "fault line " ++ decimal number ++ 32 ∷ [] ++ reason why ++ 10 ∷ []
 
 -- 16,777,216 bytes were taken before the end was met
 unfoldable pub too_long_line : List ℕ
-too_long_line = codes "fault too-long 16777216" ++ 10 ∷ []
+too_long_line = too_long_text scenario_limit
 
 -- the line that answers one message after blocks of these names and parents
 unfoldable pub line : List (List ℕ) → List (List ℕ) → Message → List ℕ

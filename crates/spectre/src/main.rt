@@ -1,6 +1,6 @@
-//! The ledger's program. `play` reads a scenario from standard input and writes its answers to
-//! standard output; `run` in `command.rt` is all that the program does and carries the theorem, and
-//! `main` hands it the real ends.
+//! The ledger's program. `play` reads a scenario from standard input, and `replay` a feed, and each
+//! writes its answers to standard output; `run` in `command.rt` is all that the program does and
+//! carries the theorem, and `main` hands it the real ends.
 #![tactic(auto)]
 
 mod call;

@@ -7,7 +7,8 @@ ghost use Rattle.sp_io.specs.Causes.{Rose};
 ghost use Rattle.sp_io.specs.Whole.{AppendsFront};
 ghost use Rattle.spectre.specs.Words.{scenario_limit};
 ghost use Rattle.spectre.specs.Scenario as meant;
-ghost use Rattle.spectre.specs.Lines.{first_blocks, fault_line, too_long_line};
+ghost use Rattle.spectre.specs.Lines.{first_blocks, fault_line};
+ghost use Rattle.spectre.specs.Lines as said;
 ghost use Rattle.spectre.specs.Output.{output_by, played};
 ghost use Rattle.spectre.specs.Ends.{HasStopCause, EndsAs, Plays};
 
@@ -24,6 +25,7 @@ use crate::votes::places::Places;
 use crate::votes::poll::Poll;
 use sp_ids::Memory as Refused;
 use sp_io::{Sink, Source, write_whole};
+use sp_report::{kept_line, too_long_line};
 use std::alloc::Global;
 
 /// The blocks so far, each with its name.
@@ -86,11 +88,11 @@ impl Table {
         ensures cause { IfErr result (HasStopCause (K.faults sink.old) (K.faults sink.new)) }
         ensures later { K.faults sink.old ≤ K.faults sink.new }
     {
-        let text = lines::kept_line(alloc, &name, 1)?;
+        let text = kept_line(name.as_slice(), 1);
         self.names.reserve(1)?;
         self.blocks.add(alloc, parents)?;
         self.names.push_reserved(name);
-        write_whole(sink, &text)?;
+        write_whole(sink, text.as_slice())?;
         Ok(())
     }
 
@@ -109,7 +111,7 @@ impl Table {
         ensures later { K.faults sink.old ≤ K.faults sink.new }
     {
         let text = lines::vote_line(alloc, &self.names, &mut self.blocks, x, y)?;
-        write_whole(sink, &text)?;
+        write_whole(sink, text.as_slice())?;
         Ok(())
     }
 
@@ -141,7 +143,7 @@ impl Table {
 
 /// Writes the line of a fault.
 #[tactic(auto, using(sp_io::proofs::Stops::stops_at_start))]
-fn write_fault<K: Sink>(alloc: Global, number: u32, why: Why, sink: &mut K) -> Result<(), Stop>
+fn write_fault<K: Sink>(number: u32, why: Why, sink: &mut K) -> Result<(), Stop>
     ensures ok { OnOk result
         (Appends (K.taken sink.old) (K.taken sink.new) (fault_line number why)) }
     ensures err { OnErr result
@@ -149,8 +151,8 @@ fn write_fault<K: Sink>(alloc: Global, number: u32, why: Why, sink: &mut K) -> R
     ensures cause { IfErr result (HasStopCause (K.faults sink.old) (K.faults sink.new)) }
     ensures later { K.faults sink.old ≤ K.faults sink.new }
 {
-    let line = lines::fault_line(alloc, number, why)?;
-    write_whole(sink, &line)?;
+    let line = lines::fault_line(number, why);
+    write_whole(sink, line.as_slice())?;
     Ok(())
 }
 
@@ -174,7 +176,7 @@ fn play_text<K: Sink>(alloc: Global, text: &[u8], sink: &mut K) -> Result<Ending
         match table.message(alloc, line)? {
             Ok(message) => table.answer(alloc, message, sink)?,
             Err(why) => {
-                write_fault(alloc, number, why, sink)?;
+                write_fault(number, why, sink)?;
                 return Ok(Ending::Faulty);
             }
         }
@@ -187,13 +189,13 @@ fn play_text<K: Sink>(alloc: Global, text: &[u8], sink: &mut K) -> Result<Ending
 #[tactic(auto, unfolding(crate::specs::Lines::too_long_line))]
 fn write_too_long<K: Sink>(sink: &mut K) -> Status
     ensures too_long { result ≡ Status.TooLong →
-        Appends (K.taken sink.old) (K.taken sink.new) too_long_line }
+        Appends (K.taken sink.old) (K.taken sink.new) said.too_long_line }
     ensures write_fault { result ≡ Status.WriteFault →
-        AppendsFront (K.taken sink.old) (K.taken sink.new) too_long_line }
+        AppendsFront (K.taken sink.old) (K.taken sink.new) said.too_long_line }
     ensures cause { result ≡ Status.WriteFault → Rose (K.faults sink.old) (K.faults sink.new) }
     ensures among { result ≢ Status.TooLong → result ≡ Status.WriteFault }
 {
-    match write_whole(sink, b"fault too-long 16777216\n") {
+    match write_whole(sink, too_long_line(16_777_216).as_slice()) {
         Ok(()) => Status::TooLong,
         Err(_) => Status::WriteFault,
     }

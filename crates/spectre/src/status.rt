@@ -3,7 +3,7 @@
 /// How a run ended. The variants are in the order of their codes, from 0 on.
 #[derive(Clone, Copy, Debug, PartialEq, Eq)]
 pub enum Status {
-    /// The input was read to its end, and all answers were written.
+    /// The input was read to its end, of a feed that is its frame `E`, and all answers were written.
     Done,
     /// The words are no command.
     Usage,

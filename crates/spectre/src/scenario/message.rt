@@ -2,7 +2,7 @@
 //! language's rules.
 
 ghost use Rattle.std.specs.Prelude.{◌≡◌, ◌==◌, ◌<◌, ◌≤◌, ℕ, [], length, drop, true, IfOk, IfSome};
-ghost use Rattle.std.specs.Bool.{OnFalse};
+ghost use Rattle.std.specs.Bool.{OnFalse, OnTrue};
 ghost use Rattle.std.specs.List.{list_all, list_any};
 ghost use Rattle.sp_model.specs.Graph.{has};
 ghost use Rattle.spectre.specs.Ends.{Fits};
@@ -70,7 +70,8 @@ fn has_name_bytes(word: &[u8]) -> bool
 /// Whether a word is a well-formed name.
 #[tactic(auto, unfolding(crate::specs::Scenario::is_name))]
 fn is_name(word: &[u8]) -> bool
-    ensures { result ≡ meant.is_name word.now }
+    ensures value { result ≡ meant.is_name word.now }
+    ensures short { OnTrue result (length word.now ≤ 32) }
 {
     1 <= word.len() && word.len() <= 32 && has_name_bytes(word) && !is_key_word(word)
 }

@@ -24,12 +24,13 @@ pub enum Why {
 }
 
 impl Why {
-    ghost use Rattle.std.specs.Prelude.{◌≡◌};
+    ghost use Rattle.std.specs.Prelude.{◌≡◌, ◌≤◌, length};
     ghost use Rattle.spectre.specs.Lines.{reason};
 
     /// The word of a reason in a fault line.
     pub fn text(&self) -> &'static [u8]
-        ensures { result.now ≡ reason self.now }
+        ensures word { result.now ≡ reason self.now }
+        ensures short { length result.now ≤ 7 }
     {
         match self {
             Why::Byte => b"byte",
