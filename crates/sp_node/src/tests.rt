@@ -1,7 +1,7 @@
 //! Messages and the lines that answer them, written down by hand, whole, and with each call of the
 //! sink failing in turn. The ids are SHA-256 by another program.
 
-ghost use Rattle.std.specs.Prelude.{◌≡◌, ◌≤◌, ◌<◌, false, IfOk};
+ghost use Rattle.std.specs.Prelude.{◌≡◌, false, IfOk};
 
 use crate::{Node, NodeFault};
 use sp_block::read_block;

@@ -1,6 +1,6 @@
 //! Lines against texts written out by hand, whole, in pieces and cut off.
 
-ghost use Rattle.std.specs.Prelude.{◌≡◌, ◌<◌, false, IfOk};
+ghost use Rattle.std.specs.Prelude.{◌<◌};
 
 use crate::{
     Ask, Line, Naming, answer_line, ask_line, full_line, kept_line, known_line, malformed_line,
@@ -200,52 +200,96 @@ fn other_lines(rt: HostRuntime) {
     same(&rt, line, "18446744073709551615");
 }
 
-/// An engine of a genesis block and one child of it, both without transactions.
-fn two_blocks(alloc: Global, genesis: &BlockId) -> Result<Engine, Fail>
-    ensures { IfOk result (λ engine. engine.broken ≡ false) }
-{
-    let mut first = [0; 20];
-    first[0] = 1;
-    let mut second = [0; 52];
-    second[0] = 1;
-    second[17] = 1;
-    second[18..50].copy_from_slice(genesis.as_bytes());
-    let mut engine = Engine::new(alloc, read_block(alloc, &first, true)?, 0)?;
-    let _ = engine.offer(&second)?;
-    Ok(engine)
+/// The smallest genesis block.
+const GENESIS: [u8; 20] = [1, 0, 0, 0, 0, 0, 0, 0, 0, 0, 0, 0, 0, 0, 0, 0, 0, 0, 0, 0];
+
+/// Its id.
+const GENESIS_ID: &str = "21fc3f955c14305ed66b2f6064de082e8447f29048da3ab7c5c01090c1b722ab";
+
+/// The block of salt 1 on it.
+const CHILD: [u8; 52] = [
+    1, 1, 0, 0, 0, 0, 0, 0, 0, 0, 0, 0, 0, 0, 0, 0, 0, 1, 0x21, 0xfc, 0x3f, 0x95, 0x5c, 0x14, 0x30,
+    0x5e, 0xd6, 0x6b, 0x2f, 0x60, 0x64, 0xde, 0x08, 0x2e, 0x84, 0x47, 0xf2, 0x90, 0x48, 0xda, 0x3a,
+    0xb7, 0xc5, 0xc0, 0x10, 0x90, 0xc1, 0xb7, 0x22, 0xab, 0, 0,
+];
+
+/// Its id.
+const CHILD_ID: &str = "ebc352d52d8a2d8f607bc82f6edc468679599eb0e8a8429d88c82e4cffb62854";
+
+/// An id of no block.
+const NOBODY: &str = "0000000000000000000000000000000000000000000000000000000000000000";
+
+/// The ids of two blocks, and the line of what is said of them.
+#[derive(Clone, Copy)]
+struct Said(&'static str, &'static str, &'static str);
+
+const QUESTIONS: [Said; 4] = [
+    Said(
+        GENESIS_ID,
+        CHILD_ID,
+        "vote 21fc3f955c14305ed66b2f6064de082e8447f29048da3ab7c5c01090c1b722ab \
+         ebc352d52d8a2d8f607bc82f6edc468679599eb0e8a8429d88c82e4cffb62854 before\n",
+    ),
+    Said(
+        CHILD_ID,
+        GENESIS_ID,
+        "vote ebc352d52d8a2d8f607bc82f6edc468679599eb0e8a8429d88c82e4cffb62854 \
+         21fc3f955c14305ed66b2f6064de082e8447f29048da3ab7c5c01090c1b722ab after\n",
+    ),
+    Said(
+        CHILD_ID,
+        CHILD_ID,
+        "vote ebc352d52d8a2d8f607bc82f6edc468679599eb0e8a8429d88c82e4cffb62854 \
+         ebc352d52d8a2d8f607bc82f6edc468679599eb0e8a8429d88c82e4cffb62854 same\n",
+    ),
+    Said(
+        NOBODY,
+        GENESIS_ID,
+        "vote 0000000000000000000000000000000000000000000000000000000000000000 \
+         21fc3f955c14305ed66b2f6064de082e8447f29048da3ab7c5c01090c1b722ab absent\n",
+    ),
+];
+
+fn read_id(text: &str) -> Result<BlockId, Fail> {
+    Ok(BlockId::from_hex(text.as_bytes()).ok().ok_or("no id")?)
 }
 
-fn read_id(text: &[u8]) -> Result<BlockId, Fail> {
-    Ok(BlockId::from_hex(text).ok().ok_or("no id")?)
+/// Written byte by byte, and with each call failing in turn.
+fn all_asked(
+    rt: &impl Abort,
+    alloc: Global,
+    engine: &Engine,
+    ask: &Ask,
+    text: &str,
+) -> Result<(), Fail> {
+    assert!(rt; !engine.broken());
+    let mut whole = sink(alloc, 1, Fails::Never)?;
+    assert_eq!(rt; ask_line(engine, ask, &Naming::Hex, &mut whole), Ok(()));
+    assert_eq!(rt; whole.bytes(), text.as_bytes());
+    let mut call = 0u32;
+    for place in 0..text.len() {
+        let calls = Calls::of(Vec::from_slice(alloc, &[call])?);
+        let mut cut = sink(alloc, 1, Fails::At(calls))?;
+        assert_eq!(rt; ask_line(engine, ask, &Naming::Hex, &mut cut), Err(Failed));
+        assert_eq!(rt; cut.bytes(), &text.as_bytes()[..place]);
+        call = call.saturating_add(1);
+    }
+    Ok(())
+}
+
+fn engine(alloc: Global) -> Result<Engine, Fail> {
+    let genesis = read_block(alloc, &GENESIS, true)?;
+    let mut engine = Engine::new(alloc, genesis, 0)?;
+    let _answer = engine.offer(&CHILD)?;
+    Ok(engine)
 }
 
 #[test]
 fn questions(rt: HostRuntime) -> Result<(), Fail> {
-    // The SHA-256 of both blocks.
-    let genesis = read_id(b"21fc3f955c14305ed66b2f6064de082e8447f29048da3ab7c5c01090c1b722ab")?;
-    let child = read_id(b"7b6152704e229398dfe1409648af9d6414fb7b2685467d0eaf9b008c9b1747af")?;
-    let engine = two_blocks(rt.alloc(), &genesis)?;
-    for (ask, text) in [
-        (
-            Ask::Vote(genesis, child),
-            "vote 21fc3f955c14305ed66b2f6064de082e8447f29048da3ab7c5c01090c1b722ab 7b6152704e229398dfe1409648af9d6414fb7b2685467d0eaf9b008c9b1747af before\n",
-        ),
-        (
-            Ask::Vote(child, genesis),
-            "vote 7b6152704e229398dfe1409648af9d6414fb7b2685467d0eaf9b008c9b1747af 21fc3f955c14305ed66b2f6064de082e8447f29048da3ab7c5c01090c1b722ab after\n",
-        ),
-        (
-            Ask::Vote(child, child),
-            "vote 7b6152704e229398dfe1409648af9d6414fb7b2685467d0eaf9b008c9b1747af 7b6152704e229398dfe1409648af9d6414fb7b2685467d0eaf9b008c9b1747af same\n",
-        ),
-        (
-            Ask::Vote(genesis, id()),
-            "vote 21fc3f955c14305ed66b2f6064de082e8447f29048da3ab7c5c01090c1b722ab 00112233445566778899aabbccddeeff0f1e2d3c4b5a69788796a5b4c3d2e1f0 absent\n",
-        ),
-    ] {
-        let mut sink = sink(rt.alloc(), 192, Fails::Never)?;
-        assert_eq!(rt; ask_line(&engine, &ask, &Naming::Hex, &mut sink), Ok(()));
-        assert_eq!(rt; sink.bytes(), text.as_bytes());
+    let engine = engine(rt.alloc())?;
+    for Said(x, y, text) in QUESTIONS {
+        let ask = Ask::Vote(read_id(x)?, read_id(y)?);
+        all_asked(&rt, rt.alloc(), &engine, &ask, text)?;
     }
     Ok(())
 }
