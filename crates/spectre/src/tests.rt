@@ -4,8 +4,11 @@
 
 mod answered;
 mod faults;
+mod feed_bytes;
+mod feeds;
 mod lengths;
 mod lines;
+mod orders;
 mod pieces;
 mod shapes;
 mod words;
