@@ -16,3 +16,6 @@ mod words;
 
 pub use answer::{Answer, Refusal};
 pub use engine::Engine;
+
+#[cfg(test)]
+mod tests;
