@@ -178,8 +178,8 @@ pub fn put_question(out: &mut Vec<u8>, x: u8, y: u8) -> Result<(), Fail> {
     put_id(out, y)
 }
 
-/// The frame of a message: the name of a block sends it, followed by `+` with a byte more; two names
-/// ask about the two; and `*` sends one byte more than a frame of a block may have in a valid block.
+/// The frame of a message. The name of a block sends it, with a byte more where `+` follows; two
+/// names ask about the two; and `*` sends 65,537 bytes, one more than a block may have.
 fn put_message(alloc: Global, out: &mut Vec<u8>, message: &[u8]) -> Result<(), Fail> {
     match message {
         [b'*'] => {

@@ -262,7 +262,7 @@ fn failing_reads(rt: HostRuntime) -> Result<(), Fail> {
     read_fails(&rt, alloc, 222, Status::Done)
 }
 
-/// The front of this length of what the feed is answered, with the line of a fault behind it.
+/// The front of this length of what is written.
 fn front(alloc: Global, output: &[u8], length: u32) -> Result<Vec<u8>, Fail> {
     let mut out = in_full(alloc, output)?;
     out.truncate(usize::try_from(length)?);
@@ -302,11 +302,11 @@ fn failing_writes(rt: HostRuntime) -> Result<(), Fail> {
     Ok(())
 }
 
-/// The line of a fault has 20 bytes behind one of 80.
+/// The line of a fault has 19 bytes, behind one of 80.
 #[test]
 fn failing_writes_of_a_fault(rt: HostRuntime) -> Result<(), Fail> {
     let alloc = rt.alloc();
-    for call in 0..101u32 {
+    for call in 0..100u32 {
         let feed = opened(alloc, 0, b"A\n")?;
         let output = b"kept A present 1\nfault truncated 91\n";
         let status = write_fails(&rt, alloc, feed, call, output)?;

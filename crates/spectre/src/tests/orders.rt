@@ -13,7 +13,8 @@ use std::test::Fail;
 /// Parents first.
 const NAMES: [u8; 12] = *b"ABIJKLMOPCDH";
 
-/// The answer to each of them and each of them, in this order.
+/// The answer to each of them and each of them, in this order, by another program from the rules of
+/// votes.
 const WORDS: [&[u8]; 12] = [
     b"same before tie before before before before before before before before before",
     b"after same before before before before before before before before before before",
@@ -149,13 +150,17 @@ fn two_chains(alloc: Global, count: u8) -> Result<(Vec<u8>, Vec<u8>), Fail> {
     Ok((feed, answers))
 }
 
-#[test]
-fn forty_blocks(rt: HostRuntime) -> Result<(), Fail> {
-    let alloc = rt.alloc();
-    let (feed, answers) = two_chains(alloc, 40)?;
+fn answers_many(rt: &impl Abort, alloc: Global, count: u8) -> Result<(), Fail> {
+    let (feed, answers) = two_chains(alloc, count)?;
     let source = MemSource::new(feed, 4096, Fails::Never);
     let ended = ran(alloc, b"replay", source, wide_sink(alloc)?)?;
     assert_eq!(rt; ended.status, Status::Done);
-    assert!(rt; ended.sink.bytes() == answers.as_slice());
+    assert!(rt; ended.sink.bytes() == answers.as_slice(), "{count} blocks");
     Ok(())
+}
+
+#[test]
+fn many_blocks(rt: HostRuntime) -> Result<(), Fail> {
+    answers_many(&rt, rt.alloc(), 40)?;
+    answers_many(&rt, rt.alloc(), 60)
 }

@@ -7,8 +7,8 @@ use std::alloc::Global;
 use std::process::Abort;
 use std::test::Fail;
 
-/// Words that are not the one word of the command, each ended by a line end.
-const NO_COMMAND: [&[u8]; 14] = [
+/// Words that are not the one word of a command, each ended by a line end.
+const NO_COMMAND: [&[u8]; 18] = [
     b"",
     b"\n",
     b"play\nplay\n",
@@ -21,6 +21,10 @@ const NO_COMMAND: [&[u8]; 14] = [
     b"play \n",
     b"--help\n",
     b"replays\n",
+    b"repla\n",
+    b"Replay\n",
+    b"replay\nreplay\n",
+    b"play\nreplay\n",
     b"node\nf\n",
     b"--\nplay\n",
 ];
