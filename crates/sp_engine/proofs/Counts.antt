@@ -5,7 +5,7 @@ use Rattle.std.specs.List.{list_all}
 use Rattle.std.proofs.lemmas.Bool.{eq-eqb, false≢true, ne_eqb, not_from_false, or_left, or_right}
 use Rattle.sp_block.specs.Block.{ReadBlock}
 use Rattle.sp_model.specs.Graph.{AreDistinct, complete, Graph, has, keys, parents_of, rounds}
-use Rattle.sp_model.proofs.Match.{distinct_filter}
+use Rattle.sp_model.proofs.Distinct.{complete_distinct}
 use Rattle.sp_model.proofs.Sets.{has-filter_from}
 use Rattle.sp_pool.specs.Kept.{AreApart, graph_of, present}
 use Rattle.sp_pool.proofs.Parents.{keys-graph_of}
@@ -50,22 +50,10 @@ same_length xs ys apart apart_too same =
     let down : length ys ≤ length xs = distinct_within ys xs apart_too (λ z there. same z ∙ there) in
     omega arith
 
--- a filter repeats no number
-pub AreDistinct-filter : (p : ℕ → Bool) (xs : List ℕ) → AreDistinct xs → AreDistinct (filter p xs)
-AreDistinct-filter = distinct_filter
-
-AreDistinct-complete : (graph : Graph) → AreDistinct (keys graph) → AreDistinct (complete graph)
-unfolding complete rounds
-AreDistinct-complete graph apart = in_round (length graph.blocks)
-  where
-    in_round : (k : ℕ) → AreDistinct (rounds k graph)
-    in_round zero = tt
-    in_round (suc k) = distinct_filter (λ z. list_all (λ parent. has (rounds k graph) parent) (parents_of graph z)) (keys graph) apart
-
 -- no id of a present block repeats, where no two kept blocks have the same one
 pub AreDistinct-present : (kept : List ReadBlock) → AreApart kept → AreDistinct (present kept)
 AreDistinct-present kept apart =
-    AreDistinct-complete (graph_of kept) (subst (λ (ids : List ℕ). AreDistinct ids) (sym (keys-graph_of kept)) apart)
+    complete_distinct (graph_of kept) (subst (λ (ids : List ℕ). AreDistinct ids) (sym (keys-graph_of kept)) apart)
 
 -- so a list of the present blocks, none twice, is as long as there are present blocks
 pub present_counts : (kept : List ReadBlock) (ids : List ℕ) → AreApart kept → AreDistinct ids → ((id : ℕ) → has ids id ≡ has (present kept) id) → length (present kept) ≡ length ids

@@ -5,6 +5,7 @@ pub mod Paths
 pub mod Reaching
 pub mod Recursion
 pub mod Match
+pub mod Distinct
 pub mod Signs
 pub mod Exchange
 pub mod Ancestors

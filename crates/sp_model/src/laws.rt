@@ -43,6 +43,22 @@ pub fn past_of_any_block()
         IsTrue (reaches_within steps graph a z) → IsTrue (in_past graph a z) }
 {}
 
+/// The complete blocks are a downset, and so is the past of each of them, so that the laws of
+/// downsets speak of both. Where no key repeats in the graph, none repeats in them, nor in the
+/// future of a block in such a set: a sum over one of these counts each voter once.
+#[tactic(auto, using(crate::proofs::Pasts::complete_downset, crate::proofs::Pasts::past_downset, crate::proofs::Distinct::complete_distinct, crate::proofs::Distinct::past_distinct, crate::proofs::Distinct::future_distinct))]
+pub fn downsets()
+    ensures complete { (graph : Graph) → IsDownset graph (complete graph) }
+    ensures past { (graph : Graph) (z : ℕ) → IsTrue (has (complete graph) z) →
+        IsDownset graph (past graph z) }
+    ensures complete_once { (graph : Graph) → AreDistinct (keys graph) →
+        AreDistinct (complete graph) }
+    ensures past_once { (graph : Graph) (z : ℕ) → AreDistinct (keys graph) →
+        AreDistinct (past graph z) }
+    ensures future_once { (graph : Graph) (set : List ℕ) (z : ℕ) → AreDistinct set →
+        AreDistinct (future graph set z) }
+{}
+
 /// The vote of a member of a downset is given by the first case that applies, with no bound on how
 /// deep the recursion goes.
 #[tactic(auto, using(crate::proofs::Recursion::vote_is))]
