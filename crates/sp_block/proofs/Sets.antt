@@ -14,11 +14,12 @@ use Rattle.std.proofs.lemmas.List.Folds.{list_any-append}
 use Rattle.sp_form.specs.Form.{first_broken}
 use Rattle.sp_ids.specs.declared.outpoint.Outpoint.{Outpoint}
 use Rattle.sp_tx.specs.declared.parts.Input.{Input}
-use Rattle.sp_tx.specs.Parts.{outpoint_cmp, Transaction}
+use Rattle.sp_ids.specs.Outpoints.{outpoint_cmp, same_outpoint}
+use Rattle.sp_tx.specs.Parts.{Transaction}
 use Rattle.sp_tx.specs.Spending.{id_of}
 use Rattle.sp_block.specs.declared.fault.BlockFault.TheVariants.{SameTx, SameOutpoint}
 use Rattle.sp_block.specs.declared.seen.Seen.{Seen}
-use Rattle.sp_block.specs.Format.{carried_rules, fits_kind, has_known_id, outpoints, same_outpoint, shares_outpoint, with_one}
+use Rattle.sp_block.specs.Format.{carried_rules, fits_kind, has_known_id, outpoints, shares_outpoint, with_one}
 use Rattle.sp_block.specs.Seen.{HasOutpoints, is_any_spent, Saw}
 
 -- ---- look-ups

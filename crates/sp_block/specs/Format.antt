@@ -6,6 +6,7 @@ use Rattle.std.specs.List.{flat_map, list_any}
 use Rattle.sp_form.specs.Form.{Form, whole, ◌>>=◌, rows, Rule, rule, told}
 use Rattle.sp_form.specs.Values.{byte, judged, value_form}
 use Rattle.sp_ids.specs.Key.{number_of}
+use Rattle.sp_ids.specs.Outpoints.{same_outpoint}
 use Rattle.sp_ids.specs.declared.outpoint.Outpoint.{Outpoint}
 use Rattle.sp_tx.specs.Format.{tx_form}
 use Rattle.sp_tx.specs.Parts.{Transaction}
@@ -62,9 +63,6 @@ fits_kind genesis t = if genesis then length t.inputs == 0 else nat_le 1 (length
 -- its id is one of theirs
 abbrev pub has_known_id : List Transaction → Transaction → Bool
 has_known_id earlier t = list_any (λ id. id_of t == id) (map id_of earlier)
-
-abbrev pub same_outpoint : Outpoint → Outpoint → Bool
-same_outpoint a b = a.tx == b.tx && a.index == b.index
 
 abbrev pub outpoints : Transaction → List Outpoint
 outpoints t = map (λ input. input.from) t.inputs

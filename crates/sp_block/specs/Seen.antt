@@ -4,11 +4,12 @@ use Rattle.std.specs.BTreeSet.{BTreeSet, contains}
 use Rattle.std.specs.List.{flat_map, list_any}
 use Rattle.std.specs.Ordering.{nat_cmp}
 use Rattle.sp_ids.specs.declared.outpoint.Outpoint.{Outpoint}
-use Rattle.sp_tx.specs.Parts.{outpoint_cmp, Transaction}
+use Rattle.sp_ids.specs.Outpoints.{outpoint_cmp, same_outpoint}
+use Rattle.sp_tx.specs.Parts.{Transaction}
 use Rattle.sp_tx.specs.Spending.{id_of}
 use Rattle.sp_block.specs.declared.fault.BlockFault.{BlockFault}
 use Rattle.sp_block.specs.declared.seen.Seen.{Seen}
-use Rattle.sp_block.specs.Format.{outpoints, same_outpoint}
+use Rattle.sp_block.specs.Format.{outpoints}
 
 -- the set has the ids of the list, and no others
 abbrev pub HasIds : BTreeSet ℕ → List ℕ → Type 0

@@ -3,3 +3,4 @@ pub mod Digits
 pub mod Digest
 pub mod Bits
 pub mod Hex
+pub mod Outpoints

@@ -19,7 +19,8 @@ use Rattle.sp_tx.specs.declared.parts.Input.{Input}
 use Rattle.sp_tx.specs.declared.parts.Output.{Output}
 use Rattle.sp_tx.specs.declared.fault.TxFault.{TxFault}
 use Rattle.sp_tx.specs.Format.{tx_form}
-use Rattle.sp_tx.specs.Parts.{of_parts, outpoint_cmp, Transaction}
+use Rattle.sp_ids.specs.Outpoints.{outpoint_cmp}
+use Rattle.sp_tx.specs.Parts.{of_parts, Transaction}
 use Rattle.sp_tx.specs.Sorting.{IsSortOf}
 use Rattle.sp_tx.specs.Spelling.{HasPartsFault, HasTxFault, IsMadeOf, IsTx, spelling}
 use Rattle.sp_tx.proofs.Spelled.{tx_spelled}

@@ -1,7 +1,7 @@
--- A transaction without where it lies in memory, and the order of outpoints.
+-- A transaction without where it lies in memory, and the rule of the order of its inputs.
 use Rattle.std.specs.Prelude.{Bool, true, List, Option, Some, None}
-use Rattle.std.specs.Ordering.{nat_cmp, ordering_then, is_lt}
-use Rattle.std.specs.declared.cmp.Ordering.{Ordering}
+use Rattle.std.specs.Ordering.{is_lt}
+use Rattle.sp_ids.specs.Outpoints.{outpoint_cmp}
 use Rattle.sp_ids.specs.declared.outpoint.Outpoint.{Outpoint}
 use Rattle.sp_tx.specs.declared.parts.Input.{Input}
 use Rattle.sp_tx.specs.declared.parts.Output.{Output}
@@ -12,11 +12,6 @@ pub record Transaction : Type 0 where
 
 abbrev pub of_parts : List Input → List Output → Transaction
 of_parts inputs outputs = record { inputs = inputs; outputs = outputs }
-
--- Outpoints are compared by the id, then by the index. The order of ids is that of their bytes, since an id
--- is the number of its bytes, the first one the highest.
-abbrev pub outpoint_cmp : Outpoint → Outpoint → Ordering
-outpoint_cmp a b = ordering_then (nat_cmp a.tx b.tx) (nat_cmp a.index b.index)
 
 -- strictly above the one before, where there is one
 abbrev pub is_next : Option Outpoint → Outpoint → Bool
