@@ -1,7 +1,7 @@
 //! Drafts of blocks: their bytes, and the search for a nonce that meets the work. They stand apart
 //! from blocks because a draft has no id yet, and may break the rules of the format.
 
-ghost use Rattle.std.specs.Prelude.{◌≡◌, ◌≤◌, ◌∷◌, ◌++◌, Bool, IfOk, OnOk, drop, length, take, vec_len};
+ghost use Rattle.std.specs.Prelude.{◌≡◌, ◌≤◌, ◌∷◌, ◌++◌, Bool, ℕ, IfOk, OnOk, drop, length, take, vec_len};
 ghost use Rattle.std.specs.Int.{w16, w64, to_le_bytes};
 ghost use Rattle.std.specs.List.{flat_map};
 ghost use Rattle.sp_ids.specs.Key.{bytes_of};
@@ -12,7 +12,7 @@ ghost use Rattle.sp_block.specs.Spelling.{IsSpellable, SpellsBlock};
 
 use crate::list::Parents;
 use sp_ids::{BlockId, Memory};
-use sp_tx::{Tx, Txs, write_tx};
+use sp_tx::{Tx, Txs, write_tx, written_len};
 use std::alloc::{AllocError, Global};
 
 /// What a block is made of before its nonce is found. Its bytes are those of a `Block`, the nonce
@@ -70,13 +70,37 @@ fn put_txs(out: &mut Vec<u8>, txs: &[Tx]) -> Result<(), Memory>
     Ok(())
 }
 
+// How many bytes the transactions have.
+fn txs_len(txs: &[Tx]) -> usize
+    requires { length txs.now ≤ 256 }
+    ensures len { result ≡ length (flat_map spelling txs.now) }
+    ensures bound { result ≤ 565760 }
+{
+    let mut len = 0;
+    'txs: for tx in txs {
+        len += written_len(tx);
+    }
+    len
+}
+
+// How many bytes a draft has, whatever its nonce.
+fn draft_len(draft: &Draft) -> usize
+    requires few_parents { length draft.now.parents ≤ 64 }
+    requires few_txs { length draft.now.txs ≤ 256 }
+    ensures { (nonce : ℕ) → result ≡ length (draft_text draft.now nonce) }
+{
+    20 + 32 * draft.parents.as_slice().len() + txs_len(draft.txs.as_slice())
+}
+
+// The bytes are counted first and room is made for just so many, so nothing grows while they are
+// written.
 fn bytes_of_draft(alloc: Global, draft: &Draft, nonce: u64) -> Result<Vec<u8>, Memory>
     requires few_parents { length draft.now.parents ≤ 64 }
     requires few_txs { length draft.now.txs ≤ 256 }
     ensures { IfOk result (λ out. out.items ≡ draft_text draft.now nonce) }
 {
     let parents = sorted(alloc, draft.parents.as_slice())?;
-    let mut out = Vec::new(alloc);
+    let mut out = Vec::with_capacity(alloc, draft_len(draft))?;
     put_head(&mut out, draft.salt, nonce)?;
     put_parents(&mut out, &parents)?;
     put_txs(&mut out, draft.txs.as_slice())?;

@@ -1,4 +1,3 @@
-pub mod Fronts
 pub mod Spelled
 pub mod Judged
 pub mod Whole

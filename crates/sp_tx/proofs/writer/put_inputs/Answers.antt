@@ -1,8 +1,7 @@
-use Rattle.std.proofs.Common.{◌∷◌, length, take}
-use Rattle.std.specs.List.{flat_map}
+use Rattle.std.proofs.Common.{arith}
 use Rattle.sp_tx.specs.Spelling.{input_text}
-use Rattle.sp_tx.proofs.Fronts.{front_kept}
+use Rattle.sp_tx.proofs.Lengths.{next_within}
 use Rattle.sp_tx.proofs.writer.put_inputs.Goals as goal
 
-pub returns-in_err-put_input-clause-kept : goal.returns-in_err-put_input-clause-kept
-returns-in_err-put_input-clause-kept c = front_kept c.args.out.now.items (length c.args.inputs.now ∷ flat_map input_text (take c.inputs.input-index c.args.inputs.now)) c.put_input.new.out.items (rw (← c.inputs.invariant) c.in_err-put_input.ensures.kept)
+pub put_input-requires-clause-room : goal.put_input-requires-clause-room
+put_input-requires-clause-room c = omega (arith, c.inputs.invariant.len, c.inputs.invariant.room, c.requires.room, next_within input_text c.args.inputs.now c.inputs.input-index c.input-item.result c.inputs-test.true c.input-item.is)
