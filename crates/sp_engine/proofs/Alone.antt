@@ -23,7 +23,7 @@ no_parents_alone g id none = at (eqb g.id id)
     at true = none
     at false = refl
 
-order_alone : (g : ReadBlock) → g.parents ≡ [] → order_of (g ∷ []) ≡ g.id ∷ []
+pub order_alone : (g : ReadBlock) → g.parents ≡ [] → order_of (g ∷ []) ≡ g.id ∷ []
 unfolding order_from joining
 order_alone g none = rw none refl
 

@@ -10,3 +10,4 @@ pub mod Arriving
 pub mod Judged
 pub mod Alone
 pub mod Judgements
+pub mod Answered

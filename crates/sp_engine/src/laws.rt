@@ -1,9 +1,15 @@
 //! Laws of arrivals, over the definitions alone. Each is the contract of a function that does
 //! nothing, so that the check proves it.
 
+ghost use Rattle.std.specs.Prelude.{◌≡◌, ◌∷◌, [], List};
+ghost use Rattle.sp_block.specs.Block.{ReadBlock};
+ghost use Rattle.sp_pool.specs.Kept.{kept_of};
+ghost use Rattle.sp_pool.specs.Offers.{AreAnswers, order_of_presence};
+ghost use Rattle.sp_pool.specs.declared.answers.Offer.{Offer};
 ghost use Rattle.sp_engine.specs.Arrivals.{KeptAreOfArrivals, NoOthersAreKept};
 ghost use Rattle.sp_engine.specs.Blocks.{BlockIsSpelled, BlockIsWhole, FaultIsFirst, WorkIsMet};
 ghost use Rattle.sp_engine.specs.Causes.{FullIsCaused, HeldIsCaused, KeptIsCaused, KnownIsCaused, SpellingIsCaused, WorkIsCaused};
+ghost use Rattle.sp_engine.specs.Presence.{order_of};
 
 /// What a list of bytes is as a block, by the function that arrivals are judged with, is what it
 /// spells, or else its first fault.
@@ -35,4 +41,13 @@ pub fn causes()
     ensures full { FullIsCaused }
     ensures held { HeldIsCaused }
     ensures kept { KeptIsCaused }
+{}
+
+/// The order of presence, which the engine takes from the kept blocks alone, is the one that the
+/// pool's answers tell: genesis, and then what each arrival released, in that order.
+#[tactic(auto, using(crate::proofs::Answered::order_answered))]
+pub fn order_is_as_released()
+    ensures { (genesis : ReadBlock) (arrivals : List ReadBlock) (answers : List Offer) →
+        genesis.parents ≡ [] → AreAnswers (genesis ∷ []) arrivals answers →
+        order_of (kept_of genesis arrivals) ≡ order_of_presence genesis answers }
 {}

@@ -53,7 +53,7 @@ AreDistinct-push (y ∷ ys) x apart fresh =
     both true d h e = h
     both false d h e = e
 
-AreApart-push : (kept : List ReadBlock) (b : ReadBlock) → AreApart kept → has (ids_of kept) b.id ≡ false → AreApart (kept ++ b ∷ [])
+pub AreApart-push : (kept : List ReadBlock) (b : ReadBlock) → AreApart kept → has (ids_of kept) b.id ≡ false → AreApart (kept ++ b ∷ [])
 AreApart-push kept b apart fresh =
     subst (λ (ids : List ℕ). AreDistinct ids) (sym (map-append (λ (x : ReadBlock). x.id) kept (b ∷ []))) (AreDistinct-push (ids_of kept) b.id apart fresh)
 
