@@ -1,4 +1,5 @@
--- A place is among those where a test passes exactly if it passes there.
+-- A place is among those where a test passes exactly if it passes there. This is proof, which stands here since the
+-- model of a row cites it.
 use Rattle.std.proofs.Common.{◌≡◌, ℕ, zero, suc, ◌+◌, ◌<◌, ◌≤◌, Bool, true, false, cond, ◌||◌, ◌&&◌, List, [], ◌∷◌, refl, sym, ap, ◌∙◌, inl, inr, eqb, arith}
 use Rattle.std.specs.Prelude.{filter}
 use Rattle.std.specs.List.{range_with_len}

@@ -1,4 +1,4 @@
--- Truth values by place, and the set that they stand for.
+-- Truth values by place, and the set that they stand for, as a row holds it. No public contract cites them.
 use Rattle.std.specs.Prelude.{ℕ, ◌≡◌, ◌<◌, Bool, true, false, List, length, map, slice_index_or}
 use Rattle.std.specs.List.{range_with_len}
 use Rattle.std.proofs.Common.{get_or, sym, ◌∙◌, arith}

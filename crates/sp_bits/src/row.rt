@@ -8,7 +8,8 @@ ghost use Rattle.sp_bits.specs.Places.{has, places_where, union, meet, differenc
 use crate::truths::{count_both, implies, last_before};
 use std::marker::Model;
 
-/// A set of places below 512. Contracts see the ascending list of them. A copy takes no memory.
+/// A set of places below 512. Contracts see the ascending list of them. It has one size,
+/// whatever its places.
 #[derive(Clone, Copy)]
 pub struct Row {
     places: [bool; 512],
@@ -40,7 +41,7 @@ impl Row {
         }
     }
 
-    /// Adds a place, at once.
+    /// Adds a place, in a bounded number of steps.
     pub fn set(&mut self, place: u16)
         requires { place < 512 }
         ensures { self.new ≡ places_where (λ p. has self.old p || (p == place)) }
@@ -48,7 +49,7 @@ impl Row {
         self.places[place as usize] = true;
     }
 
-    /// Takes a place out, at once.
+    /// Takes a place out, in a bounded number of steps.
     pub fn clear(&mut self, place: u16)
         requires { place < 512 }
         ensures { self.new ≡ places_where (λ p. has self.old p && not (p == place)) }
@@ -56,7 +57,7 @@ impl Row {
         self.places[place as usize] = false;
     }
 
-    /// Whether it has the place, at once. What a row is stands here too, for each caller: the
+    /// Whether it has the place, in a bounded number of steps. What a row is stands here too, for each caller: the
     /// list ascends, and each place of it is below 512.
     pub fn test(&self, place: u16) -> bool
         requires { place < 512 }
@@ -66,7 +67,7 @@ impl Row {
         self.places[place as usize]
     }
 
-    /// The union with another row, in one pass over the 512 places.
+    /// The union with another row, in about 512 steps.
     pub fn or_with(&mut self, other: &Row)
         ensures { self.new ≡ union self.old other.now }
     {
@@ -75,7 +76,7 @@ impl Row {
         }
     }
 
-    /// The meet with another row, in one pass over the 512 places.
+    /// The meet with another row, in about 512 steps.
     pub fn and_with(&mut self, other: &Row)
         ensures { self.new ≡ meet self.old other.now }
     {
@@ -84,7 +85,7 @@ impl Row {
         }
     }
 
-    /// Takes the places of another row out, in one pass over the 512 places.
+    /// Takes the places of another row out, in about 512 steps.
     pub fn without(&mut self, other: &Row)
         ensures { self.new ≡ difference self.old other.now }
     {
@@ -93,14 +94,14 @@ impl Row {
         }
     }
 
-    /// Whether the other row has each of its places, in one pass over them.
+    /// Whether the other row has each of its places, in about 512 steps.
     pub fn within(&self, other: &Row) -> bool
         ensures { result ≡ list_all (has other.now) self.now }
     {
         implies(&self.places, &other.places)
     }
 
-    /// How many places it has, from 0 to 512, in one pass over them. What a row is stands here
+    /// How many places it has, from 0 to 512, in about 512 steps. What a row is stands here
     /// too, for each caller: the list ascends, and each place of it is below 512.
     pub fn count(&self) -> u32
         ensures value { result ≡ length self.now }
@@ -110,7 +111,7 @@ impl Row {
         count_both(&self.places, &self.places)
     }
 
-    /// How many places both rows have, from 0 to 512, in one pass over them.
+    /// How many places both rows have, from 0 to 512, in about 512 steps.
     pub fn count_and(&self, other: &Row) -> u32
         ensures value { result ≡ length (meet self.now other.now) }
         ensures bound { result ≤ 512 }
@@ -119,7 +120,7 @@ impl Row {
     }
 
     /// How many places it shares with `plus`, less how many it shares with `minus`: from -512 to
-    /// 512, in two passes over the places.
+    /// 512, in about 1,024 steps.
     pub fn balance(&self, plus: &Row, minus: &Row) -> i32
         ensures { result ≡
             pos (length (meet self.now plus.now)) -ℤ pos (length (meet self.now minus.now)) }
@@ -127,7 +128,7 @@ impl Row {
         self.count_and(plus) as i32 - self.count_and(minus) as i32
     }
 
-    /// Its greatest place, in one pass over the places from the last one down.
+    /// Its greatest place, in about 512 steps at most.
     pub fn highest(&self) -> Option<u16>
         ensures some { IfSome result (IsGreatest self.now) }
         ensures none { IsNone result ↔ (self.now ≡ []) }
@@ -136,7 +137,7 @@ impl Row {
         last_before(&self.places, 512)
     }
 
-    /// Its greatest place below this one, in one pass over the places from there down.
+    /// Its greatest place below this one, in about so many steps at most.
     pub fn highest_below(&self, place: u16) -> Option<u16>
         requires { place < 512 }
         ensures some { IfSome result (IsGreatest (members_below self.now place)) }

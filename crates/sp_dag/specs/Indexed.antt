@@ -1,4 +1,4 @@
--- Where each pair stands in the list of pairs.
+-- Where each pair stands in the list of pairs, for the contracts of private functions alone.
 use Rattle.std.specs.Prelude.{ℕ, ◌≡◌, ◌<◌, ◌≤◌, true, List, [], length, Option, Some, None, slice_get, slice_index_or}
 use Rattle.sp_bits.specs.Places.{has}
 

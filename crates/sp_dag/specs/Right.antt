@@ -1,4 +1,4 @@
--- What a table of blocks keeps beside their parents.
+-- What a table of blocks keeps beside their parents: an invariant, which no public contract cites.
 use Rattle.std.specs.Prelude.{ℕ, ◌≡◌, ◌<◌, ◌≤◌, ◌+◌, ◌*◌, true, List, [], length, Option, None, slice_index_or}
 use Rattle.sp_model.specs.Graph.{in_past}
 use Rattle.sp_bits.specs.Places.{places_where}

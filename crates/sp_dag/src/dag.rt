@@ -47,9 +47,8 @@ impl Dag {
         Ok(Dag { alloc, ids, table })
     }
 
-    /// Adds a block whose parents are all there, and answers its number. The time is that of one
-    /// row for each parent, and one step for each block before it; the memory is one row more for
-    /// its past and one for its future, and what its pairs take.
+    /// Adds a block whose parents are all there, and answers its number. It takes time in
+    /// proportion to its parents and to the blocks before it.
     ///
     /// # Errors
     ///
@@ -82,7 +81,7 @@ impl Dag {
         self.table.len()
     }
 
-    /// The number of the block with this id, by one look-up.
+    /// The number of the block with this id, in about the time of a look-up by hash.
     pub fn number(&self, id: &BlockId) -> Option<u16>
         ensures value { result ≡ position (nat_eq id.now) self.now.ids }
         ensures found { IfSome result (λ n. slice_get self.now.ids n ≡ Some id.now) }
@@ -95,7 +94,7 @@ impl Dag {
         }
     }
 
-    /// The id of a block, at once.
+    /// The id of a block, in a bounded number of steps.
     pub fn id(&self, n: u16) -> BlockId
         requires { n < length self.now.parents }
         ensures { slice_get self.now.ids n ≡ Some result }
@@ -121,7 +120,7 @@ impl Dag {
         self.table.future(n)
     }
 
-    /// Whether a is in the past of b, at once.
+    /// Whether a is in the past of b, in a bounded number of steps.
     pub fn in_past(&self, a: u16, b: u16) -> bool
         requires a_in { a < length self.now.parents }
         requires b_in { b < length self.now.parents }
@@ -130,7 +129,7 @@ impl Dag {
         self.table.in_past(a, b)
     }
 
-    /// How many pairs of blocks are unrelated, from 0 to 130,816, at once.
+    /// How many pairs of blocks are unrelated, from 0 to 130,816, in a bounded number of steps.
     pub fn pair_count(&self) -> u32
         ensures value { result ≡ length (pairs_of self.now.parents) }
         ensures bound { result ≤ 130816 }
@@ -138,7 +137,7 @@ impl Dag {
         self.table.pair_count()
     }
 
-    /// An unrelated pair, the lower number first, at once. Pairs stand by their higher number, and
+    /// An unrelated pair, the lower number first, in a bounded number of steps. Pairs stand by their higher number, and
     /// then by their lower one, so those of a new block come behind all others.
     pub fn pair(&self, i: u32) -> (u16, u16)
         requires { i < length (pairs_of self.now.parents) }
@@ -149,7 +148,7 @@ impl Dag {
     }
 
     /// Where the pair of two blocks stands among the unrelated pairs, in whichever order they are
-    /// given, by one look-up. There is none where they are related or the same.
+    /// given, in a bounded number of steps. There is none where they are related or the same.
     pub fn pair_of(&self, x: u16, y: u16) -> Option<u32>
         requires x_in { x < length self.now.parents }
         requires y_in { y < length self.now.parents }

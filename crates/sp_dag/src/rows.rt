@@ -7,7 +7,7 @@ ghost use Rattle.sp_dag.specs.Rows.{is_reached};
 
 use sp_bits::Row;
 
-// The row of the past of a block with these parents, in one pass over the places for each parent.
+// The row of the past of a block with these parents, in about 512 steps for each parent.
 pub(crate) fn row_of(pasts: &[Row], parents: &[u16]) -> Row
     requires small { length pasts.now ≤ 512 }
     requires within { All (λ p. p < length pasts.now) parents.now }

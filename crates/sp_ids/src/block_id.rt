@@ -37,7 +37,8 @@ impl Model for BlockId {
 }
 
 impl BlockId {
-    /// The id of the block with these bytes. The time is that of one pass over them.
+    /// The id of the block with these bytes. It takes time in proportion to
+    /// them.
     pub fn of(bytes: &[u8]) -> BlockId
         ensures { result ≡ sha256_number bytes.now }
     {
@@ -60,15 +61,16 @@ impl BlockId {
         &self.0
     }
 
-    /// Writes it as 64 lower case digits, two for each byte, the first byte first. Constant time.
+    /// Writes it as 64 lower case digits, two for each byte, the first byte first. It
+    /// takes a bounded number of steps.
     pub fn to_hex(&self, out: &mut [u8; 64])
         ensures { out.new ≡ encode_lower (bytes_of self.now) }
     {
         bytes::write_hex(&self.0, out);
     }
 
-    /// Reads it from 64 digits of either case, two for each byte, the first byte first. Constant
-    /// time.
+    /// Reads it from 64 digits of either case, two for each byte, the first byte first. It
+    /// takes a bounded number of steps.
     ///
     /// # Errors
     ///
@@ -82,8 +84,8 @@ impl BlockId {
         Ok(BlockId(bytes))
     }
 
-    /// Whether its first `bits` bits are zero, each byte read from its highest bit. The time is
-    /// that of reading so many bits.
+    /// Whether its first `bits` bits are zero, each byte read from its highest bit. It takes
+    /// time in proportion to `bits`.
     pub fn meets(&self, bits: u8) -> bool
         requires { bits ≤ 64 }
         ensures { IsTrue result ↔ BeginsWithZeros self.now bits }

@@ -20,7 +20,7 @@ impl Model for Ids {
 }
 
 impl Ids {
-    /// These ids, in this order. Constant time, as `as_slice`.
+    /// These ids, in this order. It takes a bounded number of steps, as `as_slice` does.
     pub fn of(list: Vec<BlockId>) -> Ids
         ensures { result ≡ list.items }
     {

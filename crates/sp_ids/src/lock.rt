@@ -37,7 +37,7 @@ impl Model for Lock {
 }
 
 impl Lock {
-    /// The lock that this preimage opens. The time is that of one pass over its bytes.
+    /// The lock that this preimage opens. It takes time in proportion to its bytes.
     pub fn of(preimage: &[u8]) -> Lock
         ensures { result ≡ sha256_number preimage.now }
     {
@@ -60,15 +60,16 @@ impl Lock {
         &self.0
     }
 
-    /// Writes it as 64 lower case digits, two for each byte, the first byte first. Constant time.
+    /// Writes it as 64 lower case digits, two for each byte, the first byte first. It
+    /// takes a bounded number of steps.
     pub fn to_hex(&self, out: &mut [u8; 64])
         ensures { out.new ≡ encode_lower (bytes_of self.now) }
     {
         bytes::write_hex(&self.0, out);
     }
 
-    /// Reads it from 64 digits of either case, two for each byte, the first byte first. Constant
-    /// time.
+    /// Reads it from 64 digits of either case, two for each byte, the first byte first. It
+    /// takes a bounded number of steps.
     ///
     /// # Errors
     ///

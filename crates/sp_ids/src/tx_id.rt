@@ -36,7 +36,8 @@ impl Model for TxId {
 }
 
 impl TxId {
-    /// The id of the transaction with these bytes. The time is that of one pass over them.
+    /// The id of the transaction with these bytes. It takes time in proportion to
+    /// them.
     pub fn of(bytes: &[u8]) -> TxId
         ensures { result ≡ sha256_number bytes.now }
     {
@@ -59,15 +60,16 @@ impl TxId {
         &self.0
     }
 
-    /// Writes it as 64 lower case digits, two for each byte, the first byte first. Constant time.
+    /// Writes it as 64 lower case digits, two for each byte, the first byte first. It
+    /// takes a bounded number of steps.
     pub fn to_hex(&self, out: &mut [u8; 64])
         ensures { out.new ≡ encode_lower (bytes_of self.now) }
     {
         bytes::write_hex(&self.0, out);
     }
 
-    /// Reads it from 64 digits of either case, two for each byte, the first byte first. Constant
-    /// time.
+    /// Reads it from 64 digits of either case, two for each byte, the first byte first. It
+    /// takes a bounded number of steps.
     ///
     /// # Errors
     ///

@@ -1,4 +1,5 @@
--- What stands when votes are found from the highest member down.
+-- Sets that hold the past of each member, as `plain_votes` asks. What else stands here, of votes that are found from
+-- the highest member down, serves the contracts of private functions alone.
 use Rattle.std.specs.Prelude.{ℕ, ◌<◌, ◌≤◌, ◌≡◌, true, List, map, slice_index_or, ℤ, pos, length}
 use Rattle.std.specs.List.{range_with_len}
 use Rattle.sp_model.specs.Graph.{Graph, has, in_past}

@@ -130,8 +130,8 @@ fn votes_of(
     Ok(votes)
 }
 
-/// The virtual vote of the members on `x` and `y`. It takes as many steps as the square of the width
-/// at most.
+/// The virtual vote of the members on `x` and `y`. It takes time in proportion to the square of
+/// the width.
 pub(crate) fn virt_of(
     alloc: Global,
     dag: &Dag,

@@ -33,7 +33,8 @@ impl Matrix {
         Matrix { width, votes }
     }
 
-    /// The virtual vote on two blocks, -1 for x first, 0 for a tie and +1 for y first, by one look-up.
+    /// The virtual vote on two blocks, -1 for x first, 0 for a tie and +1 for y first, in a
+    /// bounded number of steps.
     pub fn vote(&self, x: u16, y: u16) -> i8
         requires x_in { x < self.now.width }
         requires y_in { y < self.now.width }

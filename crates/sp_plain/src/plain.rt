@@ -40,8 +40,8 @@ fn push_virts(
     Ok(())
 }
 
-/// The virtual votes of the members on each two blocks below the width. It takes as many steps as the
-/// fourth power of the width at most.
+/// The virtual votes of the members on each two blocks below the width. It takes time in
+/// proportion to the fourth power of the width.
 fn virts_of(
     alloc: Global,
     dag: &Dag,
@@ -77,8 +77,8 @@ fn pasts_of(alloc: Global, dag: &Dag) -> Result<Vec<Matrix>, Memory>
 }
 
 /// The virtual votes of the members on each two of the graph's blocks. Of n blocks it makes a matrix
-/// for the past of each, which takes as many steps as the fifth power of n at most, and keeps n times
-/// n squared votes meanwhile.
+/// for the past of each, which takes time in proportion to the fifth power of n, and memory in
+/// proportion to its cube meanwhile.
 ///
 /// # Errors
 ///
