@@ -4,15 +4,15 @@ use Rattle.std.specs.Prelude.{slice_range}
 use Rattle.std.proofs.lemmas.Bool.{le-ltb}
 use Rattle.std.proofs.lemmas.List.{take-append-drop}
 use Rattle.sp_form.specs.Bytes.{IsBytes}
-use Rattle.sp_form.specs.Form.{first_broken, told, whole}
+use Rattle.sp_form.specs.Form.{first_broken, map_fault, whole}
 use Rattle.sp_form.specs.Reading.{Fails, IsCause, read, unless}
-use Rattle.sp_form.specs.Values.{bytes_form, judged}
+use Rattle.sp_form.specs.Values.{bytes_form, rules_form}
 use Rattle.sp_form.specs.declared.fault.ReadFault.{ReadFault}
 use Rattle.sp_form.specs.declared.fault.ReadFault.TheVariants.{Fault, Memory}
 use Rattle.sp_form.proofs.FormLaws.{ok_pair, read_then, reads_fault, reads_spelled}
 use Rattle.sp_form.proofs.Taking.{IsBytes-append_left}
 use Rattle.sp_form.proofs.Texts.{only_text}
-use Rattle.sp_form.proofs.Told.{read_judged, read_told, retold}
+use Rattle.sp_form.proofs.Faults.{read_rules, read_map_fault, mapped}
 use Rattle.sp_ids.specs.Digest.{sha256_number}
 use Rattle.sp_tx.specs.declared.fault.TxFault.{TxFault}
 use Rattle.sp_tx.specs.Format.{tx_form}
@@ -23,7 +23,7 @@ use Rattle.sp_tx.proofs.Spelled.{tx_spelled}
 use Rattle.sp_block.specs.declared.fault.BlockFault.{BlockFault}
 use Rattle.sp_block.specs.declared.fault.BlockFault.TheVariants.{Short, Tx}
 use Rattle.sp_block.specs.Format.{carried_form, carried_rules}
-use Rattle.sp_block.specs.Reading.{told_as}
+use Rattle.sp_block.specs.Reading.{as_block_fault}
 
 -- a field that is there is read
 field_there : (width : ℕ) (list : List ℕ) → width ≤ length list → (let r : Result (List ℕ × List ℕ) BlockFault = read (bytes_form width Short) list in r) ≡ Ok (take width list, drop width list)
@@ -43,22 +43,22 @@ front_range list end = let all : end - 0 ≡ end = omega arith in ap (λ (n : �
 spelled_front : (list : List ℕ) (end : ℕ) (t : Transaction) → SpellsBetween list 0 end t → SpellsTx (take end list) t
 spelled_front list end t h = subst (λ (l : List ℕ). SpellsTx l t) (front_range list end) h.spells
 
-tx_read : (list : List ℕ) (end : ℕ) (t : Transaction) → SpellsBetween list 0 end t → read (told Tx tx_form) list ≡ Ok (t, drop end list)
+tx_read : (list : List ℕ) (end : ℕ) (t : Transaction) → SpellsBetween list 0 end t → read (map_fault Tx tx_form) list ≡ Ok (t, drop end list)
 tx_read list end t h =
     let found : read tx_form list ≡ Ok (t, drop end list) = ap (read tx_form) (sym (take-append-drop end list)) ∙ reads_spelled tx_form (take end list) t (drop end list) (spelled_front list end t h) in
-    read_told Tx tx_form list ∙ ap (retold Tx) found
+    read_map_fault Tx tx_form list ∙ ap (mapped Tx) found
 
-tx_fault : (list : List ℕ) (fault : TxFault) → HasTxFault list fault → read (told Tx tx_form) list ≡ Err (Tx fault)
-tx_fault list fault h = read_told Tx tx_form list ∙ ap (retold Tx) (reads_fault tx_form list fault h)
+tx_fault : (list : List ℕ) (fault : TxFault) → HasTxFault list fault → read (map_fault Tx tx_form) list ≡ Err (Tx fault)
+tx_fault list fault h = read_map_fault Tx tx_form list ∙ ap (mapped Tx) (reads_fault tx_form list fault h)
 
-pub told_cause : (list : List ℕ) (e : ReadFault TxFault) → IsCause (HasTxFault list) e → IsCause (λ fault. read (told Tx tx_form) list ≡ Err fault) (told_as e)
-told_cause list Memory h = tt
-told_cause list (Fault fault) h = tx_fault list fault h
+pub block_fault_cause : (list : List ℕ) (e : ReadFault TxFault) → IsCause (HasTxFault list) e → IsCause (λ fault. read (map_fault Tx tx_form) list ≡ Err fault) (as_block_fault e)
+block_fault_cause list Memory h = tt
+block_fault_cause list (Fault fault) h = tx_fault list fault h
 
 -- a transaction whose bytes were taken
 pub record Found (list text new : List ℕ) (t : Transaction) : Type 0 where
   pub id : sha256_number text ≡ id_of t
-  pub read : read (told Tx tx_form) list ≡ Ok (t, new)
+  pub read : read (map_fault Tx tx_form) list ≡ Ok (t, new)
 
 pub tx_found : (list text new : List ℕ) (end : ℕ) (t : Transaction) → IsBytes list → SpellsBetween list 0 end t → (let r : Result (List ℕ × List ℕ) BlockFault = read (bytes_form end Short) list in r) ≡ Ok (text, new) → Found list text new t
 unfolding id_of
@@ -70,18 +70,18 @@ tx_found list text new end t bytes h e =
 
 -- ---- and judged
 
-pub carried_by_rules : (genesis : Bool) (earlier : List Transaction) (list : List ℕ) (t : Transaction) (rest : List ℕ) → read (told Tx tx_form) list ≡ Ok (t, rest) → read (carried_form genesis earlier) list ≡ unless (first_broken (carried_rules genesis earlier t)) (Ok (t, rest))
+pub carried_by_rules : (genesis : Bool) (earlier : List Transaction) (list : List ℕ) (t : Transaction) (rest : List ℕ) → read (map_fault Tx tx_form) list ≡ Ok (t, rest) → read (carried_form genesis earlier) list ≡ unless (first_broken (carried_rules genesis earlier t)) (Ok (t, rest))
 unfolding carried_form read
 carried_by_rules genesis earlier list t rest e =
-    read_then (told Tx tx_form) (λ t. judged Short (carried_rules genesis earlier t) (whole t)) list ∙ rw e (read_judged Short (carried_rules genesis earlier t) (whole t) rest)
+    read_then (map_fault Tx tx_form) (λ t. rules_form Short (carried_rules genesis earlier t) (whole t)) list ∙ rw e (read_rules Short (carried_rules genesis earlier t) (whole t) rest)
 
-pub carried_stops : (genesis : Bool) (earlier : List Transaction) (list : List ℕ) (e : ReadFault BlockFault) → Fails e (read (told Tx tx_form) list) → Fails e (read (carried_form genesis earlier) list)
+pub carried_stops : (genesis : Bool) (earlier : List Transaction) (list : List ℕ) (e : ReadFault BlockFault) → Fails e (read (map_fault Tx tx_form) list) → Fails e (read (carried_form genesis earlier) list)
 unfolding carried_form
 carried_stops genesis earlier list Memory h = tt
-carried_stops genesis earlier list (Fault fault) h = read_then (told Tx tx_form) (λ t. judged Short (carried_rules genesis earlier t) (whole t)) list ∙ rw h refl
+carried_stops genesis earlier list (Fault fault) h = read_then (map_fault Tx tx_form) (λ t. rules_form Short (carried_rules genesis earlier t) (whole t)) list ∙ rw h refl
 
-pub carried_breaks : (genesis : Bool) (earlier : List Transaction) (list : List ℕ) (t : Transaction) (rest : List ℕ) (fault : BlockFault) → read (told Tx tx_form) list ≡ Ok (t, rest) → Some fault ≡ first_broken (carried_rules genesis earlier t) → read (carried_form genesis earlier) list ≡ Err fault
+pub carried_breaks : (genesis : Bool) (earlier : List Transaction) (list : List ℕ) (t : Transaction) (rest : List ℕ) (fault : BlockFault) → read (map_fault Tx tx_form) list ≡ Ok (t, rest) → Some fault ≡ first_broken (carried_rules genesis earlier t) → read (carried_form genesis earlier) list ≡ Err fault
 carried_breaks genesis earlier list t rest fault e h = carried_by_rules genesis earlier list t rest e ∙ rw (← h) refl
 
-pub carried_taken : (genesis : Bool) (earlier : List Transaction) (list : List ℕ) (t : Transaction) (rest : List ℕ) → read (told Tx tx_form) list ≡ Ok (t, rest) → None ≡ first_broken (carried_rules genesis earlier t) → read (carried_form genesis earlier) list ≡ Ok (t, rest)
+pub carried_taken : (genesis : Bool) (earlier : List Transaction) (list : List ℕ) (t : Transaction) (rest : List ℕ) → read (map_fault Tx tx_form) list ≡ Ok (t, rest) → None ≡ first_broken (carried_rules genesis earlier t) → read (carried_form genesis earlier) list ≡ Ok (t, rest)
 carried_taken genesis earlier list t rest e h = carried_by_rules genesis earlier list t rest e ∙ rw (← h) refl

@@ -19,7 +19,7 @@ use Rattle.sp_tx.specs.Parts.{Transaction}
 use Rattle.sp_tx.specs.Spending.{id_of}
 use Rattle.sp_block.specs.declared.fault.BlockFault.TheVariants.{SameTx, SameOutpoint}
 use Rattle.sp_block.specs.declared.seen.Seen.{Seen}
-use Rattle.sp_block.specs.Format.{carried_rules, fits_kind, has_known_id, outpoints, shares_outpoint, with_one}
+use Rattle.sp_block.specs.Format.{carried_rules, fits_kind, has_known_id, outpoints, shares_outpoint, with_tx}
 use Rattle.sp_block.specs.Seen.{HasOutpoints, is_any_spent, Saw}
 
 -- ---- look-ups
@@ -93,7 +93,7 @@ outpoints_go_on old new spent inputs i input lt is h u =
     subst (λ (xs : List Outpoint). HasOutpoints new xs) (sym list) (outpoint_added old new (spent ++ map (λ (input : Input). input.from) (take i inputs)) input.from h u)
 
 -- the id and the outpoints of one more transaction are noted
-pub saw_one : (old new : Seen) (earlier : List Transaction) (t : Transaction) (id : ℕ) → id ≡ id_of t → Saw old earlier → Updates nat_cmp old.ids new.ids id true → (HasOutpoints old.outpoints (flat_map outpoints earlier) → HasOutpoints new.outpoints (flat_map outpoints earlier ++ outpoints t)) → Saw new (with_one earlier t)
+pub saw_one : (old new : Seen) (earlier : List Transaction) (t : Transaction) (id : ℕ) → id ≡ id_of t → Saw old earlier → Updates nat_cmp old.ids new.ids id true → (HasOutpoints old.outpoints (flat_map outpoints earlier) → HasOutpoints new.outpoints (flat_map outpoints earlier ++ outpoints t)) → Saw new (with_tx earlier t)
 saw_one old new earlier t id is saw u more = record {
   ids = λ q.
       u.0 q ∙ rw (saw.ids q, is_eq-nat_cmp id q, eqb-flip id q, is, map-append id_of earlier (t ∷ []), list_any-append (λ other. eqb q other) (map id_of earlier) (id_of t ∷ []))

@@ -5,12 +5,12 @@ use Rattle.std.specs.Int.{w16, w64, to_le_bytes, from_le_bytes}
 use Rattle.std.proofs.lemmas.Bool.{eqb-true, leb-true, le-leb}
 use Rattle.std.proofs.lemmas.Nat.{le_bytes_2, le_bytes_8, from_le_bytes-to_le_bytes_2, from_le_bytes-to_le_bytes_8}
 use Rattle.sp_form.specs.Bytes.{IsBytes}
-use Rattle.sp_form.specs.Form.{Form, whole, bind, rule, first_broken, told}
+use Rattle.sp_form.specs.Form.{Form, whole, bind, rule, first_broken, map_fault}
 use Rattle.sp_form.specs.Turns.{InTurn}
 use Rattle.sp_form.specs.Values.{byte}
 use Rattle.sp_form.proofs.Simple.{one_byte, rule_met}
 use Rattle.sp_form.proofs.Taking.{AreRows, bind_spelled, last_spelled, rows_spelled, said_so, Spelled, value_spelled}
-use Rattle.sp_form.proofs.Told.{ruled_spelled, told_spelled}
+use Rattle.sp_form.proofs.Faults.{ruled_spelled, map_fault_spelled}
 use Rattle.sp_ids.specs.Digits.{bytes_of_number, length-bytes_of, number_of_bytes, number_of-bound}
 use Rattle.sp_ids.specs.Key.{AreBytes, bytes_of, number_of}
 use Rattle.sp_tx.specs.Format.{tx_form}
@@ -19,7 +19,7 @@ use Rattle.sp_tx.specs.Spelling.{IsTx, spelling}
 use Rattle.sp_tx.proofs.Spelled.{tx_spelled}
 use Rattle.sp_block.specs.declared.fault.BlockFault.{BlockFault}
 use Rattle.sp_block.specs.declared.fault.BlockFault.TheVariants.{Short, Version, ParentCount, ParentOrder, TxCount, Tx, Grant, SameTx, SameOutpoint}
-use Rattle.sp_block.specs.Format.{block_form, carried_form, carried_rules, fits_kind, has_known_id, is_above, last_parent, of_parts, parent_count_form, parent_form, Parts, parents_fit, parents_form, shares_outpoint, tx_count_form, txs_form, version_form, with_one, word_form}
+use Rattle.sp_block.specs.Format.{block_form, carried_form, carried_rules, fits_kind, has_known_id, is_above, last_parent, of_parts, parent_count_form, parent_form, Parts, parents_fit, parents_form, shares_outpoint, tx_count_form, txs_form, version_form, with_tx, word_form}
 use Rattle.sp_block.specs.Spelling.{block_text, IsCarried, IsParent, MeetsRules}
 
 -- ---- fields of the head
@@ -91,7 +91,7 @@ pub carried_spelled : (genesis : Bool) (earlier : List Transaction) → Spelled 
 unfolding carried_form
 carried_spelled genesis earlier =
     said_so (carried_form genesis earlier) spelling (λ t. IsTx t × (first_broken (carried_rules genesis earlier t) ≡ None)) (IsCarried genesis earlier) (kept_rules genesis earlier) (carried_met genesis earlier)
-    (ruled_spelled (told Tx tx_form) Short (carried_rules genesis earlier) spelling IsTx (told_spelled Tx tx_form spelling IsTx tx_spelled))
+    (ruled_spelled (map_fault Tx tx_form) Short (carried_rules genesis earlier) spelling IsTx (map_fault_spelled Tx tx_form spelling IsTx tx_spelled))
 
 -- ---- the whole, from its end
 
@@ -106,7 +106,7 @@ module _ (genesis : Bool) where
   remade salt nonce parents p h = rw (← h.salt_is, ← h.nonce_is, ← h.parents_are) refl
 
   abbrev CarriedInTurn : Parts → Type 0
-  CarriedInTurn p = InTurn (IsCarried genesis) with_one [] p.txs
+  CarriedInTurn p = InTurn (IsCarried genesis) with_tx [] p.txs
 
   abbrev pub txs_text : Parts → List ℕ
   txs_text p = flat_map spelling p.txs
@@ -116,9 +116,9 @@ module _ (genesis : Bool) where
 
   behind_tx_count : (salt nonce : ℕ) (parents : List ℕ) (count : ℕ) → Spelled (last_step salt nonce parents count) txs_text (λ (p : Parts). (length p.txs ≡ count) × (Head salt nonce parents p × CarriedInTurn p))
   behind_tx_count salt nonce parents count =
-      let last = last_spelled (txs_form genesis count) (of_parts salt nonce parents) (flat_map spelling) (AreRows (IsCarried genesis) with_one count []) (Head salt nonce parents) (λ (p : Parts). p.txs)
-      (λ txs. (refl, record { salt_is = refl; nonce_is = refl; parents_are = refl })) (remade salt nonce parents) (rows_spelled (carried_form genesis) with_one spelling (IsCarried genesis) (carried_spelled genesis) count []) in
-      said_so (last_step salt nonce parents count) txs_text (λ (p : Parts). Head salt nonce parents p × AreRows (IsCarried genesis) with_one count [] p.txs) (λ (p : Parts). (length p.txs ≡ count) × (Head salt nonce parents p × CarriedInTurn p))
+      let last = last_spelled (txs_form genesis count) (of_parts salt nonce parents) (flat_map spelling) (AreRows (IsCarried genesis) with_tx count []) (Head salt nonce parents) (λ (p : Parts). p.txs)
+      (λ txs. (refl, record { salt_is = refl; nonce_is = refl; parents_are = refl })) (remade salt nonce parents) (rows_spelled (carried_form genesis) with_tx spelling (IsCarried genesis) (carried_spelled genesis) count []) in
+      said_so (last_step salt nonce parents count) txs_text (λ (p : Parts). Head salt nonce parents p × AreRows (IsCarried genesis) with_tx count [] p.txs) (λ (p : Parts). (length p.txs ≡ count) × (Head salt nonce parents p × CarriedInTurn p))
       (λ p h. (h.1.size, (h.0, h.1.in_turn))) (λ p h. (h.1.0, record { size = h.0; in_turn = h.1.1 })) last
 
   abbrev TxsMet : Parts → Type 0

@@ -3,8 +3,8 @@
 use Rattle.std.specs.Prelude.{ℕ, Bool, true, not, ◌==◌, ◌&&◌, nat_le, nat_lt, List, [], ◌∷◌, ◌++◌, length, map, Option, Some, None, if◌then◌else◌}
 use Rattle.std.specs.Int.{w16, w64, from_le_bytes}
 use Rattle.std.specs.List.{flat_map, list_any}
-use Rattle.sp_form.specs.Form.{Form, whole, ◌>>=◌, rows, Rule, rule, told}
-use Rattle.sp_form.specs.Values.{byte, judged, value_form}
+use Rattle.sp_form.specs.Form.{Form, whole, ◌>>=◌, rows, Rule, rule, map_fault}
+use Rattle.sp_form.specs.Values.{byte, rules_form, value_form}
 use Rattle.sp_ids.specs.Key.{number_of}
 use Rattle.sp_ids.specs.Outpoints.{same_outpoint}
 use Rattle.sp_ids.specs.declared.outpoint.Outpoint.{Outpoint}
@@ -81,15 +81,15 @@ carried_rules genesis earlier t =
 
 unfoldable pub carried_form : Bool → List Transaction → Form BlockFault Transaction
 carried_form genesis earlier = do
-  t ← told Tx tx_form
-  judged Short (carried_rules genesis earlier t) (whole t)
+  t ← map_fault Tx tx_form
+  rules_form Short (carried_rules genesis earlier t) (whole t)
 
 -- what the rules of the next transaction look back at
-abbrev pub with_one : List Transaction → Transaction → List Transaction
-with_one earlier t = earlier ++ t ∷ []
+abbrev pub with_tx : List Transaction → Transaction → List Transaction
+with_tx earlier t = earlier ++ t ∷ []
 
 abbrev pub txs_form : Bool → ℕ → Form BlockFault (List Transaction)
-txs_form genesis count = rows (carried_form genesis) with_one count []
+txs_form genesis count = rows (carried_form genesis) with_tx count []
 
 unfoldable pub block_form : Bool → Form BlockFault Parts
 block_form genesis = do

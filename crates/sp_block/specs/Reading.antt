@@ -1,5 +1,5 @@
--- Reading a block from left to right, as the private functions do. What is promised of it stands in Format
--- and Spelling.
+-- Reading a block from left to right, for the contracts of private functions alone. What is promised of it stands
+-- in Format and Spelling.
 use Rattle.std.specs.Prelude.{ℕ, Bool, List, Result, Ok}
 use Rattle.sp_form.specs.declared.fault.ReadFault.{ReadFault}
 use Rattle.sp_form.specs.declared.fault.ReadFault.TheVariants.{Fault, Memory}
@@ -15,9 +15,9 @@ abbrev pub parts_in : Content → Parts
 parts_in content = of_parts content.salt content.nonce content.parents content.txs
 
 -- a transaction's fault as the block's
-abbrev pub told_as : ReadFault TxFault → ReadFault BlockFault
-told_as Memory = Memory
-told_as (Fault fault) = Fault (Tx fault)
+abbrev pub as_block_fault : ReadFault TxFault → ReadFault BlockFault
+as_block_fault Memory = Memory
+as_block_fault (Fault fault) = Fault (Tx fault)
 
 -- the parts of a block, one after another
 abbrev pub block_steps : Bool → List ℕ → Result (Parts × List ℕ) BlockFault

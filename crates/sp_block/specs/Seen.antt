@@ -1,4 +1,5 @@
--- Sets of what earlier transactions have, as tests on the lists that they stand for.
+-- Sets of what earlier transactions have, as tests on the lists that they stand for. Contracts of private functions
+-- alone cite them.
 use Rattle.std.specs.Prelude.{◌≡◌, ℕ, ◌==◌, Bool, List, map, Option, Some, None, Result, Ok, Err}
 use Rattle.std.specs.BTreeSet.{BTreeSet, contains}
 use Rattle.std.specs.List.{flat_map, list_any}

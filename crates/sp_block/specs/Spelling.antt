@@ -9,7 +9,7 @@ use Rattle.sp_tx.specs.Parts.{Transaction}
 use Rattle.sp_tx.specs.Spelling.{IsTx, spelling}
 use Rattle.sp_block.specs.declared.fault.BlockFault.{BlockFault}
 use Rattle.sp_block.specs.declared.fault.BlockFault.TheVariants.{TooLong, Trailing}
-use Rattle.sp_block.specs.Format.{block_form, fits_kind, has_known_id, is_above, last_parent, Parts, parents_fit, shares_outpoint, with_one}
+use Rattle.sp_block.specs.Format.{block_form, fits_kind, has_known_id, is_above, last_parent, Parts, parents_fit, shares_outpoint, with_tx}
 
 pub record SpellsBlock (list : List ℕ) (genesis : Bool) (parts : Parts) : Type 0 where
   pub short : length list ≤ 65536
@@ -45,7 +45,7 @@ pub record MeetsRules (genesis : Bool) (p : Parts) : Type 0 where
   pub parent_count : parents_fit genesis (length p.parents) ≡ true
   pub parents : InTurn IsParent last_parent None p.parents
   pub few_txs : length p.txs ≤ 256
-  pub txs : InTurn (IsCarried genesis) with_one [] p.txs
+  pub txs : InTurn (IsCarried genesis) with_tx [] p.txs
 
 -- they are short enough for a block, too
 pub record IsSpellable (genesis : Bool) (p : Parts) : Type 0 where

@@ -39,8 +39,8 @@ impl Model for Block {
     ghost invariant = { λ b. IsBlock (record { id = b.id; bytes = b.bytes; salt = b.salt; nonce = b.nonce; parents = b.parents; txs = b.txs }) };
 }
 
-/// Whether the first `bits` bits of a block's id are zero, each byte read from its highest bit. The
-/// time is that of reading so many bits; the id stands in the block.
+/// Whether the first `bits` bits of a block's id are zero, each byte read from its highest bit. It
+/// takes time in proportion to `bits`; the id stands in the block.
 pub fn check_work(block: &Block, bits: u8) -> bool
     requires { bits ≤ 64 }
     ensures { IsTrue result ↔ BeginsWithZeros block.now.id bits }

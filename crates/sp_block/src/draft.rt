@@ -110,7 +110,7 @@ fn bytes_of_draft(alloc: Global, draft: &Draft, nonce: u64) -> Result<Vec<u8>, M
 /// The bytes of a draft with a nonce: a version (one byte, 1), the salt and the nonce (eight bytes
 /// each), the number of parents (one byte), each parent (32 bytes, ascending), the number of
 /// transactions (two bytes), and each transaction as `write_tx` writes it. Numbers are written the
-/// lowest byte first. The time is linear in these bytes, but for the sort of at most 64 parents.
+/// lowest byte first. It takes time in proportion to these bytes, and that of a sort of the parents.
 pub fn draft_bytes(alloc: Global, draft: &Draft, nonce: u64) -> Result<Vec<u8>, Memory>
     requires few_parents { length draft.now.parents ≤ 64 }
     requires few_txs { length draft.now.txs ≤ 256 }
@@ -130,8 +130,8 @@ fn set_nonce(bytes: &mut [u8], nonce: u64)
 }
 
 /// The least nonce below `tries` with which the first `bits` bits of the draft's id are zero, or
-/// `None` where there is none. The bytes are written once, in the time of `draft_bytes`; then each
-/// nonce from 0 up to the one that is found takes one SHA-256 of them.
+/// `None` where there is none. It takes about the time of `draft_bytes`, and then that of a SHA-256
+/// of the bytes for each nonce from 0 up to the one that is found.
 pub fn seek_nonce(alloc: Global, draft: &Draft, bits: u8, tries: u32) -> Result<Option<u64>, Memory>
     requires few_parents { length draft.now.parents ≤ 64 }
     requires few_txs { length draft.now.txs ≤ 256 }

@@ -21,7 +21,7 @@ impl Model for Parents {
 }
 
 impl Parents {
-    /// The list of these elements. Constant time, as `as_slice`.
+    /// The list of these elements. It takes a bounded number of steps, as `as_slice` does.
     pub fn of(list: Vec<BlockId>) -> Parents
         ensures { result ≡ list.items }
     {
@@ -52,7 +52,7 @@ impl Model for Blocks {
 }
 
 impl Blocks {
-    /// The list of these elements. Constant time, as `as_slice`.
+    /// The list of these elements. It takes a bounded number of steps, as `as_slice` does.
     pub fn of(list: Vec<Block>) -> Blocks
         ensures { result ≡ list.items }
     {

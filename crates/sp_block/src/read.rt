@@ -10,7 +10,7 @@ ghost use Rattle.sp_block.specs.declared.fault.BlockFault.{BlockFault};
 
 use crate::block::Block;
 use crate::fault::{BlockFault, ReadBlockFault};
-use crate::reader::{Content, Reader};
+use crate::reader::{BlockReader, Content};
 use sp_ids::BlockId;
 use sp_tx::Bytes;
 use std::alloc::Global;
@@ -25,7 +25,7 @@ fn content(alloc: Global, bytes: &[u8], genesis: bool) -> Result<Content, ReadBl
     if bytes.len() > LONGEST {
         return Err(ReadBlockFault::Fault(BlockFault::TooLong));
     }
-    let mut reader = Reader::new(bytes);
+    let mut reader = BlockReader::new(bytes);
     let content = reader.block(alloc, genesis)?;
     if !reader.is_empty() {
         return Err(ReadBlockFault::Fault(BlockFault::Trailing));
@@ -57,8 +57,8 @@ fn found_block(alloc: Global, bytes: &[u8], genesis: bool) -> Result<Block, Read
 
 /// The block that the bytes spell, as a genesis block or as another one.
 ///
-/// The time is linear in the bytes, but for the look-ups of earlier ids and outpoints, which take
-/// n log n in the block's transactions and inputs. The bytes are copied once.
+/// It takes time in proportion to the bytes, and about n log n for the look-ups of earlier ids and
+/// outpoints, n being the number of the block's transactions and inputs.
 ///
 /// # Errors
 ///

@@ -2,7 +2,7 @@
 
 ghost use Rattle.std.specs.Prelude.{◌≡◌, ◌↔◌, Err, IfErr, IfOk, IsTrue, List, length};
 ghost use Rattle.sp_form.specs.Bytes.{IsBytes};
-ghost use Rattle.sp_form.specs.Form.{told as told_form};
+ghost use Rattle.sp_form.specs.Form.{map_fault};
 ghost use Rattle.sp_form.specs.Reading.{Gives, IsCause, read};
 ghost use Rattle.sp_form.specs.Values.{bytes_form};
 ghost use Rattle.sp_tx.specs.Format.{tx_form};
@@ -18,10 +18,10 @@ ghost use Rattle.sp_block.specs.Format.{
   tx_count_form,
   txs_form,
   version_form,
-  with_one,
+  with_tx,
   word_form,
 };
-ghost use Rattle.sp_block.specs.Reading.{block_steps, parts_in, told_as};
+ghost use Rattle.sp_block.specs.Reading.{block_steps, parts_in, as_block_fault};
 ghost use Rattle.sp_block.specs.Seen.{Saw};
 ghost use Rattle.sp_block.specs.declared.fault.BlockFault.TheVariants.{Short};
 ghost use Rattle.sp_block.specs.declared.fault.BlockFault.TheVariants as faults;
@@ -63,8 +63,8 @@ fn is_above(before: Option<BlockId>, id: &BlockId) -> bool
     }
 }
 
-fn told(fault: TxReadFault) -> ReadBlockFault
-    ensures { result ≡ told_as fault }
+fn block_fault_of(fault: TxReadFault) -> ReadBlockFault
+    ensures { result ≡ as_block_fault fault }
 {
     match fault {
         TxReadFault::Fault(fault) => ReadBlockFault::Fault(BlockFault::Tx(fault)),
@@ -74,11 +74,11 @@ fn told(fault: TxReadFault) -> ReadBlockFault
 
 /// A block's bytes, read field by field.
 #[derive(Drop)]
-pub(crate) struct Reader<'a> {
+pub(crate) struct BlockReader<'a> {
     fields: Fields<'a>,
 }
 
-impl<'a> Model for Reader<'a> {
+impl<'a> Model for BlockReader<'a> {
     ghost use Rattle.std.specs.Prelude.{List, ℕ};
     ghost use Rattle.sp_form.specs.Bytes.{IsBytes};
 
@@ -89,13 +89,13 @@ impl<'a> Model for Reader<'a> {
     ghost invariant = { λ r. IsBytes r.fields };
 }
 
-impl<'a> Reader<'a> {
+impl<'a> BlockReader<'a> {
     /// A reader of all of these bytes.
-    pub(crate) fn new(bytes: &'a [u8]) -> Reader<'a>
+    pub(crate) fn new(bytes: &'a [u8]) -> BlockReader<'a>
         ensures all { result ≡ bytes.now }
         ensures bytes { IsBytes result }
     {
-        Reader {
+        BlockReader {
             fields: Fields::of(bytes),
         }
     }
@@ -197,19 +197,19 @@ impl<'a> Reader<'a> {
     /// The transaction that is next, and how many bytes it has. Nothing is taken.
     fn next_tx(&self, alloc: Global) -> Result<(Tx, usize), ReadBlockFault>
         ensures found { IfOk result (λ found. SpellsBetween self.now 0 found.1 found.0) }
-        ensures fault { IfErr result (IsCause (λ fault. read (told_form faults.Tx tx_form) self.now ≡ Err fault)) }
+        ensures fault { IfErr result (IsCause (λ fault. read (map_fault faults.Tx tx_form) self.now ≡ Err fault)) }
         ensures bytes { IsBytes self.now }
     {
         match read_tx(alloc, self.fields.rest(), 0) {
             Ok(found) => Ok(found),
-            Err(fault) => Err(told(fault)),
+            Err(fault) => Err(block_fault_of(fault)),
         }
     }
 
     /// The next transaction and its id. It isn't judged against the others.
     fn tx(&mut self, alloc: Global) -> Result<(Tx, TxId), ReadBlockFault>
         ensures id { IfOk result (λ found. found.1 ≡ id_of found.0) }
-        ensures read { Gives (λ found. (found.0, self.new)) result (read (told_form faults.Tx tx_form) self.old) }
+        ensures read { Gives (λ found. (found.0, self.new)) result (read (map_fault faults.Tx tx_form) self.old) }
     {
         let (tx, width) = self.next_tx(alloc)?;
         let text = self.field(width)?;
@@ -226,7 +226,7 @@ impl<'a> Reader<'a> {
         ensures read { (earlier : List Transaction) → Saw seen.old earlier
             → Gives (λ tx. (tx, self.new)) result (read (carried_form genesis earlier) self.old) }
         ensures saw { (earlier : List Transaction) → Saw seen.old earlier
-            → IfOk result (λ tx. Saw seen.new (with_one earlier tx)) }
+            → IfOk result (λ tx. Saw seen.new (with_tx earlier tx)) }
     {
         let (tx, id) = self.tx(alloc)?;
         match seen.judge(genesis, &tx, &id) {

@@ -9,7 +9,7 @@ ghost use Rattle.sp_ids.specs.Outpoints.{outpoint_cmp};
 ghost use Rattle.sp_tx.specs.Parts.{Transaction};
 ghost use Rattle.sp_tx.specs.Spending.{id_of};
 ghost use Rattle.sp_block.specs.Format as format;
-ghost use Rattle.sp_block.specs.Format.{carried_rules, with_one};
+ghost use Rattle.sp_block.specs.Format.{carried_rules, with_tx};
 ghost use Rattle.sp_block.specs.Seen.{fault_in, HasOutpoints, Saw};
 ghost use Rattle.sp_ids.specs.declared.outpoint.Outpoint.{Outpoint};
 
@@ -82,7 +82,7 @@ impl Seen {
     pub(crate) fn add(&mut self, tx: &Tx, id: TxId) -> Result<(), AllocError>
         requires { id ≡ id_of tx.now }
         ensures { OnOk result ((earlier : List Transaction) → Saw self.old earlier
-            → Saw self.new (with_one earlier tx.now)) }
+            → Saw self.new (with_tx earlier tx.now)) }
     {
         self.ids.insert(id)?;
         add_outpoints(&mut self.outpoints, tx.inputs.as_slice())

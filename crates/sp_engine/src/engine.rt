@@ -14,7 +14,7 @@ ghost use Rattle.sp_engine.specs.Presence.{order_of};
 use crate::answer::{Answer, Refusal};
 use crate::numbering::add_all;
 use crate::valid::valid_block;
-use crate::words::{votes_of_all, word_at};
+use crate::votes::{votes_of_all, word_at};
 use sp_block::Block;
 use sp_dag::Dag;
 use sp_ids::{BlockId, Memory};
@@ -85,7 +85,7 @@ impl Engine {
     /// finds room. They are refused by their first fault or for their work; else the block is
     /// known, else there is no room for it, else it is kept, and waits or is present.
     ///
-    /// A block that becomes present costs the votes of all present blocks anew.
+    /// A block that becomes present takes the time of the votes of all present blocks anew.
     ///
     /// # Errors
     ///
@@ -99,12 +99,12 @@ impl Engine {
         ensures bits { self.new.bits ≡ self.old.bits }
         ensures broken { self.new.broken ≡ is_err result }
     {
-        let judged = valid_block(self.alloc, self.bits, bytes);
-        let Ok(judged) = judged else {
+        let found = valid_block(self.alloc, self.bits, bytes);
+        let Ok(found) = found else {
             self.broken = true;
             return Err(Memory);
         };
-        let block = match judged {
+        let block = match found {
             Ok(block) => block,
             Err(refusal) => return Ok(Answer::Refused(refusal)),
         };
@@ -153,7 +153,8 @@ impl Engine {
         }
     }
 
-    /// What the present blocks say of two blocks, by look-ups alone.
+    /// What the present blocks say of two blocks. Their votes stand ready, so it takes about the
+    /// time of two look-ups by hash.
     pub fn vote(&self, x: &BlockId, y: &BlockId) -> Word
         requires { self.now.broken ≡ false }
         ensures { result ≡
@@ -209,7 +210,7 @@ impl Engine {
         self.bits
     }
 
-    /// The genesis block, by one look-up.
+    /// The genesis block, in about the time of a look-up by hash.
     pub fn genesis(&self) -> &Block
         requires { self.now.broken ≡ false }
         ensures { slice_get self.now.kept 0 ≡ Some result.now }
@@ -230,7 +231,8 @@ impl Engine {
         self.pool.kept()
     }
 
-    /// The kept block with this id, or `None` where there is none. It takes one look-up.
+    /// The kept block with this id, or `None` where there is none. It takes about the time of a
+    /// look-up by hash.
     pub fn block(&self, id: &BlockId) -> Option<&Block>
         requires { self.now.broken ≡ false }
         ensures { option_copied result ≡ find (λ block. block.id == id.now) self.now.kept }

@@ -12,7 +12,7 @@ mod engine;
 pub mod laws;
 mod numbering;
 mod valid;
-mod words;
+mod votes;
 
 pub use answer::{Answer, Refusal};
 pub use engine::Engine;

@@ -17,9 +17,9 @@ pub(crate) fn valid_block(
     bytes: &[u8],
 ) -> Result<Result<Block, Refusal>, Memory>
     requires { bits ≤ 64 }
-    ensures judged { IfOk result (λ judged. judged ≡ valid_in bits bytes.now) }
-    ensures other { IfOk result (λ judged. IfOk judged IsOther) }
-    ensures work { IfOk result (λ judged. IfOk judged (λ block. BeginsWithZeros block.id bits)) }
+    ensures found { IfOk result (λ found. found ≡ valid_in bits bytes.now) }
+    ensures other { IfOk result (λ found. IfOk found IsOther) }
+    ensures work { IfOk result (λ found. IfOk found (λ block. BeginsWithZeros block.id bits)) }
 {
     match read_block(alloc, bytes, false) {
         Ok(block) => {

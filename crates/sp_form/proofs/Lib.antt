@@ -3,7 +3,7 @@ pub mod Steps
 pub mod Rows
 pub mod Taking
 pub mod Breaks
-pub mod Told
+pub mod Faults
 pub mod Simple
 pub mod Texts
 pub mod Places

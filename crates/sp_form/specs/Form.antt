@@ -31,14 +31,14 @@ unfoldable pub rows : {E A S : Type 0} → (S → Form E A) → (S → A → S) 
 rows item carried zero seen = whole []
 rows item carried (suc n) seen = item seen >>= λ first. rows item carried n (carried seen first) >>= λ others. whole (first ∷ others)
 
-abbrev pub told_rule : {E F : Type 0} → (E → F) → Rule E → Rule F
-told_rule fault_of r = rule r.met (fault_of r.fault)
+abbrev pub map_rule_fault : {E F : Type 0} → (E → F) → Rule E → Rule F
+map_rule_fault fault_of r = rule r.met (fault_of r.fault)
 
--- a format whose faults are told as these
-unfoldable pub told : {E F A : Type 0} → (E → F) → Form E A → Form F A
-told fault_of (whole x) = whole x
-told fault_of (field width short rules next) =
-    field width (fault_of short) (λ bytes. map (told_rule fault_of) (rules bytes)) (λ bytes. told fault_of (next bytes))
+-- the same format, each of its faults mapped to another
+unfoldable pub map_fault : {E F A : Type 0} → (E → F) → Form E A → Form F A
+map_fault fault_of (whole x) = whole x
+map_fault fault_of (field width short rules next) =
+    field width (fault_of short) (λ bytes. map (map_rule_fault fault_of) (rules bytes)) (λ bytes. map_fault fault_of (next bytes))
 
 -- the fault of the first rule that isn't met
 abbrev pub first_broken : {E : Type 0} → List (Rule E) → Option E

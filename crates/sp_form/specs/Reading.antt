@@ -1,4 +1,5 @@
--- Reading from left to right by a format, as readers do. What is promised of them stands in Form.
+-- Reading from left to right by a format, as readers do. What is promised of them stands in Form; of this file public
+-- contracts cite `Answers` and `IsCause`, and the crate sp_engine `read`, with a law that ties it to Form.
 use Rattle.std.specs.Prelude.{◌≡◌, ℕ, List, length, take, drop, Option, Some, None, Result, Ok, Err, nat_lt, if◌then◌else◌}
 use Rattle.sp_form.specs.declared.fault.ReadFault.{ReadFault}
 use Rattle.sp_form.specs.declared.fault.ReadFault.TheVariants.{Fault, Memory}
@@ -27,6 +28,7 @@ abbrev pub Fails : {E Y : Type 0} → ReadFault E → Result Y E → Type 0
 Fails Memory read = Unit {0}
 Fails (Fault fault) read = read ≡ Err fault
 
+-- the same of what was read and what is left, for the contracts of private functions alone
 abbrev pub Gives : {E X Y : Type 0} → (X → Y) → Result X (ReadFault E) → Result Y E → Type 0
 Gives view (Ok x) read = read ≡ Ok (view x)
 Gives view (Err e) read = Fails e read

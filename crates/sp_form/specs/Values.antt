@@ -20,5 +20,5 @@ abbrev pub count_form : {E : Type 0} → E → ℕ → ℕ → E → Form E ℕ
 count_form short least most fault = value_form 1 short byte (λ n. rule (nat_le least n && nat_le n most) fault ∷ [])
 
 -- Rules that are judged where they stand. They read no byte, so the bytes never end too early for them.
-abbrev pub judged : {E A : Type 0} → E → List (Rule E) → Form E A → Form E A
-judged short rules next = field 0 short (λ bytes. rules) (λ bytes. next)
+abbrev pub rules_form : {E A : Type 0} → E → List (Rule E) → Form E A → Form E A
+rules_form short rules next = field 0 short (λ bytes. rules) (λ bytes. next)

@@ -5,7 +5,7 @@ ghost use Rattle.sp_form.specs.Bytes.{IsBytes};
 
 use std::marker::Model;
 
-/// What is left of a slice of bytes, which is read from its front. Nothing is copied.
+/// What is left of a slice of bytes, which is read from its front and lent from there.
 #[derive(Drop)]
 pub struct Fields<'a> {
     left: &'a [u8],
@@ -53,7 +53,7 @@ impl<'a> Fields<'a> {
     }
 
     /// Takes the next `width` bytes; `None` where fewer are left, and then nothing is taken.
-    /// Constant time.
+    /// It takes a bounded number of steps.
     pub fn take(&mut self, width: usize) -> Option<&'a [u8]>
         ensures field { IfSome result (λ field. field.now ≡ take width self.old) }
         ensures size { IfSome result (λ field. length field.now ≡ width) }

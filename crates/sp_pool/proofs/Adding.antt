@@ -7,7 +7,7 @@ use Rattle.std.proofs.lemmas.List.Folds.{list_any-append}
 use Rattle.sp_block.specs.Block.{IsBlock, IsGenesis, IsOther, ReadBlock}
 use Rattle.sp_model.specs.Graph.{has}
 use Rattle.sp_pool.specs.Kept.{AreKept, ids_of, present, Releases, standing_of}
-use Rattle.sp_pool.specs.Marks.{marked, Marked, Marks, with_one}
+use Rattle.sp_pool.specs.Marks.{marked, Marked, Marks, with_unmarked}
 use Rattle.sp_pool.specs.Offers.{IsAnswer, released_by}
 use Rattle.sp_pool.specs.Pool.{IsPool}
 use Rattle.sp_pool.specs.declared.answers.Offer.{Offer}
@@ -42,7 +42,7 @@ not_there m s id marks fresh = at (has s id) (marks.within id)
     at false within = refl
 
 -- a new block without a mark
-pub Marks-push : (m : Marked) (s : List ℕ) (b : ReadBlock) → has (ids_of m.blocks) b.id ≡ false → Marks m s → Marks (with_one m b) s
+pub Marks-push : (m : Marked) (s : List ℕ) (b : ReadBlock) → has (ids_of m.blocks) b.id ≡ false → Marks m s → Marks (with_unmarked m b) s
 Marks-push m s b fresh marks =
     record {
       same =
@@ -73,7 +73,7 @@ pub record Added (kept : List ReadBlock) (b : ReadBlock) (after : Marked) (offer
 
 -- a block whose parents are not all present waits
 pub added_waiting : (m pushed : Marked) (b : ReadBlock) → IsPool m → IsBlock b → IsOther b → standing_of m.blocks b.id ≡ Fresh
-    → list_all (has (present m.blocks)) b.parents ≡ false → pushed ≡ with_one m b → Added m.blocks b pushed Waiting
+    → list_all (has (present m.blocks)) b.parents ≡ false → pushed ≡ with_unmarked m b → Added m.blocks b pushed Waiting
 added_waiting m pushed b h block kind standing lacks same =
     let fresh = from_fresh m.blocks b.id standing in
     let waits = present_waits m.blocks b fresh.0 lacks in
@@ -82,7 +82,7 @@ added_waiting m pushed b h block kind standing lacks same =
       pool = record {
         kept = AreKept-push m.blocks b h.kept block kind fresh.0 fresh.1;
         marks =
-            Marks-same (with_one m b) (present m.blocks) (present (m.blocks ++ b ∷ [])) (λ z. sym (waits z))
+            Marks-same (with_unmarked m b) (present m.blocks) (present (m.blocks ++ b ∷ [])) (λ z. sym (waits z))
             (Marks-push m (present m.blocks) b fresh.0 h.marks);
       };
       answer = record { standing = standing; absent = waits_absent m.blocks b fresh.0 lacks };
@@ -95,7 +95,7 @@ added_waiting m pushed b h block kind standing lacks same =
 
 -- a block whose parents are all present becomes so, and others after it
 pub added_present : (m pushed after : Marked) (b : ReadBlock) (ids : List ℕ) → IsPool m → IsBlock b → IsOther b → standing_of m.blocks b.id ≡ Fresh
-    → list_all (has (present m.blocks)) b.parents ≡ true → pushed ≡ with_one m b → after.blocks ≡ pushed.blocks
+    → list_all (has (present m.blocks)) b.parents ≡ true → pushed ≡ with_unmarked m b → after.blocks ≡ pushed.blocks
     → ((s : List ℕ) → Marks pushed s → Releases pushed.blocks s ids) → ((s : List ℕ) → Marks pushed s → Marks after (s ++ ids)) → Added m.blocks b after (Present ids)
 added_present m pushed after b ids h block kind standing all same blocks order marks =
     let fresh = from_fresh m.blocks b.id standing in

@@ -10,7 +10,7 @@ use Rattle.indexmap.specs.IndexMap.{insert_entry}
 use Rattle.sp_block.specs.Block.{ReadBlock}
 use Rattle.sp_model.specs.Graph.{has}
 use Rattle.sp_pool.specs.Kept.{AreApart, ids_of}
-use Rattle.sp_pool.specs.Marks.{marked, Marked, with_one}
+use Rattle.sp_pool.specs.Marks.{marked, Marked, with_unmarked}
 use Rattle.sp_pool.proofs.Growth.{same_bool}
 
 pub eqb_flip : (a b : ℕ) → eqb a b ≡ eqb b a
@@ -51,5 +51,5 @@ pushed es new id b keyed fresh own is_new =
 
 -- one block more, without a mark
 pub marked_push : (m : Marked) (before : Marked) (b : ReadBlock) (blocks : List ReadBlock) (marks : List Bool) (seen : List ℕ) → before ≡ m
-    → blocks ≡ before.blocks ++ b ∷ [] → marks ≡ before.marks ++ false ∷ [] → seen ≡ before.seen ++ 0 ∷ [] → marked blocks marks seen ≡ with_one m b
-marked_push m before b blocks marks seen same by_block by_mark by_seen = rw (by_block, by_mark, by_seen) (ap (λ (x : Marked). with_one x b) same)
+    → blocks ≡ before.blocks ++ b ∷ [] → marks ≡ before.marks ++ false ∷ [] → seen ≡ before.seen ++ 0 ∷ [] → marked blocks marks seen ≡ with_unmarked m b
+marked_push m before b blocks marks seen same by_block by_mark by_seen = rw (by_block, by_mark, by_seen) (ap (λ (x : Marked). with_unmarked x b) same)

@@ -1,4 +1,4 @@
--- What a table of blocks keeps.
+-- What a table of blocks keeps: an invariant, which no public contract cites.
 use Rattle.std.specs.Prelude.{◌≡◌, nat_eq, length}
 use Rattle.std.specs.List.{IsDistinct}
 use Rattle.indexmap.specs.IndexMap.{keys, values}

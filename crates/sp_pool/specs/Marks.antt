@@ -1,4 +1,5 @@
--- Blocks in order of arrival, some of them marked, and what the marks stand for.
+-- Blocks in order of arrival, some of them marked, and what the marks stand for. Contracts of private functions
+-- alone cite them.
 use Rattle.std.specs.Prelude.{ℕ, ◌≡◌, Bool, true, false, List, [], ◌∷◌, ◌++◌, map, take}
 use Rattle.std.specs.List.{list_all}
 use Rattle.sp_block.specs.Block.{ReadBlock}
@@ -15,8 +16,8 @@ abbrev pub marked : List ReadBlock → List Bool → List ℕ → Marked
 marked blocks marks seen = record { blocks = blocks; marks = marks; seen = seen }
 
 -- one block more, without a mark
-abbrev pub with_one : Marked → ReadBlock → Marked
-with_one m block = marked (m.blocks ++ block ∷ []) (m.marks ++ false ∷ []) (m.seen ++ 0 ∷ [])
+abbrev pub with_unmarked : Marked → ReadBlock → Marked
+with_unmarked m block = marked (m.blocks ++ block ∷ []) (m.marks ++ false ∷ []) (m.seen ++ 0 ∷ [])
 
 -- of each block's parents, so many from the first are in the set
 abbrev pub AreSeen : List ℕ → List ReadBlock → List ℕ → Type 0

@@ -1,4 +1,4 @@
--- What a pool keeps.
+-- What a pool keeps: an invariant, which no public contract cites.
 use Rattle.sp_pool.specs.Kept.{AreKept, present}
 use Rattle.sp_pool.specs.Marks.{Marked, Marks}
 

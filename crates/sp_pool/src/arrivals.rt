@@ -18,7 +18,7 @@ use std::alloc::Global;
 ///
 /// The pool keeps genesis and each block whose id is none of those before it, until 512 blocks
 /// stand. The answers tell of each present block but genesis once, in the order in which the blocks
-/// became present. The time is that of the offers.
+/// became present. It takes about the time of the offers.
 ///
 /// # Errors
 ///
@@ -34,7 +34,7 @@ pub fn offer_all(
     ensures kept_by_bytes { IfOk result (λ run.
         AreKeptOf genesis 0 (map (λ (block : ReadBlock). block.bytes) blocks.items) run.0) }
     ensures answers { IfOk result (λ run. AreAnswers (genesis ∷ []) blocks.items run.1.items) }
-    ensures told { IfOk result (λ run. (id : ℕ) →
+    ensures each { IfOk result (λ run. (id : ℕ) →
         has (present run.0) id ≡ has (order_of_presence genesis run.1.items) id) }
     ensures once { IfOk result (λ run. AreDistinct (order_of_presence genesis run.1.items)) }
 {

@@ -1,6 +1,7 @@
 //! Blocks in order of arrival, by place and by id, each with a mark and with how many of its
 //! parents were seen to be marked. The table stands apart because it doesn't know what a mark
-//! means. A look-up by id is one in a hash table, and all else but `unmarked` takes one step.
+//! means. A look-up by id goes through a hash table, and all else but `unmarked` takes a
+//! bounded number of steps.
 
 ghost use Rattle.std.specs.Prelude.{◌≡◌, ◌<◌, ◌++◌, ◌∷◌, [], count_by, false, IfOk, IsFalse, length, nat_eq, not, OnErr, OnOk, position, slice_get, slice_set, true};
 ghost use Rattle.std.specs.Option.{option_map};
@@ -38,7 +39,7 @@ impl Model for Entries {
 }
 
 impl Entries {
-    ghost use Rattle.sp_pool.specs.Marks.{marked, with_one};
+    ghost use Rattle.sp_pool.specs.Marks.{marked, with_unmarked};
 
     /// One block, which is marked.
     pub fn new(alloc: Global, first: Block) -> Result<Entries, Memory>
@@ -134,7 +135,7 @@ impl Entries {
     /// Adds a block, which isn't marked. After `Memory` the table is as before.
     pub fn push(&mut self, block: Block) -> Result<(), Memory>
         requires { IsFalse (has (ids_of self.old.blocks) block.id) }
-        ensures ok { OnOk result (self.new ≡ with_one self.old block) }
+        ensures ok { OnOk result (self.new ≡ with_unmarked self.old block) }
         ensures err { OnErr result (self.new ≡ self.old) }
     {
         self.marks.reserve(1)?;

@@ -57,7 +57,7 @@ impl Pool {
     }
 
     /// Whether a block with this id is kept, and where not, whether there is room for one. It takes
-    /// one look-up.
+    /// about the time of a look-up by hash.
     pub fn standing(&self, id: &BlockId) -> Standing
         ensures { result ≡ standing_of self.now id.now }
     {
@@ -76,9 +76,9 @@ impl Pool {
     /// of its id is kept, else `Full` where 512 blocks are, else `Waiting` where one of its
     /// ancestors isn't present, else `Present` with the ids of the blocks that became so.
     ///
-    /// Over the whole life of a pool its offers look up each parent of each kept block twice at
-    /// most, and one parent of each waiting block in each turn that looks for the next block to
-    /// become present. There are fewer than 1,024 such turns, at most two for a block.
+    /// Over the whole life of a pool its offers take time in proportion to the parents of the kept
+    /// blocks, and to the kept blocks for each turn that looks for the next block to become present;
+    /// there are about two turns for a block.
     ///
     /// # Errors
     ///
@@ -126,7 +126,8 @@ impl Pool {
         }
     }
 
-    /// The kept block with this id, or `None` where there is none. It takes one look-up.
+    /// The kept block with this id, or `None` where there is none. It takes about the time of a
+    /// look-up by hash.
     pub fn block(&self, id: &BlockId) -> Option<&Block>
         ensures { option_copied result ≡ find (λ block. block.id == id.now) self.now }
     {
@@ -136,7 +137,8 @@ impl Pool {
         }
     }
 
-    /// Whether a block with this id is kept and present. It takes one look-up.
+    /// Whether a block with this id is kept and present. It takes about the time of a look-up by
+    /// hash.
     pub fn is_present(&self, id: &BlockId) -> bool
         ensures { result ≡ has (present self.now) id.now }
     {
@@ -151,7 +153,7 @@ impl Pool {
         self.entries.len() as u16
     }
 
-    /// How many kept blocks aren't present. The time is that of one pass over the kept blocks.
+    /// How many kept blocks aren't present. It takes time in proportion to the kept blocks.
     pub fn waiting(&self) -> u16
         ensures { result ≡ count_by (λ block. not (has (present self.now) block.id)) self.now }
     {

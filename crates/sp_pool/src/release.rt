@@ -2,8 +2,8 @@
 //! pool because it speaks of any marks, and of any set that they stand for.
 //!
 //! A waiting block is looked at in each turn, and each look goes on where the last one ended: at
-//! the first parent that wasn't marked then. So all looks together read each parent once, and once
-//! more for each waiting block and turn.
+//! the first parent that wasn't marked then. So all looks together take about one step for each
+//! parent, and one more for each waiting block and turn.
 
 ghost use Rattle.std.specs.Prelude.{◌≡◌, ◌<◌, ◌≤◌, ◌++◌, ℕ, List, [], count_by, false, find, IfSome, IsTrue, length, nat_le, not, slice_get, Some, take, true, vec_capacity};
 ghost use Rattle.std.specs.List.{list_all};

@@ -18,7 +18,7 @@ use Rattle.sp_tx.specs.declared.fault.TxFault.TheVariants.{Short}
 use Rattle.sp_tx.specs.Format.{last_outpoint, tx_form}
 use Rattle.sp_tx.specs.Parts.{Transaction, of_parts}
 use Rattle.sp_tx.specs.Sorting.{IsSortOf}
-use Rattle.sp_tx.specs.Reading.{placed, read_at, tx_steps}
+use Rattle.sp_tx.specs.Reading.{with_end, read_at, tx_steps}
 use Rattle.sp_tx.specs.Spelling.{HasPartsFault, HasTxFault, SpellsBetween, SpellsTx, IsInput, IsTx, spelling}
 use Rattle.sp_tx.proofs.Spelled.{tx_spelled}
 
@@ -40,7 +40,7 @@ reads_between list at end t h =
     let found : tx_steps (drop at list) ≡ Ok (t, drop (end - at) (drop at list)) =
     sym (steps_are (drop at list)) ∙ ap (read tx_form) (front_at list at end) ∙ reads_spelled tx_form (slice_range list at end) t (drop (end - at) (drop at list)) h.spells in
     let place : length list - length (drop (end - at) (drop at list)) ≡ end = omega (arith, length-drop (end - at) (drop at list), length-drop at list, h.ordered, h.within) in
-    ap (placed list) found ∙ ap (λ (p : ℕ). Ok (t, p)) place
+    ap (with_end list) found ∙ ap (λ (p : ℕ). Ok (t, p)) place
 
 -- the bytes behind what is read are no more
 pub behind_is_shorter : (list : List ℕ) (t : Transaction) (rest : List ℕ) → tx_steps list ≡ Ok (t, rest) → length rest ≤ length list
@@ -58,18 +58,18 @@ between list all at t rest le is front =
     ap (λ (n : ℕ). take n (drop at all)) k ∙ ap (take (length front.text)) (sym is ∙ front.parts) ∙ take_at front.text rest (length front.text) refl in
     record { ordered = omega arith; within = omega arith; spells = subst (λ (l : List ℕ). SpellsTx l t) (sym text) front.spells }
 
-found_of : (list : List ℕ) (at : ℕ) (r : Result (Transaction × List ℕ) TxFault) (x : Transaction × ℕ) → at ≤ length list → read tx_form (drop at list) ≡ r → placed list r ≡ Ok x → SpellsBetween list at x.1 x.0
+found_of : (list : List ℕ) (at : ℕ) (r : Result (Transaction × List ℕ) TxFault) (x : Transaction × ℕ) → at ≤ length list → read tx_form (drop at list) ≡ r → with_end list r ≡ Ok x → SpellsBetween list at x.1 x.0
 found_of list at (Ok y) x le is e =
     let p : (let q : Transaction × ℕ = (y.0, length list - length y.1) in q) ≡ x = cc in
     subst (λ (q : Transaction × ℕ). SpellsBetween list at q.1 q.0) p (between (drop at list) list at y.0 y.1 le refl (spelled_front tx_form (drop at list) y.0 y.1 is))
 found_of list at (Err d) x le is e = absurd (let h : Err d ≡ Ok x = e in cc)
 
-first_of_place : (list : List ℕ) (at : ℕ) (r : Result (Transaction × List ℕ) TxFault) (fault : TxFault) → read tx_form (drop at list) ≡ r → placed list r ≡ Err fault → HasTxFault (drop at list) fault
+first_of_place : (list : List ℕ) (at : ℕ) (r : Result (Transaction × List ℕ) TxFault) (fault : TxFault) → read tx_form (drop at list) ≡ r → with_end list r ≡ Err fault → HasTxFault (drop at list) fault
 first_of_place list at (Ok y) fault is e = absurd (let h : (let q : Result (Transaction × ℕ) TxFault = Ok (y.0, length list - length y.1) in q) ≡ Err fault = e in cc)
 first_of_place list at (Err d) fault is e = fault_found tx_form (drop at list) fault (is ∙ ap (λ (x : TxFault). Err x) (let h : (let q : Result (Transaction × ℕ) TxFault = Err d in q) ≡ Err fault = e in let k : d ≡ fault = cc in k))
 
 pub reads_fault_at : (list : List ℕ) (at : ℕ) (fault : TxFault) → HasTxFault (drop at list) fault → read_at list at ≡ Err fault
-reads_fault_at list at fault h = ap (placed list) (sym (steps_are (drop at list)) ∙ reads_fault tx_form (drop at list) fault h)
+reads_fault_at list at fault h = ap (with_end list) (sym (steps_are (drop at list)) ∙ reads_fault tx_form (drop at list) fault h)
 
 -- ---- what a function answered
 

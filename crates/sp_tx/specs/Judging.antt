@@ -1,4 +1,4 @@
--- What is found in parts that are no bytes yet.
+-- What is found in parts that are no bytes yet, for the contracts of private functions alone.
 use Rattle.std.specs.Prelude.{◌≡◌, ◌≢◌, ℕ, List, ◌++◌, Result, Err, IfErr, OnOk}
 use Rattle.sp_form.specs.Form.{Form}
 use Rattle.sp_form.specs.Reading.{read}

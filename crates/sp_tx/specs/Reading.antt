@@ -1,5 +1,5 @@
--- Reading a transaction from left to right, as the private functions do. What is promised of it stands in
--- Format and Spelling.
+-- Reading a transaction from left to right, for the contracts of private functions alone. What is promised of it
+-- stands in Format and Spelling.
 use Rattle.std.specs.Prelude.{ℕ, ◌-◌, List, length, drop, Result, Ok, Err}
 use Rattle.sp_form.specs.Reading.{read, ◌then◌}
 use Rattle.sp_form.specs.Values.{count_form}
@@ -18,9 +18,9 @@ tx_steps list =
     Ok (of_parts inputs.0 outputs.0, outputs.1)
 
 -- what was read from a place on, and the place behind it
-abbrev pub placed : {A : Type 0} → List ℕ → Result (A × List ℕ) TxFault → Result (A × ℕ) TxFault
-placed list (Ok x) = Ok (x.0, length list - length x.1)
-placed list (Err fault) = Err fault
+abbrev pub with_end : {A : Type 0} → List ℕ → Result (A × List ℕ) TxFault → Result (A × ℕ) TxFault
+with_end list (Ok x) = Ok (x.0, length list - length x.1)
+with_end list (Err fault) = Err fault
 
 abbrev pub read_at : List ℕ → ℕ → Result (Transaction × ℕ) TxFault
-read_at list at = placed list (tx_steps (drop at list))
+read_at list at = with_end list (tx_steps (drop at list))

@@ -23,7 +23,7 @@ impl Model for Bytes {
 }
 
 impl Bytes {
-    /// The list of these elements. Constant time, as `as_slice`.
+    /// The list of these elements. It takes a bounded number of steps, as `as_slice` does.
     pub fn of(list: Vec<u8>) -> Bytes
         ensures { result ≡ list.items }
     {
@@ -61,7 +61,7 @@ impl Model for Inputs {
 }
 
 impl Inputs {
-    /// The list of these elements. Constant time, as `as_slice`.
+    /// The list of these elements. It takes a bounded number of steps, as `as_slice` does.
     pub fn of(list: Vec<Input>) -> Inputs
         ensures { result ≡ list.items }
     {
@@ -101,7 +101,7 @@ impl Model for Outputs {
 }
 
 impl Outputs {
-    /// The list of these elements. Constant time, as `as_slice`.
+    /// The list of these elements. It takes a bounded number of steps, as `as_slice` does.
     pub fn of(list: Vec<Output>) -> Outputs
         ensures { result ≡ list.items }
     {
@@ -132,7 +132,7 @@ impl Model for Txs {
 }
 
 impl Txs {
-    /// The list of these elements. Constant time, as `as_slice`.
+    /// The list of these elements. It takes a bounded number of steps, as `as_slice` does.
     pub fn of(list: Vec<Tx>) -> Txs
         ensures { result ≡ list.items }
     {

@@ -47,11 +47,11 @@ pub(crate) fn is_next(before: Option<Outpoint>, outpoint: &Outpoint) -> bool
 
 /// A transaction's bytes, read field by field.
 #[derive(Drop)]
-pub(crate) struct Reader<'a> {
+pub(crate) struct TxReader<'a> {
     fields: Fields<'a>,
 }
 
-impl<'a> Model for Reader<'a> {
+impl<'a> Model for TxReader<'a> {
     ghost use Rattle.std.specs.Prelude.{List, ℕ};
 
     ghost Value = { List ℕ };
@@ -59,13 +59,13 @@ impl<'a> Model for Reader<'a> {
     ghost view = { λ r. r.fields };
 }
 
-impl<'a> Reader<'a> {
+impl<'a> TxReader<'a> {
     /// A reader of all of these bytes.
-    pub(crate) fn new(bytes: &'a [u8]) -> Reader<'a>
+    pub(crate) fn new(bytes: &'a [u8]) -> TxReader<'a>
         ensures all { result ≡ bytes.now }
         ensures bytes { IsBytes result }
     {
-        Reader {
+        TxReader {
             fields: Fields::of(bytes),
         }
     }

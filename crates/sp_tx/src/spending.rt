@@ -20,8 +20,8 @@ fn have_common(a: &[Input], b: &[Input]) -> bool
     a.iter().any(|input| spends(b, &input.from))
 }
 
-/// Whether two transactions have different ids and an outpoint in common. At most 256 pairs of
-/// outpoints are compared.
+/// Whether two transactions have different ids and an outpoint in common. It takes time
+/// in proportion to the product of the numbers of their inputs.
 pub fn conflicts(a: &Tx, a_id: &TxId, b: &Tx, b_id: &TxId) -> bool
     requires a_is { a_id.now ≡ id_of a.now }
     requires b_is { b_id.now ≡ id_of b.now }
@@ -30,8 +30,8 @@ pub fn conflicts(a: &Tx, a_id: &TxId, b: &Tx, b_id: &TxId) -> bool
     *a_id != *b_id && have_common(a.inputs.as_slice(), b.inputs.as_slice())
 }
 
-/// Whether the preimage's SHA-256 is the output's lock. The time is that of one pass over the
-/// preimage.
+/// Whether the preimage's SHA-256 is the output's lock. It takes time in proportion to the
+/// preimage's bytes.
 pub fn opens(input: &Input, output: &Output) -> bool
     ensures { IsTrue result ↔ (sha256_number input.now.preimage ≡ output.now.lock) }
 {

@@ -10,7 +10,7 @@ ghost use Rattle.sp_tx.specs.declared.fault.TxFault.{TxFault};
 use crate::check::check;
 use crate::fault::{TxFault, TxReadFault};
 use crate::list::{Inputs, Outputs};
-use crate::reader::Reader;
+use crate::reader::TxReader;
 use std::alloc::Global;
 use std::marker::Model;
 
@@ -40,7 +40,8 @@ impl Model for Tx {
 
 impl Tx {
     /// A transaction of these parts, the inputs sorted by outpoint, those of equal outpoints in
-    /// their order. The time is that of a sort of the inputs and of one pass over the parts.
+    /// their order. It takes about the time of a sort of the inputs, and time in proportion to the
+    /// parts' bytes.
     ///
     /// # Errors
     ///
@@ -81,13 +82,13 @@ fn tx_at(alloc: Global, bytes: &[u8], at: usize) -> Result<(Tx, usize), TxReadFa
     ensures { Answers result (read_at bytes.now at) }
 {
     let (_, from_here) = bytes.split_at(at);
-    let mut reader = Reader::new(from_here);
+    let mut reader = TxReader::new(from_here);
     let tx = reader.tx(alloc)?;
     Ok((tx, bytes.len() - reader.len()))
 }
 
-/// The transaction that the bytes from a place begin with, and the place behind it. The time is
-/// linear in the transaction's bytes.
+/// The transaction that the bytes from a place begin with, and the place behind it. It takes
+/// time in proportion to the transaction's bytes.
 ///
 /// # Errors
 ///

@@ -1,6 +1,0 @@
-use Rattle.std.proofs.Common.{◌∙◌}
-use Rattle.sp_block.proofs.Carried.{told_cause}
-use Rattle.sp_block.proofs.reader.Reader.next_tx.Goals as goal
-
-pub returns-in-Err-clause-fault : goal.returns-in-Err-clause-fault
-returns-in-Err-clause-fault c = rw c.told.ensures (told_cause c.args.self.now c.in-Err.fault (rw (c.rest.ensures ∙ c.self.view_is) at c.in-Err.ensures.fault))
