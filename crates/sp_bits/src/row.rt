@@ -119,8 +119,8 @@ impl Row {
         count_both(&self.places, &other.places)
     }
 
-    /// How many places it shares with `plus`, less how many it shares with `minus`: from -512 to
-    /// 512, in about 1,024 steps.
+    /// How many places it shares with `plus`, less how many it shares with `minus`, in about
+    /// 1,024 steps.
     pub fn balance(&self, plus: &Row, minus: &Row) -> i32
         ensures { result ≡
             pos (length (meet self.now plus.now)) -ℤ pos (length (meet self.now minus.now)) }

@@ -1,5 +1,5 @@
 -- The order of presence that is computed from the kept blocks is the one that the pool's answers tell.
-use Rattle.std.proofs.Common.{◌≡◌, ℕ, ◌≤◌, Bool, false, List, [], ◌∷◌, ◌++◌, length, refl, sym, ap, subst, ◌∙◌, arith, append_assoc, length-append}
+use Rattle.std.proofs.Common.{◌≡◌, ℕ, ◌≤◌, false, List, [], ◌∷◌, ◌++◌, length, refl, sym, ap, subst, ◌∙◌, arith, append_assoc, length-append}
 use Rattle.std.specs.List.{flat_map}
 use Rattle.std.proofs.Math.ListN.{length-map}
 use Rattle.std.proofs.lemmas.List.{append-nil}
@@ -11,7 +11,6 @@ use Rattle.sp_pool.specs.Offers.{AreAnswers, IsAnswer, Joins, order_of_presence,
 use Rattle.sp_pool.specs.declared.answers.Offer.{Offer}
 use Rattle.sp_pool.specs.declared.answers.Offer.TheVariants.{Known, Full, Waiting, Present}
 use Rattle.sp_pool.specs.declared.answers.Standing.{Standing}
-use Rattle.sp_pool.specs.declared.answers.Standing.TheVariants.{Fresh}
 use Rattle.sp_pool.proofs.Growth.{present_by_parents, present_kept, present_stays, present_waits, released}
 use Rattle.sp_pool.proofs.KeptBlocks.{AreApart-push}
 use Rattle.sp_pool.proofs.Runs.{present_alone, Releases-distinct}

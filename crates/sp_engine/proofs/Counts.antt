@@ -1,10 +1,9 @@
 -- Lists of different numbers: one within another is no longer, and two with the same members are as long. So the present blocks are counted by any list of them.
-use Rattle.std.proofs.Common.{◌≡◌, ℕ, zero, suc, ◌≤◌, Bool, true, false, cond, not, ◌||◌, List, [], ◌∷◌, length, refl, sym, ap, subst, ◌∙◌, eqb, arith}
+use Rattle.std.proofs.Common.{◌≡◌, ℕ, suc, ◌≤◌, Bool, true, false, cond, not, ◌||◌, List, [], ◌∷◌, length, refl, sym, ap, subst, ◌∙◌, eqb, arith}
 use Rattle.std.specs.Prelude.{filter}
-use Rattle.std.specs.List.{list_all}
 use Rattle.std.proofs.lemmas.Bool.{eq-eqb, false≢true, ne_eqb, not_from_false, or_left, or_right}
 use Rattle.sp_block.specs.Block.{ReadBlock}
-use Rattle.sp_model.specs.Graph.{AreDistinct, complete, Graph, has, keys, parents_of, rounds}
+use Rattle.sp_model.specs.Graph.{AreDistinct, has}
 use Rattle.sp_model.proofs.Distinct.{complete_distinct}
 use Rattle.sp_model.proofs.Sets.{has-filter_from}
 use Rattle.sp_pool.specs.Kept.{AreApart, graph_of, present}

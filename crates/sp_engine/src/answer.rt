@@ -15,8 +15,7 @@ pub enum Refusal {
 /// What becomes of bytes that arrive.
 #[derive(Clone, Copy, Debug, PartialEq, Eq)]
 pub enum Answer {
-    /// The block is kept now and present, and so many blocks became present, itself among them:
-    /// from 1 to 511.
+    /// The block is kept now and present, and so many blocks became present, itself among them.
     Kept { id: BlockId, present: u16 },
     /// The block is kept now and waits for an ancestor.
     Held { id: BlockId },

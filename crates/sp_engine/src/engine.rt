@@ -180,6 +180,8 @@ impl Engine {
         ensures order { (id : ℕ) →
             has (order_of self.now.kept) id ≡ has (present self.now.kept) id }
         ensures long { length (order_of self.now.kept) ≡ length (present self.now.kept) }
+        ensures some { 1 ≤ result }
+        ensures few { result ≤ 512 }
     {
         self.dag.len()
     }
@@ -187,7 +189,8 @@ impl Engine {
     /// How many kept blocks wait for an ancestor, from 0 to 511.
     pub fn waiting(&self) -> u16
         requires { self.now.broken ≡ false }
-        ensures { result + length (present self.now.kept) ≡ length self.now.kept }
+        ensures count { result + length (present self.now.kept) ≡ length self.now.kept }
+        ensures few { result ≤ 511 }
     {
         self.pool.kept() - self.dag.len()
     }

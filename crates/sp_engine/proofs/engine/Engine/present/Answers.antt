@@ -1,4 +1,4 @@
-use Rattle.std.proofs.Common.{◌∙◌, sym}
+use Rattle.std.proofs.Common.{◌∙◌, sym, arith}
 use Rattle.sp_engine.proofs.Facts.{engine_of, order_count, present_count}
 use Rattle.sp_engine.proofs.engine.Engine.present.Goals as goal
 
@@ -7,3 +7,9 @@ returns-clause-count c = c.len.ensures.value ∙ sym (present_count (engine_of c
 
 pub returns-clause-long : goal.returns-clause-long
 returns-clause-long c = order_count (engine_of c.self.view_is c.self.invariant c.requires)
+
+pub returns-clause-some : goal.returns-clause-some
+returns-clause-some c = omega (arith, c.len.ensures.numbered.some, c.len.ensures.value)
+
+pub returns-clause-few : goal.returns-clause-few
+returns-clause-few c = omega (arith, c.len.ensures.numbered.small, c.len.ensures.value)

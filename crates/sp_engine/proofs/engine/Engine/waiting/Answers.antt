@@ -7,8 +7,11 @@ overflow_sub-result c =
     let whole = ap (λ l. l.broken) c.self.view_is ∙ c.requires in
     omega (arith, few_present (c.self.invariant whole), c.len.ensures.value, c.kept.ensures.count)
 
-pub returns : goal.returns
-returns c =
+pub returns-clause-count : goal.returns-clause-count
+returns-clause-count c =
     let e = engine_of c.self.view_is c.self.invariant c.requires in
     let same = ap (λ l. length l.kept) c.self.view_is in
     omega (arith, few_present e, present_count e, same, c.len.ensures.value, c.kept.ensures.count)
+
+pub returns-clause-few : goal.returns-clause-few
+returns-clause-few c = omega (arith, c.kept.ensures.blocks.few, c.kept.ensures.count, c.len.ensures.numbered.some, c.len.ensures.value)
