@@ -1,7 +1,7 @@
 //! The one place where bytes are asked of a source.
 
 ghost use Rattle.std.specs.Prelude.{◌≡◌, ◌≤◌};
-ghost use Rattle.sp_feed.specs.Reads.{moment, Fills};
+ghost use Rattle.sp_feed.specs.Reads.{moment, Fills, IsQuiet};
 
 use crate::fault::FeedFault;
 use sp_io::Source;
@@ -24,6 +24,7 @@ pub(crate) fn fill<S: Source>(
         (moment (S.left source.old) (S.faults source.old) taken.old)
         (moment (S.left source.new) (S.faults source.new) taken.new)
         out.new result }
+    ensures quiet { IsQuiet (S.faults source.old) (S.faults source.new) result }
     ensures unasked { taken.old ≡ limit → source.new ≡ source.old }
 {
     let room = (limit - *taken) as usize;

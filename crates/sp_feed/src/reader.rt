@@ -4,7 +4,7 @@ ghost use Rattle.std.specs.Prelude.{◌≡◌, ◌<◌, Ok, IfOk, None, OnErr, O
 ghost use Rattle.sp_ids.specs.Key.{number_of};
 ghost use Rattle.sp_feed.specs.Calls.{GivesHead, GivesNext};
 ghost use Rattle.sp_feed.specs.Reader.{AtFrames, AtStart, Behind, Dead, head_in, is_behind, is_live, is_open, last_of, new_reader};
-ghost use Rattle.sp_feed.specs.Reads.{moment};
+ghost use Rattle.sp_feed.specs.Reads.{IsQuiet, IsQuietHead, moment};
 ghost use Rattle.sp_feed.specs.declared.message.Message.TheVariants.{Vote};
 
 use crate::fault::{FeedFault, HeadFault};
@@ -96,6 +96,7 @@ impl FeedReader {
             (moment (S.left source.old) (S.faults source.old) self.old.taken)
             (moment (S.left source.new) (S.faults source.new) self.new.taken)
             head_in result }
+        ensures quiet { IsQuietHead (S.faults source.old) (S.faults source.new) result }
         ensures unasked { self.old.limit ≡ 0 → source.new ≡ source.old }
         ensures ok { OnOk result (self.new.stage ≡ AtFrames) }
         ensures err { OnErr result (self.new.stage ≡ Dead) }
@@ -132,6 +133,7 @@ impl FeedReader {
             (moment (S.left source.old) (S.faults source.old) self.old.taken)
             (moment (S.left source.new) (S.faults source.new) self.new.taken)
             (λ _. last_of self.new.stage) result }
+        ensures quiet { IsQuiet (S.faults source.old) (S.faults source.new) result }
         ensures unasked { self.old.taken ≡ self.old.limit → source.new ≡ source.old }
         ensures progress { OnOk result
             ((self.old.stage ≡ Behind None → ⊥) → self.old.taken < self.new.taken) }

@@ -89,6 +89,7 @@ impl Node {
             (line_of self.old.bits self.old.kept said))) }
         ensures memory { result ≡ Err NodeFault.Memory → sink.new ≡ sink.old }
         ensures cause { IfErr result (HasCause (K.faults sink.old) (K.faults sink.new)) }
+        ensures quiet { result ≢ Err NodeFault.WriteFault → K.faults sink.new ≡ K.faults sink.old }
         ensures vote { (x y : ℕ) → told message.now ≡ Some (SaysVote x y)
             → result ≢ Err NodeFault.Memory }
         ensures later { K.faults sink.old ≤ K.faults sink.new }
@@ -138,6 +139,7 @@ impl Node {
             (line_of self.old.bits self.old.kept (SaysBlock bytes.now))) }
         ensures memory { result ≡ Err NodeFault.Memory → sink.new ≡ sink.old }
         ensures cause { IfErr result (HasCause (K.faults sink.old) (K.faults sink.new)) }
+        ensures quiet { result ≢ Err NodeFault.WriteFault → K.faults sink.new ≡ K.faults sink.old }
         ensures later { K.faults sink.old ≤ K.faults sink.new }
         ensures stopped { self.new.stopped ≡ is_err result }
     {
@@ -166,6 +168,7 @@ impl Node {
             (line_of self.old.bits self.old.kept (SaysVote x.now y.now))) }
         ensures never { result ≢ Err NodeFault.Memory }
         ensures cause { IfErr result (HasCause (K.faults sink.old) (K.faults sink.new)) }
+        ensures quiet { result ≢ Err NodeFault.WriteFault → K.faults sink.new ≡ K.faults sink.old }
         ensures later { K.faults sink.old ≤ K.faults sink.new }
         ensures stopped { self.new.stopped ≡ is_err result }
     {
