@@ -61,10 +61,13 @@ abbrev pub IsQuiet : {X : Type 0} → ℕ → ℕ → Result X FeedFault → Typ
 IsQuiet before now (Ok x) = now ≡ before
 IsQuiet before now (Err e) = QuietFault before now e
 
+abbrev pub QuietHeadFault : ℕ → ℕ → HeadFault → Type 0
+QuietHeadFault before now (Feed e) = QuietFault before now e
+QuietHeadFault before now Memory = now ≡ before
+
 abbrev pub IsQuietHead : {X : Type 0} → ℕ → ℕ → Result X HeadFault → Type 0
 IsQuietHead before now (Ok x) = now ≡ before
-IsQuietHead before now (Err (Feed e)) = QuietFault before now e
-IsQuietHead before now (Err Memory) = now ≡ before
+IsQuietHead before now (Err e) = QuietHeadFault before now e
 
 -- a buffer is filled by what was given, or less was given
 abbrev pub FillsBy : ℕ → Moment → Moment → List ℕ → List ℕ → Result (Unit {0}) FeedFault → Type 0

@@ -1,5 +1,6 @@
 -- What the answering of a feed and the line of its fault come to, by the input of a source that tells its bytes.
-use Rattle.std.proofs.Common.{◌≡◌, ◌≢◌, ℕ, List, [], ◌++◌, Option, Some, None, IfSome, Ok, Err, refl, ap, sym, subst, ◌∙◌, append_assoc}
+use Rattle.std.proofs.Common.{◌≡◌, ◌≢◌, ◌≤◌, ℕ, List, [], ◌++◌, drop, length, Option, Some, None, IfSome, Result, Ok, Err, refl, ap, sym, subst, ◌∙◌, append_assoc, arith}
+use Rattle.std.proofs.Math.Seq.{drop-append_seam}
 use Rattle.std.specs.Io.KnownBytes.{Appends, Consumes, IsAtEnd}
 use Rattle.std.proofs.lemmas.List.{append-nil}
 use Rattle.sp_feed.specs.Feed.{End, Malformed, TooLong, Truncated, Whole}
@@ -7,10 +8,13 @@ use Rattle.sp_feed.specs.Reads.{Moment}
 use Rattle.sp_feed.specs.declared.fault.FeedFault.{FeedFault}
 use Rattle.sp_feed.specs.declared.fault.FeedFault.TheVariants as faults
 use Rattle.sp_io.specs.Whole.{AppendsFront, Wrote}
-use Rattle.sp_io.proofs.Writing.{appends_then, wrote_stops}
+use Rattle.sp_io.proofs.Writing.{appends_then, at_least_then, wrote_stops}
+use Rattle.sp_feed.proofs.Rests.{feed_long}
 use Rattle.spectre.specs.Faults.{EndsMalformed, EndsTooLong, EndsTruncated, EndsWhole, fault_text, rest_behind, status_of}
-use Rattle.spectre.specs.Replay.{end_text, fed, replayed, replied}
+use Rattle.spectre.specs.Replay.{end_text, fed, feed_limit, replayed, replied}
 use Rattle.spectre.specs.Replaying.{Replies}
+use Rattle.spectre.specs.Taken.{TakesFeed}
+use Rattle.spectre.specs.declared.replay.ReplayFault.{ReplayFault}
 use Rattle.spectre.specs.declared.replay.ReplayFault.TheVariants.{Feed, WriteFault, Memory}
 use Rattle.spectre.specs.declared.status.Status.{Status}
 use Rattle.spectre.specs.declared.status.Status.TheVariants as status
@@ -56,6 +60,20 @@ module _ {start now : Moment} {old new : Option (List ℕ)} where
 
   pub memory_text : Replies start now old new (Err Memory) → IfSome start.left (λ input. AppendsFront old new (replayed input))
   memory_text r = with_input (λ input. AppendsFront old new (replayed input)) start.left now.left r.given r.took.consumed (λ rest e. front_text (r.given ++ rest) (r.says rest))
+
+  -- so much was taken, and that was written by then
+  pub takes : {r : Result (Unit {0}) ReplayFault} → Replies start now old new r → TakesFeed start.left now.left old new
+  takes r = record { given = r.given; consumed = r.took.consumed; within = omega (arith, r.took.counted, r.took.within); needed = r.needed; answered = r.answered }
+
+-- and then a line, or a front of it
+pub takes_then : (before after old mid new : Option (List ℕ)) (line : List ℕ) → TakesFeed before after old mid → AppendsFront mid new line → TakesFeed before after old new
+takes_then before after old mid new line t h = record {
+  given = t.given;
+  consumed = t.consumed;
+  within = t.within;
+  needed = t.needed;
+  answered = λ front rest e l. at_least_then old mid new (replied front) h.1.front (t.answered front rest e l) h.1.appended;
+}
 
 -- a fault's line follows the lines of the messages
 module _ (old mid new : Option (List ℕ)) where
@@ -125,6 +143,29 @@ is_read_fault (faults.Truncated at) s = absurd cc
 is_read_fault faults.ReadFault s = refl
 is_read_fault (faults.TooLong taken) s = absurd cc
 
+-- a status other than that of a failed write is that of the fault
+pub by_status : (e : FeedFault) (result s : Status) → (s ≡ status.WriteFault → ⊥) → (result ≢ status.WriteFault → result ≡ status_of e) → result ≡ s → status_of e ≡ s
+by_status e result s no_write told is = sym (told (λ h. no_write (sym is ∙ h))) ∙ is
+
+module _ {start now : Moment} {old mid : Option (List ℕ)} where
+  -- a feed that ends too early leaves nothing
+  pub nothing_left : (e : FeedFault) → Replies start now old mid (Err (Feed e)) → status_of e ≡ status.Truncated → IfSome start.left (λ input. now.left ≡ Some [])
+  nothing_left (faults.Malformed at) r s = absurd cc
+  nothing_left (faults.Truncated at) r s = with_input (λ input. now.left ≡ Some []) start.left now.left r.given r.took.consumed (λ rest e. e ∙ ap (λ (t : List ℕ). Some t) (subst IsAtEnd e r.says.1))
+  nothing_left faults.ReadFault r s = absurd cc
+  nothing_left (faults.TooLong taken) r s = absurd cc
+
+  -- of one that is too long the bytes of the limit are taken
+  pub limit_taken : (e : FeedFault) → Replies start now old mid (Err (Feed e)) → status_of e ≡ status.TooLong → IfSome start.left (λ input. now.left ≡ Some (drop feed_limit input))
+  limit_taken (faults.Malformed at) r s = absurd cc
+  limit_taken (faults.Truncated at) r s = absurd cc
+  limit_taken faults.ReadFault r s = absurd cc
+  limit_taken (faults.TooLong taken) r s =
+      let long : feed_limit ≤ length r.given = feed_long feed_limit r.given taken (ap (λ bytes. (fed bytes).end) (sym (append-nil r.given)) ∙ (r.says []).1) in
+      let all : length r.given ≡ feed_limit = omega (arith, long, r.took.counted, r.took.within) in
+      with_input (λ input. now.left ≡ Some (drop feed_limit input)) start.left now.left r.given r.took.consumed (λ rest e.
+      e ∙ ap (λ (t : List ℕ). Some t) (sym (ap (λ n. drop n (r.given ++ rest)) (sym all) ∙ drop-append_seam r.given rest)))
+
 module _ {start now : Moment} {old mid : Option (List ℕ)} where
   -- the line of a fault was written, which gives this status
   pub fault_told : (new : Option (List ℕ)) (e : FeedFault) (result s : Status) (Q : End → Type 0) → ((end : End) → status_of e ≡ s → Ends e end → Q end) → (s ≡ status.WriteFault → ⊥) → (s ≡ status.ReadFault → ⊥)
@@ -132,11 +173,11 @@ module _ {start now : Moment} {old mid : Option (List ℕ)} where
       → result ≡ s → IfSome start.left (λ input. Appends old new (replayed input) × Q (fed input).end)
   fault_told new e result s Q ends no_write no_read r told text is =
       let written : result ≢ status.WriteFault = λ h. no_write (sym is ∙ h) in
-      let by : status_of e ≡ s = sym (told written) ∙ is in
+      let by : status_of e ≡ s = by_status e result s no_write told is in
       if_some start.left (λ input. Appends old new (replayed input) × Ends e (fed input).end) (λ input. Appends old new (replayed input) × Q (fed input).end) (λ input h. (h.0, ends (fed input).end by h.1))
       (fault_written new e r (λ h. no_read (sym by ∙ ap status_of h)) (text written))
 
   -- its line wasn't written whole
-  pub fault_untold : (new : Option (List ℕ)) (e : FeedFault) (result : Status) → Replies start now old mid (Err (Feed e)) → (result ≡ status.WriteFault → AppendsFront mid new (fault_text e)) → (e ≡ faults.ReadFault → result ≡ status.ReadFault)
+  pub fault_untold : (new : Option (List ℕ)) (e : FeedFault) (result : Status) → Replies start now old mid (Err (Feed e)) → AppendsFront mid new (fault_text e) → (e ≡ faults.ReadFault → result ≡ status.ReadFault)
       → result ≡ status.WriteFault → IfSome start.left (λ input. AppendsFront old new (replayed input))
-  fault_untold new e result r front quiet is = fault_front new e r (λ h. let no : status.WriteFault ≡ status.ReadFault = sym is ∙ quiet h in absurd cc) (front is)
+  fault_untold new e result r front other is = fault_front new e r (λ h. let no : status.WriteFault ≡ status.ReadFault = sym is ∙ other h in absurd cc) front

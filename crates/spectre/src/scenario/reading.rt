@@ -1,7 +1,8 @@
 //! The reading of a whole scenario from a source, up to the limit of its bytes.
 
-ghost use Rattle.std.specs.Prelude.{◌≡◌, ◌<◌, ◌≤◌, IfOk, IfErr, vec_len};
+ghost use Rattle.std.specs.Prelude.{◌≡◌, ◌≢◌, ◌<◌, Err, IfOk, IfErr, vec_len};
 ghost use Rattle.std.specs.Io.KnownBytes.{Consumes, IsAtEnd};
+ghost use Rattle.sp_io.specs.Whole.{ConsumesUpTo};
 ghost use Rattle.spectre.specs.Reading.{HasReadCause};
 ghost use Rattle.spectre.specs.Words.{scenario_limit};
 
@@ -43,7 +44,8 @@ pub fn read_scenario<S: Source>(alloc: Global, source: &mut S) -> Result<Vec<u8>
     ensures end { IfOk result (λ _. IsAtEnd (S.left source.new)) }
     ensures short { IfOk result (λ text. vec_len text < scenario_limit) }
     ensures cause { IfErr result (HasReadCause (S.left source.old) (S.left source.new) (S.faults source.old) (S.faults source.new)) }
-    ensures later { S.faults source.old ≤ S.faults source.new }
+    ensures taken { ConsumesUpTo (S.left source.old) (S.left source.new) scenario_limit }
+    ensures quiet { result ≢ Err ScenarioFault.ReadFault → S.faults source.new ≡ S.faults source.old }
 {
     let limit = LIMIT as usize;
     let mut text = Vec::new(alloc);
