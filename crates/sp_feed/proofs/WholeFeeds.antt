@@ -11,7 +11,7 @@ use Rattle.sp_feed.specs.Format.{Head}
 use Rattle.sp_feed.specs.Reads.{Moment, moment, Took}
 use Rattle.sp_feed.specs.Reader.{Stage, AtStart, AtFrames, Behind, Dead, is_open, is_behind}
 use Rattle.sp_feed.specs.Calls.{SaysFault, SaysHead, GivesHead, GivesNext, SaysAll, GivesAll, BeginsWith, IsFeed, ReadsFeed}
-use Rattle.sp_feed.specs.Told.{told}
+use Rattle.sp_feed.specs.Messages.{said_by}
 use Rattle.sp_feed.specs.declared.message.Message.{Message}
 use Rattle.sp_feed.specs.declared.message.Message.TheVariants as variants
 use Rattle.std.proofs.lemmas.List.{append-nil}
@@ -182,7 +182,7 @@ behind_open (Behind frame) h = refl
 behind_open Dead h = absurd (cc h)
 
 -- a message that isn't the end says something
-pub tells : (m : Message) → (m ≡ variants.End → ⊥) → (s : Said) × (told m ≡ Some s)
+pub tells : (m : Message) → (m ≡ variants.End → ⊥) → (s : Said) × (said_by m ≡ Some s)
 tells (variants.Block bytes) h = (_, refl)
 tells (variants.Vote x y) h = (_, refl)
 tells variants.End h = absurd (h refl)

@@ -6,12 +6,11 @@ ghost use Rattle.sp_feed.specs.Reads.{moment, Fills, IsQuiet};
 use crate::fault::FeedFault;
 use sp_io::Source;
 
-/// Fills `out` from the source and counts the bytes taken, with as few calls as the source allows.
-/// The source isn't asked for a byte behind the limit.
+/// Fills `out` from the source and counts the bytes taken. No byte behind the limit is taken.
 ///
 /// # Errors
 ///
-/// `ReadFault` at the first call that fails, `Truncated` at the end of the source, and `TooLong`
+/// `ReadFault` where a call of the source fails, `Truncated` at the end of the source, and `TooLong`
 /// where `out` has room for more than the limit allows and the source gave all up to it.
 pub(crate) fn fill<S: Source>(
     source: &mut S,

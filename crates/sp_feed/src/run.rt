@@ -7,7 +7,7 @@ ghost use Rattle.sp_feed.specs.Feed.{feed};
 ghost use Rattle.sp_feed.specs.Kinds.{messages_of, Said};
 ghost use Rattle.sp_feed.specs.Reader.{head_in};
 ghost use Rattle.sp_feed.specs.Reads.{IsQuietHead, moment};
-ghost use Rattle.sp_feed.specs.Told.{told};
+ghost use Rattle.sp_feed.specs.Messages.{said_by};
 
 use crate::fault::HeadFault;
 use crate::head::FeedHead;
@@ -22,10 +22,10 @@ pub trait Visitor {
     // The messages that it saw.
     ghost seen: { Self → List Said };
 
-    /// Takes a message in. A refusal changes nothing.
+    /// Takes a message in, which isn't the end. After a refusal it has seen no more than before.
     fn visit(&mut self, message: &Message<'_>) -> Result<(), Memory>
-        requires told { IsSome (told message.now) }
-        ensures ok { OnOk result (seen self.new ≡ seen self.old ++ messages_of (told message.now)) }
+        requires before_end { IsSome (said_by message.now) }
+        ensures ok { OnOk result (seen self.new ≡ seen self.old ++ messages_of (said_by message.now)) }
         ensures err { OnErr result (seen self.new ≡ seen self.old) };
 }
 

@@ -25,7 +25,7 @@ use Rattle.sp_io.specs.Whole.{AppendsAtLeast, AppendsFront, Wrote}
 use Rattle.sp_io.proofs.Writing.{appends_then, at_least, at_least_then, wrote_none, wrote_stops}
 use Rattle.sp_node.specs.declared.fault.NodeFault.{NodeFault}
 use Rattle.sp_node.specs.declared.fault.NodeFault.TheVariants as nodes
-use Rattle.sp_node.specs.Node.{HasCause}
+use Rattle.sp_node.specs.Node.{HasNodeCause}
 use Rattle.sp_node.specs.Answers.{answers, arrivals_of, kept_then, line, line_of}
 use Rattle.sp_node.proofs.AnswerLists.{answers-append, answers-push, kept_then_by_all}
 use Rattle.spectre.specs.Replay.{fed, feed_limit, lines_by, lines_under, message_lines, replied}
@@ -230,7 +230,7 @@ not_answered {start = start} {mid = mid} {now = now} {old = old} {seen = seen} {
           wrote_stops here behind w (subst (λ (l : List ReadBlock). AppendsFront seen new (line_of bits l m)) a.kept_is front));
     }
 
-pub stop_cause : (e : NodeFault) (before mid now : ℕ) → mid ≡ before → HasCause mid now e → HasWriteCause before now (of_node e)
+pub stop_cause : (e : NodeFault) (before mid now : ℕ) → mid ≡ before → HasNodeCause mid now e → HasWriteCause before now (of_node e)
 stop_cause nodes.WriteFault before mid now same rose = omega (arith, same, rose)
 stop_cause nodes.Memory before mid now same rose = tt
 

@@ -83,11 +83,11 @@ beyond (Some Play) input = drop scenario_limit input
 beyond (Some Replay) input = drop feed_limit input
 
 -- the line of a feed's fault, and the status that it gives
-abbrev pub fault_text : FeedFault → List ℕ
-fault_text (faults.Malformed at) = malformed_text at
-fault_text (faults.Truncated at) = truncated_text at
-fault_text faults.ReadFault = []
-fault_text (faults.TooLong taken) = too_long_text taken
+abbrev pub feed_fault_text : FeedFault → List ℕ
+feed_fault_text (faults.Malformed at) = malformed_text at
+feed_fault_text (faults.Truncated at) = truncated_text at
+feed_fault_text faults.ReadFault = []
+feed_fault_text (faults.TooLong taken) = too_long_text taken
 
 abbrev pub status_of : FeedFault → Status
 status_of (faults.Malformed at) = status.Malformed

@@ -20,11 +20,12 @@ use sp_io::{Sink, Source};
 use std::alloc::Global;
 
 /// Runs the program on the words after its name, and answers how the run ended. `play` reads its
-/// scenario from `source` to the end before it writes the first line to `sink`; it takes time in
-/// proportion to the scenario's bytes, and for n blocks at most n^4 steps for each block and for
-/// each question that follows one. `replay` reads a feed from `source` message by message and
-/// writes the line of each to `sink` before it reads the next; it takes at most n^5 steps for a
-/// block that makes n blocks present, and a look-up for each question.
+/// scenario from `source` to the end before it writes the first line to `sink`, and `replay` reads a
+/// feed message by message and writes the line of each before it takes a byte of the next.
+///
+/// No clause speaks of time. `play` takes about n^4 steps for the nth block and for each question
+/// that follows a block, and `replay` about n^5 for an arrival after which n blocks are
+/// present, if any became so.
 pub fn run<S: Source, K: Sink>(
     alloc: Global,
     words: &[String],

@@ -1,5 +1,5 @@
 //! The playing of a scenario: it is read whole, and then answered line by line up to its first
-//! fault, each answer written before the next line is judged.
+//! fault.
 
 ghost use Rattle.std.specs.Prelude.{◌≡◌, ◌≢◌, ◌<◌, ◌≤◌, [], ℕ, drop, length, Err, IfErr, IfOk, IfSome, IsNone, IsSome, OnErr, OnOk, Some, vec_len};
 ghost use Rattle.std.specs.Io.KnownBytes.{Appends};

@@ -1,5 +1,5 @@
 //! The answering of a feed: message by message up to its end or its first fault, each line written
-//! before the next message is read.
+//! before a byte of the next message is taken.
 
 ghost use Rattle.std.specs.Prelude.{◌≡◌, ◌≢◌, ◌∷◌, [], ℕ, true, drop, Err, IfErr, IfOk, IfSome, List, Ok, Some};
 ghost use Rattle.std.specs.Io.KnownBytes.{Appends, Consumes};
@@ -9,7 +9,7 @@ ghost use Rattle.sp_engine.specs.Blocks.{block_in};
 ghost use Rattle.sp_feed.specs.Reads.{moment};
 ghost use Rattle.sp_node.specs.Node.{state};
 ghost use Rattle.spectre.specs.Ends.{Replays};
-ghost use Rattle.spectre.specs.Faults.{EndsMalformed, EndsTooLong, EndsTruncated, EndsWhole, fault_text, rest_behind, status_of};
+ghost use Rattle.spectre.specs.Faults.{EndsMalformed, EndsTooLong, EndsTruncated, EndsWhole, feed_fault_text, rest_behind, status_of};
 ghost use Rattle.spectre.specs.Replay.{fed, feed_limit, replayed, replied};
 ghost use Rattle.spectre.specs.Replaying.{HasWriteCause, Replies};
 ghost use Rattle.spectre.specs.Taken.{TakesFeed};
@@ -125,7 +125,7 @@ fn answer_messages<S: Source, K: Sink>(
 
 /// The line of a feed's fault; none where a read failed.
 fn line_of(fault: FeedFault) -> Line
-    ensures { result ≡ fault_text fault }
+    ensures { result ≡ feed_fault_text fault }
 {
     match fault {
         FeedFault::Malformed { at } => malformed_line(at),
@@ -148,11 +148,11 @@ fn status_by(fault: FeedFault) -> Status
 }
 
 /// Writes the line of a feed's fault.
-fn tell<K: Sink>(fault: FeedFault, sink: &mut K) -> Status
+fn write_fault<K: Sink>(fault: FeedFault, sink: &mut K) -> Status
     ensures status { result ≢ Status.WriteFault → result ≡ status_of fault }
     ensures text { result ≢ Status.WriteFault →
-        Appends (K.taken sink.old) (K.taken sink.new) (fault_text fault) }
-    ensures front { AppendsFront (K.taken sink.old) (K.taken sink.new) (fault_text fault) }
+        Appends (K.taken sink.old) (K.taken sink.new) (feed_fault_text fault) }
+    ensures front { AppendsFront (K.taken sink.old) (K.taken sink.new) (feed_fault_text fault) }
     ensures cause { result ≡ Status.WriteFault → Rose (K.faults sink.old) (K.faults sink.new) }
     ensures quiet { result ≢ Status.WriteFault → K.faults sink.new ≡ K.faults sink.old }
     ensures read_fault { fault ≡ FeedFault.ReadFault → result ≡ Status.ReadFault }
@@ -165,8 +165,8 @@ fn tell<K: Sink>(fault: FeedFault, sink: &mut K) -> Status
 }
 
 /// Answers a feed: one line for each message, and then the line of the feed's fault, where it has
-/// one. What follows the frame `E` stays unread. It takes the time of the engine for each block,
-/// and a look-up for each question.
+/// one. What follows the frame `E` stays unread. It takes about the time of the engine for each
+/// block.
 pub fn replay<S: Source, K: Sink>(alloc: Global, source: &mut S, sink: &mut K) -> Status
     ensures done { result ≡ Status.Done → IfSome (S.left source.old) (λ input.
         Appends (K.taken sink.old) (K.taken sink.new) (replayed input) × EndsWhole (fed input).end) }
@@ -205,7 +205,7 @@ pub fn replay<S: Source, K: Sink>(alloc: Global, source: &mut S, sink: &mut K) -
 {
     match answer_messages(alloc, source, sink) {
         Ok(()) => Status::Done,
-        Err(ReplayFault::Feed(fault)) => tell(fault, sink),
+        Err(ReplayFault::Feed(fault)) => write_fault(fault, sink),
         Err(ReplayFault::WriteFault) => Status::WriteFault,
         Err(ReplayFault::Memory) => Status::Memory,
     }

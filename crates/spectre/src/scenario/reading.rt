@@ -34,11 +34,10 @@ impl From<AllocError> for ScenarioFault {
 /// A scenario has fewer bytes than this.
 const LIMIT: u32 = 16_777_216;
 
-/// How many bytes are asked for at a time.
+/// How many bytes are asked for at a time, at most.
 const PIECE: usize = 4096;
 
-/// Reads a source to its end, or until 16,777,216 bytes are taken; it isn't asked for more. Each
-/// turn takes a byte or ends.
+/// Reads a source to its end, or until 16,777,216 bytes are taken, and takes no more.
 pub fn read_scenario<S: Source>(alloc: Global, source: &mut S) -> Result<Vec<u8>, ScenarioFault>
     ensures bytes { IfOk result (λ text. Consumes (S.left source.old) (S.left source.new) text.items) }
     ensures end { IfOk result (λ _. IsAtEnd (S.left source.new)) }
