@@ -23,7 +23,7 @@ took_then limit a b c xs ys p q = record {
 abbrev SaysFirst : {A : Type 0} → ℕ → ℕ → ℕ → Form Flaw A → A → List ℕ → Type 0
 SaysFirst limit before now form x given = (more : List ℕ) → placed form (judged limit before (given ++ more)) ≡ Got x (judged limit now more)
 
--- why it stops is told of the whole
+-- why it stops is why the whole does
 stops_then : (limit : ℕ) (a b c : Moment) (e : FeedFault) → a.faults ≤ b.faults → StopsShort limit b c e → StopsShort limit a c e
 stops_then limit a b c (Malformed at) h s = s
 stops_then limit a b c (Truncated at) h s = s

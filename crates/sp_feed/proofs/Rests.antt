@@ -1,10 +1,10 @@
 -- A feed and its rest, by what stands next.
-use Rattle.std.proofs.Common.{◌≡◌, ℕ, ◌+◌, ◌-◌, ◌<◌, ◌≤◌, List, ◌∷◌, ◌++◌, length, take, drop, Option, Some, None, ap, sym, ◌∙◌, cond, arith, length-append, take-append-drop}
+use Rattle.std.proofs.Common.{◌≡◌, ℕ, ◌+◌, ◌-◌, ◌<◌, ◌≤◌, Bool, true, false, nat_le, refl, List, ◌∷◌, ◌++◌, length, take, drop, Option, Some, None, ap, sym, ◌∙◌, cond, arith, length-append, take-append-drop}
 use Rattle.std.proofs.Math.Seq.{drop-append-add}
 use Rattle.std.proofs.lemmas.Bool.{le-leb, lt-leb}
 use Rattle.sp_form.specs.Places.{Got, Faulty, Placed, placed, Short}
 use Rattle.sp_feed.specs.Kinds.{Said}
-use Rattle.sp_feed.specs.Feed.{after_frame, all_frames, Cut, end_of, Ended, feed, feed_of, judged, Malformed, no_head, no_more, rest_by, rest_of, run_of, Stop, TooLong, Truncated, Whole, with_head}
+use Rattle.sp_feed.specs.Feed.{after_frame, all_frames, Broken, Cut, end_of, Ended, Feed, feed, feed_of, judged, Malformed, no_head, no_more, rest_by, rest_of, run_of, Stop, TooLong, Truncated, Whole, with_head}
 use Rattle.sp_feed.specs.Format.{frame_form, Head, head_form}
 use Rattle.sp_feed.proofs.FrameRuns.{frame_by_frame}
 
@@ -83,3 +83,24 @@ feed_truncated limit now bytes p e h = feed_at limit bytes _ p ∙ ap (λ k. no_
 
 pub feed_too_long : (limit : ℕ) (bytes : List ℕ) → placed head_form (judged limit 0 bytes) ≡ Short → limit ≤ length bytes → feed limit bytes ≡ no_head (TooLong limit)
 feed_too_long limit bytes p h = feed_at limit bytes _ p ∙ ap (λ b. no_head (cond b (TooLong limit) (Truncated (length bytes)))) (le-leb limit (length bytes) h)
+
+-- a list that is too long has the bytes of the limit
+
+tested_long : (limit total taken : ℕ) (test : Bool) → nat_le limit total ≡ test → cond test (TooLong limit) (Truncated total) ≡ TooLong taken → limit ≤ total
+tested_long limit total taken true is e = grind arith
+tested_long limit total taken false is e = absurd cc
+
+ends_long : (limit total : ℕ) (beyond : List ℕ) (stop : Stop) (taken : ℕ) → end_of limit total beyond stop ≡ TooLong taken → limit ≤ total
+ends_long limit total beyond (Ended rest) taken e = absurd cc
+ends_long limit total beyond (Broken at) taken e = absurd cc
+ends_long limit total beyond Cut taken e = tested_long limit total taken (nat_le limit total) refl e
+
+placed_long : (limit total : ℕ) (beyond : List ℕ) (o : Placed Head) (taken : ℕ) → (feed_of o (end_of limit total beyond)).end ≡ TooLong taken → limit ≤ total
+placed_long limit total beyond (Got head rest) taken e = ends_long limit total beyond (all_frames rest).stop taken e
+placed_long limit total beyond (Faulty at) taken e = ends_long limit total beyond (Broken at) taken e
+placed_long limit total beyond Short taken e = ends_long limit total beyond Cut taken e
+
+pub feed_long : (limit : ℕ) (list : List ℕ) (taken : ℕ) → (feed limit list).end ≡ TooLong taken → limit ≤ length list
+feed_long limit list taken e =
+    let is : feed limit list ≡ feed_of (placed head_form (judged limit 0 list)) (end_of limit (length list) (drop limit list)) = feed_at limit list _ refl in
+    placed_long limit (length list) (drop limit list) (placed head_form (judged limit 0 list)) taken (ap (λ (f : Feed). f.end) (sym is) ∙ e)

@@ -11,7 +11,7 @@ use Rattle.sp_feed.specs.Format.{Head}
 use Rattle.sp_feed.specs.Reads.{Moment, moment, Took}
 use Rattle.sp_feed.specs.Reader.{Stage, AtStart, AtFrames, Behind, Dead, is_open, is_behind}
 use Rattle.sp_feed.specs.Calls.{SaysFault, SaysHead, GivesHead, GivesNext, SaysAll, GivesAll, BeginsWith, IsFeed, ReadsFeed}
-use Rattle.sp_feed.specs.Told.{told}
+use Rattle.sp_feed.specs.Messages.{said_by}
 use Rattle.sp_feed.specs.declared.message.Message.{Message}
 use Rattle.sp_feed.specs.declared.message.Message.TheVariants as variants
 use Rattle.std.proofs.lemmas.List.{append-nil}
@@ -35,7 +35,7 @@ pub record SoFar (limit : ℕ) (start now : Moment) (h : Head) (before after : L
   pub whole : start.taken ≡ 0
   pub needs : NeedsAll limit given
 
-pub so_far_head : {X : Type 0} {limit : ℕ} {start now : Moment} {view : X → Head} {x : X} (before : List Said) → start.taken ≡ 0 → GivesHead limit start now view (Ok x) → SoFar limit start now (view x) before before
+unfoldable pub so_far_head : {X : Type 0} {limit : ℕ} {start now : Moment} {view : X → Head} {x : X} (before : List Said) → start.taken ≡ 0 → GivesHead limit start now view (Ok x) → SoFar limit start now (view x) before before
 so_far_head {limit = limit} {now = now} {view = view} {x = x} before z g = record {
   given = g.given;
   took = g.took;
@@ -56,8 +56,12 @@ needs_more limit now h messages xs ys e f g k front rest split l =
           ap (λ bytes. (feed limit bytes).end) s.1 ∙ ap (λ (f : Feed). f.end) (g s.0) ∙ ap (λ (r : Rest). r.end) (k s.0 rest s.2 l) ∙ ap (λ n. Truncated n) long)
     ]
 
+-- nor would one of the bytes so far and those of the next call
+pub needs_next : {X : Type 0} {limit : ℕ} {start mid now : Moment} {view : X → Option Said} {r : Result X FeedFault} {h : Head} {before after : List Said} (f : SoFar limit start mid h before after) (g : GivesNext limit mid now view r) → NeedsAll limit (f.given ++ g.given)
+needs_next {limit = limit} {mid = mid} {h = h} f g = needs_more limit mid.taken h f.messages f.given g.given (omega (arith, f.took.counted, f.whole)) f.needs f.says g.needs
+
 -- one message more
-pub so_far_more : {X : Type 0} {limit : ℕ} {start mid now : Moment} {view : X → Option Said} {x : X} {h : Head} {before after : List Said} (m : Said) (new : List Said) → SoFar limit start mid h before after → GivesNext limit mid now view (Ok x) → view x ≡ Some m → new ≡ after ++ m ∷ [] → SoFar limit start now h before new
+unfoldable pub so_far_more : {X : Type 0} {limit : ℕ} {start mid now : Moment} {view : X → Option Said} {x : X} {h : Head} {before after : List Said} (m : Said) (new : List Said) → SoFar limit start mid h before after → GivesNext limit mid now view (Ok x) → view x ≡ Some m → new ≡ after ++ m ∷ [] → SoFar limit start now h before new
 so_far_more {limit = limit} {start = start} {mid = mid} {now = now} {view = view} {x = x} {h = h} {before = before} {after = after} m new f g e s = record {
   given = f.given ++ g.given;
   took = took_then limit start mid now f.given g.given f.took g.took;
@@ -68,16 +72,16 @@ so_far_more {limit = limit} {start = start} {mid = mid} {now = now} {view = view
       ∙ ap (onto h f.messages) (g.says more ∙ ap (λ t. after_frame limit now.taken t more) e)
       ∙ ap (λ t. record { head = Some h; messages = t; end = (rest_of limit now.taken more).end }) (sym (append_assoc f.messages (m ∷ []) (rest_of limit now.taken more).messages));
   whole = f.whole;
-  needs = needs_more limit mid.taken h f.messages f.given g.given (omega (arith, f.took.counted, f.whole)) f.needs f.says g.needs;
+  needs = needs_next f g;
 }
 
 -- whatever follows, the messages so far come first
-begins_more : (limit now : ℕ) (h : Head) (messages : List Said) (xs ys more : List ℕ) → ((more : List ℕ) → feed limit (xs ++ more) ≡ onto h messages (rest_of limit now more)) → BeginsWith (feed limit ((xs ++ ys) ++ more)).messages messages
+pub begins_more : (limit now : ℕ) (h : Head) (messages : List Said) (xs ys more : List ℕ) → ((more : List ℕ) → feed limit (xs ++ more) ≡ onto h messages (rest_of limit now more)) → BeginsWith (feed limit ((xs ++ ys) ++ more)).messages messages
 begins_more limit now h messages xs ys more f =
     ((rest_of limit now (ys ++ more)).messages, ap (λ (r : Feed). r.messages) (ap (feed limit) (append_assoc xs ys more) ∙ f (ys ++ more)))
 
 -- the end
-pub all_end : {X Y : Type 0} {limit : ℕ} {start mid now : Moment} {view : X → Option Said} {x : X} {h : Head} {before after : List Said} (of : Y → Head) (y : Y) → SoFar limit start mid h before after → GivesNext limit mid now view (Ok x) → view x ≡ None → h ≡ of y → GivesAll limit start now of before after (Ok y)
+unfoldable pub all_end : {X Y : Type 0} {limit : ℕ} {start mid now : Moment} {view : X → Option Said} {x : X} {h : Head} {before after : List Said} (of : Y → Head) (y : Y) → SoFar limit start mid h before after → GivesNext limit mid now view (Ok x) → view x ≡ None → h ≡ of y → GivesAll limit start now of before after (Ok y)
 all_end {limit = limit} {start = start} {mid = mid} {now = now} {h = h} of y f g e k = record {
   given = f.given ++ g.given;
   took = took_then limit start mid now f.given g.given f.took g.took;
@@ -88,7 +92,7 @@ all_end {limit = limit} {start = start} {mid = mid} {now = now} {h = h} of y f g
       ap (feed limit) (append_assoc f.given g.given more) ∙ f.says (g.given ++ more)
       ∙ ap (onto h f.messages) (g.says more ∙ ap (λ t. after_frame limit now.taken t more) e)
       ∙ ap (λ t. record { head = Some h; messages = t; end = Whole more }) (append-nil f.messages) ∙ ap (λ t. record { head = Some t; messages = f.messages; end = Whole more }) k;
-  needs = needs_more limit mid.taken h f.messages f.given g.given (omega (arith, f.took.counted, f.whole)) f.needs f.says g.needs;
+  needs = needs_next f g;
 }
 
 -- a fault says of the whole what it says of the rest
@@ -106,7 +110,7 @@ all_fault {limit = limit} {start = start} {mid = mid} {now = now} {h = h} {e = e
   seen = f.seen;
   begins = λ more. begins_more limit mid.taken h f.messages f.given g.given more f.says;
   says = (Some h, fault_onto limit start mid now h f.messages f.given g.given e f.took.later f.says g.says);
-  needs = needs_more limit mid.taken h f.messages f.given g.given (omega (arith, f.took.counted, f.whole)) f.needs f.says g.needs;
+  needs = needs_next f g;
 }
 
 -- a fault of the head is one of the whole
@@ -134,7 +138,7 @@ all_refused {limit = limit} {start = start} {mid = mid} {now = now} {h = h} of m
   seen = s ∙ f.seen;
   begins = λ more. begins_more limit mid.taken h f.messages f.given g.given more f.says;
   says = tt;
-  needs = needs_more limit mid.taken h f.messages f.given g.given (omega (arith, f.took.counted, f.whole)) f.needs f.says g.needs;
+  needs = needs_next f g;
 }
 
 consumes_nothing : (a : Option (List ℕ)) → Consumes a a []
@@ -178,7 +182,7 @@ behind_open (Behind frame) h = refl
 behind_open Dead h = absurd (cc h)
 
 -- a message that isn't the end says something
-pub tells : (m : Message) → (m ≡ variants.End → ⊥) → (s : Said) × (told m ≡ Some s)
+pub tells : (m : Message) → (m ≡ variants.End → ⊥) → (s : Said) × (said_by m ≡ Some s)
 tells (variants.Block bytes) h = (_, refl)
 tells (variants.Vote x y) h = (_, refl)
 tells variants.End h = absurd (h refl)

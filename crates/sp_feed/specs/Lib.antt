@@ -4,6 +4,6 @@ pub mod Format
 pub mod Feed
 pub mod Reads
 pub mod Reader
-pub mod Told
+pub mod Messages
 pub mod Calls
 pub mod Spelling

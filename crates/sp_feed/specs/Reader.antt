@@ -14,13 +14,13 @@ pub data Stage : Type 0 where
   Behind : Option Said → Stage
   Dead : Stage
 
-pub record Reader : Type 0 where
+pub record ReaderState : Type 0 where
   pub limit : ℕ
   pub taken : ℕ
   pub stage : Stage
 
 -- a reader of which nothing was asked yet
-abbrev pub new_reader : ℕ → Reader
+abbrev pub new_reader : ℕ → ReaderState
 new_reader limit = record { limit = limit; taken = 0; stage = AtStart }
 
 abbrev pub stage_of : Phase → Kind → List ℕ → Stage

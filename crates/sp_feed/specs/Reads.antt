@@ -50,6 +50,25 @@ pub record Reads {X A : Type 0} (limit : ℕ) (old new : Moment) (view : X → A
   pub says : Says limit old new view form given result
   pub needs : Needs limit old.taken form given
 
+-- the count of faults stays, but at a failed read
+abbrev pub QuietFault : ℕ → ℕ → FeedFault → Type 0
+QuietFault before now (Malformed at) = now ≡ before
+QuietFault before now (Truncated at) = now ≡ before
+QuietFault before now ReadFault = Unit {0}
+QuietFault before now (TooLong taken) = now ≡ before
+
+abbrev pub IsQuiet : {X : Type 0} → ℕ → ℕ → Result X FeedFault → Type 0
+IsQuiet before now (Ok x) = now ≡ before
+IsQuiet before now (Err e) = QuietFault before now e
+
+abbrev pub QuietHeadFault : ℕ → ℕ → HeadFault → Type 0
+QuietHeadFault before now (Feed e) = QuietFault before now e
+QuietHeadFault before now Memory = now ≡ before
+
+abbrev pub IsQuietHead : {X : Type 0} → ℕ → ℕ → Result X HeadFault → Type 0
+IsQuietHead before now (Ok x) = now ≡ before
+IsQuietHead before now (Err e) = QuietHeadFault before now e
+
 -- a buffer is filled by what was given, or less was given
 abbrev pub FillsBy : ℕ → Moment → Moment → List ℕ → List ℕ → Result (Unit {0}) FeedFault → Type 0
 FillsBy limit old new out given (Ok u) = given ≡ out

@@ -4,7 +4,7 @@
 ghost use Rattle.std.specs.Prelude.{◌≡◌, ◌≤◌, ◌<◌, IfOk, IsTrue};
 ghost use Rattle.sp_feed.specs.Format.{bits_form, block_letter_form, kind_form, length_form, name_form};
 ghost use Rattle.sp_feed.specs.Kinds.{allows};
-ghost use Rattle.sp_feed.specs.Reads.{moment, Reads};
+ghost use Rattle.sp_feed.specs.Reads.{IsQuiet, moment, Reads};
 
 use crate::fault::FeedFault;
 use crate::fill::fill;
@@ -22,6 +22,7 @@ pub(crate) fn read_name<S: Source>(
         (moment (S.left source.old) (S.faults source.old) taken.old)
         (moment (S.left source.new) (S.faults source.new) taken.new)
         (λ bytes. bytes) name_form result }
+    ensures quiet { IsQuiet (S.faults source.old) (S.faults source.new) result }
     ensures progress { IfOk result (λ _. taken.old < taken.new) }
     ensures unasked { taken.old ≡ limit → source.new ≡ source.old }
 {
@@ -46,6 +47,7 @@ pub(crate) fn read_bits<S: Source>(
         (moment (S.left source.old) (S.faults source.old) taken.old)
         (moment (S.left source.new) (S.faults source.new) taken.new)
         (λ bits. bits) bits_form result }
+    ensures quiet { IsQuiet (S.faults source.old) (S.faults source.new) result }
     ensures small { IfOk result (λ bits. bits ≤ 64) }
 {
     let start = *taken;
@@ -69,6 +71,7 @@ pub(crate) fn read_kind<S: Source>(
         (moment (S.left source.old) (S.faults source.old) taken.old)
         (moment (S.left source.new) (S.faults source.new) taken.new)
         (λ kind. kind) kind_form result }
+    ensures quiet { IsQuiet (S.faults source.old) (S.faults source.new) result }
     ensures progress { IfOk result (λ _. taken.old < taken.new) }
     ensures unasked { taken.old ≡ limit → source.new ≡ source.old }
 {
@@ -88,10 +91,11 @@ pub(crate) fn read_block_letter<S: Source>(
     taken: &mut u32,
 ) -> Result<u8, FeedFault>
     requires { taken.old ≤ limit }
-    ensures { Reads limit
+    ensures reads { Reads limit
         (moment (S.left source.old) (S.faults source.old) taken.old)
         (moment (S.left source.new) (S.faults source.new) taken.new)
         (λ letter. letter) block_letter_form result }
+    ensures quiet { IsQuiet (S.faults source.old) (S.faults source.new) result }
 {
     let start = *taken;
     let mut bytes = [0; 1];
@@ -115,6 +119,7 @@ pub(crate) fn read_length<S: Source>(
         (moment (S.left source.old) (S.faults source.old) taken.old)
         (moment (S.left source.new) (S.faults source.new) taken.new)
         (λ n. n) (length_form kind) result }
+    ensures quiet { IsQuiet (S.faults source.old) (S.faults source.new) result }
     ensures fits { IfOk result (λ n. n ≤ 65537) }
     ensures allowed { IfOk result (λ n. IsTrue (allows kind n)) }
 {

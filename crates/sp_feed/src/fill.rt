@@ -1,17 +1,16 @@
 //! The one place where bytes are asked of a source.
 
 ghost use Rattle.std.specs.Prelude.{◌≡◌, ◌≤◌};
-ghost use Rattle.sp_feed.specs.Reads.{moment, Fills};
+ghost use Rattle.sp_feed.specs.Reads.{moment, Fills, IsQuiet};
 
 use crate::fault::FeedFault;
 use sp_io::Source;
 
-/// Fills `out` from the source and counts the bytes taken, with as few calls as the source allows.
-/// The source isn't asked for a byte behind the limit.
+/// Fills `out` from the source and counts the bytes taken. No byte behind the limit is taken.
 ///
 /// # Errors
 ///
-/// `ReadFault` at the first call that fails, `Truncated` at the end of the source, and `TooLong`
+/// `ReadFault` where a call of the source fails, `Truncated` at the end of the source, and `TooLong`
 /// where `out` has room for more than the limit allows and the source gave all up to it.
 pub(crate) fn fill<S: Source>(
     source: &mut S,
@@ -24,6 +23,7 @@ pub(crate) fn fill<S: Source>(
         (moment (S.left source.old) (S.faults source.old) taken.old)
         (moment (S.left source.new) (S.faults source.new) taken.new)
         out.new result }
+    ensures quiet { IsQuiet (S.faults source.old) (S.faults source.new) result }
     ensures unasked { taken.old ≡ limit → source.new ≡ source.old }
 {
     let room = (limit - *taken) as usize;

@@ -5,7 +5,7 @@ ghost use Rattle.sp_feed.specs.Calls.{GivesHead, GivesNext};
 ghost use Rattle.sp_feed.specs.Format.{frame_form, head_form};
 ghost use Rattle.sp_feed.specs.Kinds.{allows, said};
 ghost use Rattle.sp_feed.specs.Reader.{head_in};
-ghost use Rattle.sp_feed.specs.Reads.{moment, Reads, ReadsFront};
+ghost use Rattle.sp_feed.specs.Reads.{IsQuiet, IsQuietHead, moment, Reads, ReadsFront};
 
 use crate::fault::{FeedFault, HeadFault};
 use crate::field::{read_bits, read_block_letter, read_kind, read_length, read_name};
@@ -33,6 +33,7 @@ fn read_frame<S: Source>(
         (moment (S.left source.old) (S.faults source.old) taken.old)
         (moment (S.left source.new) (S.faults source.new) taken.new)
         (λ found. said found.0 (take found.1 payload.new)) frame_form result }
+    ensures quiet { IsQuiet (S.faults source.old) (S.faults source.new) result }
     ensures fits { IfOk result (λ found. found.1 ≤ LONGEST) }
     ensures allowed { IfOk result (λ found. IsTrue (allows found.0 found.1)) }
     ensures progress { IfOk result (λ _. taken.old < taken.new) }
@@ -57,6 +58,7 @@ pub(crate) fn next_frame<S: Source>(
         (moment (S.left source.old) (S.faults source.old) taken.old)
         (moment (S.left source.new) (S.faults source.new) taken.new)
         (λ found. said found.0 (take found.1 payload.new)) result }
+    ensures quiet { IsQuiet (S.faults source.old) (S.faults source.new) result }
     ensures fits { IfOk result (λ found. found.1 ≤ LONGEST) }
     ensures allowed { IfOk result (λ found. IsTrue (allows found.0 found.1)) }
     ensures progress { IfOk result (λ _. taken.old < taken.new) }
@@ -79,6 +81,7 @@ fn read_head<S: Source>(
         (moment (S.left source.old) (S.faults source.old) taken.old)
         (moment (S.left source.new) (S.faults source.new) taken.new)
         head_in head_form result }
+    ensures quiet { IsQuietHead (S.faults source.old) (S.faults source.new) result }
     ensures unasked { taken.old ≡ limit → source.new ≡ source.old }
 {
     read_name(source, limit, taken)?;
@@ -108,6 +111,7 @@ pub(crate) fn first_head<S: Source>(
         (moment (S.left source.old) (S.faults source.old) taken.old)
         (moment (S.left source.new) (S.faults source.new) taken.new)
         head_in result }
+    ensures quiet { IsQuietHead (S.faults source.old) (S.faults source.new) result }
     ensures unasked { taken.old ≡ limit → source.new ≡ source.old }
 {
     read_head(alloc, source, payload, limit, taken)

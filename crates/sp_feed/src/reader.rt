@@ -4,7 +4,7 @@ ghost use Rattle.std.specs.Prelude.{◌≡◌, ◌<◌, Ok, IfOk, None, OnErr, O
 ghost use Rattle.sp_ids.specs.Key.{number_of};
 ghost use Rattle.sp_feed.specs.Calls.{GivesHead, GivesNext};
 ghost use Rattle.sp_feed.specs.Reader.{AtFrames, AtStart, Behind, Dead, head_in, is_behind, is_live, is_open, last_of, new_reader};
-ghost use Rattle.sp_feed.specs.Reads.{moment};
+ghost use Rattle.sp_feed.specs.Reads.{IsQuiet, IsQuietHead, moment};
 ghost use Rattle.sp_feed.specs.declared.message.Message.TheVariants.{Vote};
 
 use crate::fault::{FeedFault, HeadFault};
@@ -20,7 +20,7 @@ use std::alloc::Global;
 use std::marker::Model;
 
 /// Reads a feed: `head` once, then `next` and `message` again and again, up to `Message::End` or a
-/// fault. It holds one buffer of 65,537 bytes, which is made at the start and never cleared.
+/// fault. It holds one buffer of 65,537 bytes, which is made at the start.
 #[derive(Drop)]
 pub struct FeedReader {
     // The last frame's payload stands at the front, with this kind and length.
@@ -34,9 +34,9 @@ pub struct FeedReader {
 
 impl Model for FeedReader {
     ghost use Rattle.std.specs.Prelude.{take, vec_len};
-    ghost use Rattle.sp_feed.specs.Reader.{IsReader, Reader, stage_of};
+    ghost use Rattle.sp_feed.specs.Reader.{IsReader, ReaderState, stage_of};
 
-    ghost Value = { Reader };
+    ghost Value = { ReaderState };
 
     ghost view = { λ r. record {
       limit = r.limit;
@@ -48,7 +48,7 @@ impl Model for FeedReader {
 }
 
 impl FeedReader {
-    ghost use Rattle.sp_feed.specs.Told.{told};
+    ghost use Rattle.sp_feed.specs.Messages.{said_by};
 
     /// A reader that takes at most 4,294,967,295 bytes.
     ///
@@ -80,8 +80,8 @@ impl FeedReader {
         })
     }
 
-    /// Reads the head, before anything else is asked. The genesis block's bytes are copied once, by
-    /// `read_block`. The format is that of docs/FORMATS.md, "Feeds".
+    /// Reads the head, before anything else is asked. The format is that of docs/FORMATS.md,
+    /// "Feeds".
     ///
     /// # Errors
     ///
@@ -96,6 +96,7 @@ impl FeedReader {
             (moment (S.left source.old) (S.faults source.old) self.old.taken)
             (moment (S.left source.new) (S.faults source.new) self.new.taken)
             head_in result }
+        ensures quiet { IsQuietHead (S.faults source.old) (S.faults source.new) result }
         ensures unasked { self.old.limit ≡ 0 → source.new ≡ source.old }
         ensures ok { OnOk result (self.new.stage ≡ AtFrames) }
         ensures err { OnErr result (self.new.stage ≡ Dead) }
@@ -114,17 +115,16 @@ impl FeedReader {
         Ok(head)
     }
 
-    /// Reads the next message, which `message` then tells, once `head` has given the head. After
-    /// `End` it is `End` again, and nothing is read. The source is asked once for the kind, the
-    /// length and the payload each, and again where it gives less than all. The time is that of
-    /// the bytes taken.
+    /// Reads the next message, which `message` then answers, once `head` has given the head. After
+    /// `End` it is `End` again, and nothing is read. It takes time about in proportion to the bytes
+    /// taken.
     ///
     /// # Errors
     ///
     /// `Malformed` at the place of the kind where its letter is unknown, and at the place of the
     /// length where the kind doesn't allow it. `Truncated` where the source ends before the frame
     /// is whole, at the number of bytes taken. `TooLong` where the limit's bytes were taken and
-    /// another is needed; the source isn't asked for it. `ReadFault` only where the source's count
+    /// another is needed; none behind them is taken. `ReadFault` only where the source's count
     /// of faults rose in this call. After each of them the reader isn't live.
     pub fn next<S: Source>(&mut self, source: &mut S) -> Result<(), FeedFault>
         requires { IsTrue (is_open self.old.stage) }
@@ -132,6 +132,7 @@ impl FeedReader {
             (moment (S.left source.old) (S.faults source.old) self.old.taken)
             (moment (S.left source.new) (S.faults source.new) self.new.taken)
             (λ _. last_of self.new.stage) result }
+        ensures quiet { IsQuiet (S.faults source.old) (S.faults source.new) result }
         ensures unasked { self.old.taken ≡ self.old.limit → source.new ≡ source.old }
         ensures progress { OnOk result
             ((self.old.stage ≡ Behind None → ⊥) → self.old.taken < self.new.taken) }
@@ -162,7 +163,7 @@ impl FeedReader {
     /// in the reader's buffer.
     pub fn message(&self) -> Message<'_>
         requires { IsTrue (is_behind self.now.stage) }
-        ensures { told result ≡ last_of self.now.stage }
+        ensures { said_by result ≡ last_of self.now.stage }
     {
         let payload = &self.payload[..self.length];
         match self.kind {

@@ -1,13 +1,13 @@
 //! A feed read whole, for callers that only want its messages. Its contract is the theorem over any
 //! run of the reader's calls.
 
-ghost use Rattle.std.specs.Prelude.{◌≡◌, ℕ, List, ◌++◌, Some, OnErr, OnOk};
+ghost use Rattle.std.specs.Prelude.{◌≡◌, ℕ, IsSome, List, ◌++◌, Some, OnErr, OnOk};
 ghost use Rattle.sp_feed.specs.Calls.{GivesAll, ReadsFeed};
 ghost use Rattle.sp_feed.specs.Feed.{feed};
 ghost use Rattle.sp_feed.specs.Kinds.{messages_of, Said};
 ghost use Rattle.sp_feed.specs.Reader.{head_in};
-ghost use Rattle.sp_feed.specs.Reads.{moment};
-ghost use Rattle.sp_feed.specs.Told.{told};
+ghost use Rattle.sp_feed.specs.Reads.{IsQuietHead, moment};
+ghost use Rattle.sp_feed.specs.Messages.{said_by};
 
 use crate::fault::HeadFault;
 use crate::head::FeedHead;
@@ -22,9 +22,10 @@ pub trait Visitor {
     // The messages that it saw.
     ghost seen: { Self → List Said };
 
-    /// Takes a message in. A refusal changes nothing.
+    /// Takes a message in, which isn't the end. After a refusal it has seen no more than before.
     fn visit(&mut self, message: &Message<'_>) -> Result<(), Memory>
-        ensures ok { OnOk result (seen self.new ≡ seen self.old ++ messages_of (told message.now)) }
+        requires before_end { IsSome (said_by message.now) }
+        ensures ok { OnOk result (seen self.new ≡ seen self.old ++ messages_of (said_by message.now)) }
         ensures err { OnErr result (seen self.new ≡ seen self.old) };
 }
 
@@ -35,10 +36,11 @@ fn read_messages<S: Source, V: Visitor>(
     source: &mut S,
     visitor: &mut V,
 ) -> Result<FeedHead, HeadFault>
-    ensures { (taken : ℕ) × GivesAll limit
+    ensures gives { (taken : ℕ) × GivesAll limit
         (moment (S.left source.old) (S.faults source.old) 0)
         (moment (S.left source.new) (S.faults source.new) taken)
         head_in (V.seen visitor.old) (V.seen visitor.new) result }
+    ensures quiet { IsQuietHead (S.faults source.old) (S.faults source.new) result }
 {
     let mut reader = FeedReader::with_limit(alloc, limit)?;
     let head = reader.head(source)?;
@@ -75,6 +77,9 @@ pub fn read_all<S: Source, V: Visitor>(
         (moment (S.left source.old) (S.faults source.old) 0)
         (moment (S.left source.new) (S.faults source.new) taken)
         head_in (V.seen visitor.old) (V.seen visitor.new) result }
+
+    // The source counts no fault but at a failed read.
+    ensures quiet { IsQuietHead (S.faults source.old) (S.faults source.new) result }
 {
     read_messages(alloc, limit, source, visitor)
 }

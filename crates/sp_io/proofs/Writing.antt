@@ -1,8 +1,8 @@
 -- One write after another: what was appended, and what of a whole piece is left.
-use Rattle.std.proofs.Common.{◌≡◌, ℕ, List, [], ◌++◌, Option, Some, None, refl, ap, ◌∙◌, sym, append_assoc}
+use Rattle.std.proofs.Common.{◌≡◌, ℕ, List, [], ◌++◌, Option, Some, None, refl, ap, ◌∙◌, sym, subst, append_assoc}
 use Rattle.std.proofs.lemmas.List.{append-nil}
 use Rattle.std.specs.Io.KnownBytes.{Appends, Keeps}
-use Rattle.sp_io.specs.Whole.{Wrote, AppendsFront}
+use Rattle.sp_io.specs.Whole.{Wrote, AppendsAtLeast, AppendsFront}
 
 -- bytes are appended, and then more
 pub appends_then : (a b c : Option (List ℕ)) (xs ys : List ℕ) → Appends a b xs → Appends b c ys → Appends a c (xs ++ ys)
@@ -51,3 +51,15 @@ wrote_end (Some ws) (Some bs) front whole p e = p ∙ ap (λ t. ws ++ t) (sym (a
 -- all is written
 pub wrote_all : {a b : Option (List ℕ)} {whole : List ℕ} → Wrote a b whole [] → Appends a b whole
 wrote_all {a = a} {b = b} {whole = whole} w = wrote_end a b w.front whole w.appended w.split
+
+-- a piece is appended, and it is all that is asked for
+pub at_least : (a b : Option (List ℕ)) (xs : List ℕ) → Appends a b xs → AppendsAtLeast a b xs
+at_least a b xs p = ([], subst (λ (t : List ℕ). Appends a b t) (sym (append-nil xs)) p)
+
+-- what was appended at least stays so when more is
+pub at_least_then : (a b c : Option (List ℕ)) (xs ys : List ℕ) → AppendsAtLeast a b xs → Appends b c ys → AppendsAtLeast a c xs
+at_least_then a b c xs ys p q = (p.0 ++ ys, subst (λ (t : List ℕ). Appends a c t) (append_assoc xs p.0 ys) (appends_then a b c (xs ++ p.0) ys p.1 q))
+
+-- all of a piece is a front of it
+pub front_of_all : {a b : Option (List ℕ)} (xs : List ℕ) → Appends a b xs → AppendsFront a b xs
+front_of_all xs p = ([], record { front = xs; appended = p; split = sym (append-nil xs) })

@@ -17,8 +17,8 @@ pub struct StdSink<W> {
 }
 
 impl<W: Write> StdSink<W> {
-    /// A sink that passes all on to the writer. It adds no buffer and never flushes: pass a
-    /// buffered writer as `&mut`, and flush it afterwards.
+    /// A sink that passes all on to the writer, without a buffer of its own: pass a buffered writer
+    /// as `&mut`, and flush it afterwards.
     pub fn new(writer: W) -> StdSink<W>
         ensures taken { ⟦<StdSink<W> as Sink>⟧.taken result ≡ W.contents writer }
         ensures faults { ⟦<StdSink<W> as Sink>⟧.faults result ≡ 0 }
@@ -32,12 +32,14 @@ impl<W: Write> Sink for StdSink<W> {
 
     ghost faults = { λ s. s.faults };
 
-    /// One call of the writer. The count of faults stays at 2^64 - 1 once it is there.
+    /// Passes a front of `piece` on to the writer. The count of faults stays at 2^64 - 1 once it is
+    /// there.
     ///
     /// # Errors
     ///
-    /// `Failed` at each error of the writer, whatever its kind, and where it takes nothing of a
-    /// piece that isn't empty.
+    /// `Failed` where the writer answers an error, whatever its kind, or takes nothing of a piece
+    /// that isn't empty. std's writers count no errors, so that none is passed over is tested and
+    /// not proved.
     fn write(&mut self, piece: &[u8]) -> Result<usize, Failed>
         ensures bound { IfOk result (λ n. n ≤ length piece.now) }
         ensures progress { IfOk result (λ n. 0 < length piece.now → 0 < n) }

@@ -18,7 +18,7 @@ pub struct StdSource<R> {
 }
 
 impl<R: Read> StdSource<R> {
-    /// A source that gives what the reader gives. It adds no buffer.
+    /// A source that gives what the reader gives, without a buffer of its own.
     pub fn new(reader: R) -> StdSource<R>
         ensures left { ⟦<StdSource<R> as Source>⟧.left result ≡ R.remaining reader }
         ensures faults { ⟦<StdSource<R> as Source>⟧.faults result ≡ 0 }
@@ -32,12 +32,12 @@ impl<R: Read> Source for StdSource<R> {
 
     ghost faults = { λ s. s.faults };
 
-    /// One call of the reader. The count of faults stays at 2^64 - 1 once it is there.
+    /// Gives what the reader gives. The count of faults stays at 2^64 - 1 once it is there.
     ///
     /// # Errors
     ///
-    /// `Failed` at each error of the reader, whatever its kind: a call that was interrupted isn't
-    /// tried again.
+    /// `Failed` where the reader answers an error, whatever its kind. std's readers count no errors,
+    /// so that none is passed over, not even an interruption, is tested and not proved.
     fn read(&mut self, out: &mut [u8]) -> Result<usize, Failed>
         ensures bound { ReadsAtMost result out.new }
         ensures bytes { ReadConsumes

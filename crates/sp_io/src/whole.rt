@@ -11,13 +11,12 @@ use crate::failed::Failed;
 use crate::sink::Sink;
 use crate::source::Source;
 
-/// Reads until `out` is full or the source ends, and answers the number of bytes read. There is
-/// at most one call for each byte of `out`, and none where it is empty.
+/// Reads until `out` is full or the source ends, and answers the number of bytes read.
 ///
 /// # Errors
 ///
-/// `Failed` at the first call that fails. The bytes that came before it are taken from the
-/// source, and their number isn't told.
+/// `Failed` where a call of the source fails. The bytes that came before it are taken from the
+/// source, and their number isn't answered.
 pub fn read_full<S: Source>(source: &mut S, out: &mut [u8]) -> Result<usize, Failed>
     ensures bound { ReadsAtMost result out.new }
     ensures bytes { IfOk result (λ n.
@@ -42,13 +41,12 @@ pub fn read_full<S: Source>(source: &mut S, out: &mut [u8]) -> Result<usize, Fai
     Ok(filled)
 }
 
-/// Writes all of `bytes`. There is at most one call for each of them, and none where there are
-/// none.
+/// Writes all of `bytes`.
 ///
 /// # Errors
 ///
-/// `Failed` at the first call that fails. The sink keeps what it took before, which is less than
-/// all, and its number isn't told.
+/// `Failed` where a call of the sink fails. The sink keeps what it took before, which is less than
+/// all, and its number isn't answered.
 pub fn write_whole<K: Sink>(sink: &mut K, bytes: &[u8]) -> Result<(), Failed>
     ensures ok { OnOk result (Appends (K.taken sink.old) (K.taken sink.new) bytes.now) }
 

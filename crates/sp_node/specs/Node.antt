@@ -15,6 +15,6 @@ abbrev pub state : ℕ → List ReadBlock → State
 state bits kept = record { bits = bits; kept = kept; stopped = false }
 
 -- the sink's count of faults rose, or memory was refused
-abbrev pub HasCause : ℕ → ℕ → NodeFault → Type 0
-HasCause before now WriteFault = Rose before now
-HasCause before now Memory = Unit {0}
+abbrev pub HasNodeCause : ℕ → ℕ → NodeFault → Type 0
+HasNodeCause before now WriteFault = Rose before now
+HasNodeCause before now Memory = Unit {0}

@@ -4,9 +4,9 @@ ghost use Rattle.std.specs.Prelude.{◌≡◌, ◌≢◌, ◌≤◌, ◌∷◌, 
 ghost use Rattle.std.specs.Io.KnownBytes.{Appends};
 ghost use Rattle.sp_io.specs.Whole.{AppendsFront};
 ghost use Rattle.sp_feed.specs.Kinds.{SaysBlock, SaysVote};
-ghost use Rattle.sp_feed.specs.Told.{told};
+ghost use Rattle.sp_feed.specs.Messages.{said_by};
 ghost use Rattle.sp_node.specs.Answers.{kept_then, line_of};
-ghost use Rattle.sp_node.specs.Node.{HasCause};
+ghost use Rattle.sp_node.specs.Node.{HasNodeCause};
 
 use crate::fault::NodeFault;
 use sp_engine::Engine;
@@ -69,27 +69,28 @@ impl Node {
         sink: &mut K,
     ) -> Result<(), NodeFault>
         requires live { self.old.stopped ≡ false }
-        requires before_end { IsSome (told message.now) }
+        requires before_end { IsSome (said_by message.now) }
 
         // The line of the message is written, and a block that was to be kept is.
-        ensures ok { OnOk result (IfSome (told message.now) (λ said.
+        ensures ok { OnOk result (IfSome (said_by message.now) (λ said.
             Appends (K.taken sink.old) (K.taken sink.new)
             (line_of self.old.bits self.old.kept said))) }
-        ensures kept { OnOk result (IfSome (told message.now) (λ said.
+        ensures kept { OnOk result (IfSome (said_by message.now) (λ said.
             self.new.kept ≡ kept_then self.old.bits self.old.kept said)) }
         ensures bits { self.new.bits ≡ self.old.bits }
 
         // So is one whose line wasn't written.
-        ensures kept_unwritten { result ≡ Err NodeFault.WriteFault → IfSome (told message.now)
+        ensures kept_unwritten { result ≡ Err NodeFault.WriteFault → IfSome (said_by message.now)
             (λ said. self.new.kept ≡ kept_then self.old.bits self.old.kept said) }
 
         // Where that failed, a front of the line was; nothing, where memory was refused.
-        ensures err { OnErr result (IfSome (told message.now) (λ said.
+        ensures err { OnErr result (IfSome (said_by message.now) (λ said.
             AppendsFront (K.taken sink.old) (K.taken sink.new)
             (line_of self.old.bits self.old.kept said))) }
         ensures memory { result ≡ Err NodeFault.Memory → sink.new ≡ sink.old }
-        ensures cause { IfErr result (HasCause (K.faults sink.old) (K.faults sink.new)) }
-        ensures vote { (x y : ℕ) → told message.now ≡ Some (SaysVote x y)
+        ensures cause { IfErr result (HasNodeCause (K.faults sink.old) (K.faults sink.new)) }
+        ensures quiet { result ≢ Err NodeFault.WriteFault → K.faults sink.new ≡ K.faults sink.old }
+        ensures vote { (x y : ℕ) → said_by message.now ≡ Some (SaysVote x y)
             → result ≢ Err NodeFault.Memory }
         ensures later { K.faults sink.old ≤ K.faults sink.new }
 
@@ -137,7 +138,8 @@ impl Node {
         ensures err { OnErr result (AppendsFront (K.taken sink.old) (K.taken sink.new)
             (line_of self.old.bits self.old.kept (SaysBlock bytes.now))) }
         ensures memory { result ≡ Err NodeFault.Memory → sink.new ≡ sink.old }
-        ensures cause { IfErr result (HasCause (K.faults sink.old) (K.faults sink.new)) }
+        ensures cause { IfErr result (HasNodeCause (K.faults sink.old) (K.faults sink.new)) }
+        ensures quiet { result ≢ Err NodeFault.WriteFault → K.faults sink.new ≡ K.faults sink.old }
         ensures later { K.faults sink.old ≤ K.faults sink.new }
         ensures stopped { self.new.stopped ≡ is_err result }
     {
@@ -165,7 +167,8 @@ impl Node {
         ensures err { OnErr result (AppendsFront (K.taken sink.old) (K.taken sink.new)
             (line_of self.old.bits self.old.kept (SaysVote x.now y.now))) }
         ensures never { result ≢ Err NodeFault.Memory }
-        ensures cause { IfErr result (HasCause (K.faults sink.old) (K.faults sink.new)) }
+        ensures cause { IfErr result (HasNodeCause (K.faults sink.old) (K.faults sink.new)) }
+        ensures quiet { result ≢ Err NodeFault.WriteFault → K.faults sink.new ≡ K.faults sink.old }
         ensures later { K.faults sink.old ≤ K.faults sink.new }
         ensures stopped { self.new.stopped ≡ is_err result }
     {

@@ -29,7 +29,7 @@ fn line_of(answer: &Answer, naming: &Naming) -> Line
 ///
 /// # Errors
 ///
-/// `Failed` at the first call of the sink that fails. The sink keeps what it took before.
+/// `Failed` where a call of the sink fails. The sink keeps what it took before.
 pub fn answer_line<K: Sink>(answer: &Answer, naming: &Naming, sink: &mut K) -> Result<(), Failed>
     ensures ok { OnOk result (Appends (K.taken sink.old) (K.taken sink.new) (answer_text answer.now)) }
     ensures err { OnErr result

@@ -30,7 +30,7 @@ fn line_of(engine: &Engine, ask: &Ask, naming: &Naming) -> Line
 ///
 /// # Errors
 ///
-/// `Failed` at the first call of the sink that fails. The sink keeps what it took before.
+/// `Failed` where a call of the sink fails. The sink keeps what it took before.
 pub fn ask_line<K: Sink>(
     engine: &Engine,
     ask: &Ask,

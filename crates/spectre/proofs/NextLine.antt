@@ -2,7 +2,7 @@
 use Rattle.std.proofs.Common.{◌≡◌, ℕ, ◌+◌, List, [], ◌∷◌, ◌++◌, Option, Some, None, Result, Ok, Err, refl, ap, ◌∙◌, append_assoc}
 use Rattle.spectre.specs.Scenario.{Scene, scene_at, scene_from, message_of, names_after, messages_of}
 use Rattle.spectre.specs.Lines.{answers, blocks_after, fault_line, fault_text}
-use Rattle.spectre.specs.Ends.{rest_of, text_of}
+use Rattle.spectre.specs.Ends.{text_left, text_of}
 use Rattle.spectre.specs.declared.scenario.message.Message.{Message}
 use Rattle.spectre.specs.declared.scenario.why.Why.{Why}
 
@@ -24,8 +24,8 @@ written names blocks s = answers names blocks s.messages ++ fault_text s.fault
 
 -- a line without a fault
 pub rest_after : (names blocks lines : List (List ℕ)) (number : ℕ) (line : List ℕ) (said : Option Message) → message_of names line ≡ Ok said
-    → rest_of names blocks number (line ∷ lines) ≡ text_of names blocks said ++ rest_of (names_after names said) (blocks_after blocks said) (number + 1) lines
-unfolding rest_of written
+    → text_left names blocks number (line ∷ lines) ≡ text_of names blocks said ++ text_left (names_after names said) (blocks_after blocks said) (number + 1) lines
+unfolding text_left written
 rest_after names blocks lines number line said e =
     let rest = scene_from (names_after names said) (number + 1) lines in
     ap (written names blocks) (scene_step names lines number line (Ok said) e)
@@ -37,8 +37,8 @@ pub fault_after : (names lines : List (List ℕ)) (number : ℕ) (line : List �
 fault_after names lines number line said e = ap (λ s. s.fault) (scene_step names lines number line (Ok said) e)
 
 -- a line that is at fault
-pub rest_at_fault : (names blocks lines : List (List ℕ)) (number : ℕ) (line : List ℕ) (why : Why) → message_of names line ≡ Err why → rest_of names blocks number (line ∷ lines) ≡ fault_line number why
-unfolding rest_of written answers
+pub rest_at_fault : (names blocks lines : List (List ℕ)) (number : ℕ) (line : List ℕ) (why : Why) → message_of names line ≡ Err why → text_left names blocks number (line ∷ lines) ≡ fault_line number why
+unfolding text_left written answers
 rest_at_fault names blocks lines number line why e = ap (written names blocks) (scene_step names lines number line (Err why) e)
 
 pub fault_here : (names lines : List (List ℕ)) (number : ℕ) (line : List ℕ) (why : Why) → message_of names line ≡ Err why
@@ -46,8 +46,8 @@ pub fault_here : (names lines : List (List ℕ)) (number : ℕ) (line : List ℕ
 fault_here names lines number line why e = ap (λ s. s.fault) (scene_step names lines number line (Err why) e)
 
 -- no line
-pub rest_at_end : (names blocks : List (List ℕ)) (number : ℕ) → rest_of names blocks number [] ≡ []
-unfolding rest_of scene_from answers
+pub rest_at_end : (names blocks : List (List ℕ)) (number : ℕ) → text_left names blocks number [] ≡ []
+unfolding text_left scene_from answers
 rest_at_end names blocks number = refl
 
 pub fault_at_end : (names : List (List ℕ)) (number : ℕ) → (scene_from names number []).fault ≡ None

@@ -1,5 +1,6 @@
 -- What the answering of a feed and the line of its fault come to, by the input of a source that tells its bytes.
-use Rattle.std.proofs.Common.{◌≡◌, ◌≢◌, ℕ, List, [], ◌++◌, Option, Some, None, IfSome, Ok, Err, refl, ap, sym, subst, ◌∙◌, append_assoc}
+use Rattle.std.proofs.Common.{◌≡◌, ◌≢◌, ◌≤◌, ℕ, List, [], ◌++◌, drop, length, Option, Some, None, IfSome, Result, Ok, Err, refl, ap, sym, subst, ◌∙◌, append_assoc, arith}
+use Rattle.std.proofs.Math.Seq.{drop-append_seam}
 use Rattle.std.specs.Io.KnownBytes.{Appends, Consumes, IsAtEnd}
 use Rattle.std.proofs.lemmas.List.{append-nil}
 use Rattle.sp_feed.specs.Feed.{End, Malformed, TooLong, Truncated, Whole}
@@ -7,10 +8,13 @@ use Rattle.sp_feed.specs.Reads.{Moment}
 use Rattle.sp_feed.specs.declared.fault.FeedFault.{FeedFault}
 use Rattle.sp_feed.specs.declared.fault.FeedFault.TheVariants as faults
 use Rattle.sp_io.specs.Whole.{AppendsFront, Wrote}
-use Rattle.sp_io.proofs.Writing.{appends_then, wrote_stops}
-use Rattle.spectre.specs.Faults.{EndsMalformed, EndsTooLong, EndsTruncated, EndsWhole, fault_text, rest_behind, status_of}
-use Rattle.spectre.specs.Replay.{end_text, fed, replayed, replied}
+use Rattle.sp_io.proofs.Writing.{appends_then, at_least_then, wrote_stops}
+use Rattle.sp_feed.proofs.Rests.{feed_long}
+use Rattle.spectre.specs.Faults.{EndsMalformed, EndsTooLong, EndsTruncated, EndsWhole, feed_fault_text, rest_behind, status_of}
+use Rattle.spectre.specs.Replay.{end_text, fed, feed_limit, replayed, replied}
 use Rattle.spectre.specs.Replaying.{Replies}
+use Rattle.spectre.specs.Taken.{TakesFeed}
+use Rattle.spectre.specs.declared.replay.ReplayFault.{ReplayFault}
 use Rattle.spectre.specs.declared.replay.ReplayFault.TheVariants.{Feed, WriteFault, Memory}
 use Rattle.spectre.specs.declared.status.Status.{Status}
 use Rattle.spectre.specs.declared.status.Status.TheVariants as status
@@ -57,6 +61,20 @@ module _ {start now : Moment} {old new : Option (List ℕ)} where
   pub memory_text : Replies start now old new (Err Memory) → IfSome start.left (λ input. AppendsFront old new (replayed input))
   memory_text r = with_input (λ input. AppendsFront old new (replayed input)) start.left now.left r.given r.took.consumed (λ rest e. front_text (r.given ++ rest) (r.says rest))
 
+  -- so much was taken, and that was written by then
+  pub takes : {r : Result (Unit {0}) ReplayFault} → Replies start now old new r → TakesFeed start.left now.left old new
+  takes r = record { given = r.given; consumed = r.took.consumed; within = omega (arith, r.took.counted, r.took.within); needed = r.needed; answered = r.answered }
+
+-- and then a line, or a front of it
+pub takes_then : (before after old mid new : Option (List ℕ)) (line : List ℕ) → TakesFeed before after old mid → AppendsFront mid new line → TakesFeed before after old new
+takes_then before after old mid new line t h = record {
+  given = t.given;
+  consumed = t.consumed;
+  within = t.within;
+  needed = t.needed;
+  answered = λ front rest e l. at_least_then old mid new (replied front) h.1.front (t.answered front rest e l) h.1.appended;
+}
+
 -- a fault's line follows the lines of the messages
 module _ (old mid new : Option (List ℕ)) where
   then_text : (input : List ℕ) (end : End) → Appends old mid (replied input) → (fed input).end ≡ end → Appends mid new (end_text end) → Appends old new (replayed input)
@@ -77,7 +95,7 @@ Ends (faults.TooLong taken) end = end ≡ TooLong taken
 module _ {start now : Moment} {old mid : Option (List ℕ)} where
   -- where a line was written for it, it is the line of the input's end
   pub fault_input : (P : List ℕ → Type 0) (e : FeedFault) → Replies start now old mid (Err (Feed e)) → (e ≡ faults.ReadFault → ⊥)
-      → ((input : List ℕ) (end : End) → Appends old mid (replied input) → (fed input).end ≡ end → end_text end ≡ fault_text e → Ends e (fed input).end → P input) → IfSome start.left P
+      → ((input : List ℕ) (end : End) → Appends old mid (replied input) → (fed input).end ≡ end → end_text end ≡ feed_fault_text e → Ends e (fed input).end → P input) → IfSome start.left P
   fault_input P (faults.Malformed at) r other f = with_input P start.left now.left r.given r.took.consumed (λ rest e. let s = r.says rest in f (r.given ++ rest) (Malformed at) s.0 s.1 refl s.1)
   fault_input P (faults.Truncated at) r other f = with_input P start.left now.left r.given r.took.consumed (λ rest e.
       let none : rest ≡ [] = subst IsAtEnd e r.says.1 in
@@ -86,13 +104,13 @@ module _ {start now : Moment} {old mid : Option (List ℕ)} where
   fault_input P faults.ReadFault r other f = absurd (other refl)
   fault_input P (faults.TooLong taken) r other f = with_input P start.left now.left r.given r.took.consumed (λ rest e. let s = r.says rest in f (r.given ++ rest) (TooLong taken) s.0 s.1 refl s.1)
 
-  pub fault_written : (new : Option (List ℕ)) (e : FeedFault) → Replies start now old mid (Err (Feed e)) → (e ≡ faults.ReadFault → ⊥) → Appends mid new (fault_text e) → IfSome start.left (λ input. Appends old new (replayed input) × Ends e (fed input).end)
+  pub fault_written : (new : Option (List ℕ)) (e : FeedFault) → Replies start now old mid (Err (Feed e)) → (e ≡ faults.ReadFault → ⊥) → Appends mid new (feed_fault_text e) → IfSome start.left (λ input. Appends old new (replayed input) × Ends e (fed input).end)
   fault_written new e r other b = fault_input (λ input. Appends old new (replayed input) × Ends e (fed input).end) e r other (λ input end a is text ends. (
     then_text old mid new input end a is (subst (λ (t : List ℕ). Appends mid new t) (sym text) b),
     ends,
   ))
 
-  pub fault_front : (new : Option (List ℕ)) (e : FeedFault) → Replies start now old mid (Err (Feed e)) → (e ≡ faults.ReadFault → ⊥) → AppendsFront mid new (fault_text e) → IfSome start.left (λ input. AppendsFront old new (replayed input))
+  pub fault_front : (new : Option (List ℕ)) (e : FeedFault) → Replies start now old mid (Err (Feed e)) → (e ≡ faults.ReadFault → ⊥) → AppendsFront mid new (feed_fault_text e) → IfSome start.left (λ input. AppendsFront old new (replayed input))
   fault_front new e r other b = fault_input (λ input. AppendsFront old new (replayed input)) e r other (λ input end a is text ends. then_front old mid new input end a is (subst (λ (t : List ℕ). AppendsFront mid new t) (sym text) b))
 
 if_some : {X : Type 0} (o : Option X) (P Q : X → Type 0) → ((x : X) → P x → Q x) → IfSome o P → IfSome o Q
@@ -125,18 +143,41 @@ is_read_fault (faults.Truncated at) s = absurd cc
 is_read_fault faults.ReadFault s = refl
 is_read_fault (faults.TooLong taken) s = absurd cc
 
+-- a status other than that of a failed write is that of the fault
+pub by_status : (e : FeedFault) (result s : Status) → (s ≡ status.WriteFault → ⊥) → (result ≢ status.WriteFault → result ≡ status_of e) → result ≡ s → status_of e ≡ s
+by_status e result s no_write same is = sym (same (λ h. no_write (sym is ∙ h))) ∙ is
+
+module _ {start now : Moment} {old mid : Option (List ℕ)} where
+  -- a feed that ends too early leaves nothing
+  pub nothing_left : (e : FeedFault) → Replies start now old mid (Err (Feed e)) → status_of e ≡ status.Truncated → IfSome start.left (λ input. now.left ≡ Some [])
+  nothing_left (faults.Malformed at) r s = absurd cc
+  nothing_left (faults.Truncated at) r s = with_input (λ input. now.left ≡ Some []) start.left now.left r.given r.took.consumed (λ rest e. e ∙ ap (λ (t : List ℕ). Some t) (subst IsAtEnd e r.says.1))
+  nothing_left faults.ReadFault r s = absurd cc
+  nothing_left (faults.TooLong taken) r s = absurd cc
+
+  -- of one that is too long the bytes of the limit are taken
+  pub limit_taken : (e : FeedFault) → Replies start now old mid (Err (Feed e)) → status_of e ≡ status.TooLong → IfSome start.left (λ input. now.left ≡ Some (drop feed_limit input))
+  limit_taken (faults.Malformed at) r s = absurd cc
+  limit_taken (faults.Truncated at) r s = absurd cc
+  limit_taken faults.ReadFault r s = absurd cc
+  limit_taken (faults.TooLong taken) r s =
+      let long : feed_limit ≤ length r.given = feed_long feed_limit r.given taken (ap (λ bytes. (fed bytes).end) (sym (append-nil r.given)) ∙ (r.says []).1) in
+      let all : length r.given ≡ feed_limit = omega (arith, long, r.took.counted, r.took.within) in
+      with_input (λ input. now.left ≡ Some (drop feed_limit input)) start.left now.left r.given r.took.consumed (λ rest e.
+      e ∙ ap (λ (t : List ℕ). Some t) (sym (ap (λ n. drop n (r.given ++ rest)) (sym all) ∙ drop-append_seam r.given rest)))
+
 module _ {start now : Moment} {old mid : Option (List ℕ)} where
   -- the line of a fault was written, which gives this status
-  pub fault_told : (new : Option (List ℕ)) (e : FeedFault) (result s : Status) (Q : End → Type 0) → ((end : End) → status_of e ≡ s → Ends e end → Q end) → (s ≡ status.WriteFault → ⊥) → (s ≡ status.ReadFault → ⊥)
-      → Replies start now old mid (Err (Feed e)) → (result ≢ status.WriteFault → result ≡ status_of e) → (result ≢ status.WriteFault → Appends mid new (fault_text e))
+  pub fault_line_whole : (new : Option (List ℕ)) (e : FeedFault) (result s : Status) (Q : End → Type 0) → ((end : End) → status_of e ≡ s → Ends e end → Q end) → (s ≡ status.WriteFault → ⊥) → (s ≡ status.ReadFault → ⊥)
+      → Replies start now old mid (Err (Feed e)) → (result ≢ status.WriteFault → result ≡ status_of e) → (result ≢ status.WriteFault → Appends mid new (feed_fault_text e))
       → result ≡ s → IfSome start.left (λ input. Appends old new (replayed input) × Q (fed input).end)
-  fault_told new e result s Q ends no_write no_read r told text is =
+  fault_line_whole new e result s Q ends no_write no_read r same text is =
       let written : result ≢ status.WriteFault = λ h. no_write (sym is ∙ h) in
-      let by : status_of e ≡ s = sym (told written) ∙ is in
+      let by : status_of e ≡ s = by_status e result s no_write same is in
       if_some start.left (λ input. Appends old new (replayed input) × Ends e (fed input).end) (λ input. Appends old new (replayed input) × Q (fed input).end) (λ input h. (h.0, ends (fed input).end by h.1))
       (fault_written new e r (λ h. no_read (sym by ∙ ap status_of h)) (text written))
 
   -- its line wasn't written whole
-  pub fault_untold : (new : Option (List ℕ)) (e : FeedFault) (result : Status) → Replies start now old mid (Err (Feed e)) → (result ≡ status.WriteFault → AppendsFront mid new (fault_text e)) → (e ≡ faults.ReadFault → result ≡ status.ReadFault)
+  pub fault_line_cut : (new : Option (List ℕ)) (e : FeedFault) (result : Status) → Replies start now old mid (Err (Feed e)) → AppendsFront mid new (feed_fault_text e) → (e ≡ faults.ReadFault → result ≡ status.ReadFault)
       → result ≡ status.WriteFault → IfSome start.left (λ input. AppendsFront old new (replayed input))
-  fault_untold new e result r front quiet is = fault_front new e r (λ h. let no : status.WriteFault ≡ status.ReadFault = sym is ∙ quiet h in absurd cc) (front is)
+  fault_line_cut new e result r front other is = fault_front new e r (λ h. let no : status.WriteFault ≡ status.ReadFault = sym is ∙ other h in absurd cc) front

@@ -25,8 +25,8 @@ text_of names blocks None = []
 text_of names blocks (Some message) = line names blocks message
 
 -- what the lines from one with this number on write, after blocks of these names and parents
-unfoldable pub rest_of : List (List ℕ) → List (List ℕ) → ℕ → List (List ℕ) → List ℕ
-rest_of names blocks number lines =
+unfoldable pub text_left : List (List ℕ) → List (List ℕ) → ℕ → List (List ℕ) → List ℕ
+text_left names blocks number lines =
     let rest = scene_from names number lines in answers names blocks rest.messages ++ fault_text rest.fault
 
 -- a scenario is whole where it has no fault

@@ -1,13 +1,13 @@
 -- Which fault the input of a command has, what of it stays unread, and what was written where a
 -- read failed.
-use Rattle.std.specs.Prelude.{◌<◌, ◌≤◌, ℕ, List, [], length, Option, Some, None, IsSome, IsNone}
+use Rattle.std.specs.Prelude.{◌<◌, ◌≤◌, ℕ, List, [], drop, length, Option, Some, None, IsSome, IsNone}
 use Rattle.sp_feed.specs.Feed.{End, Malformed, TooLong, Truncated, Whole}
 use Rattle.sp_feed.specs.declared.fault.FeedFault.{FeedFault}
 use Rattle.sp_feed.specs.declared.fault.FeedFault.TheVariants as faults
 use Rattle.sp_report.specs.Lines.{malformed_text, too_long_text, truncated_text}
 use Rattle.spectre.specs.Words.{scenario_limit}
 use Rattle.spectre.specs.Scenario.{scene}
-use Rattle.spectre.specs.Replay.{fed}
+use Rattle.spectre.specs.Replay.{fed, feed_limit}
 use Rattle.spectre.specs.declared.call.Command.{Command}
 use Rattle.spectre.specs.declared.call.Command.TheVariants.{Play, Replay}
 use Rattle.spectre.specs.declared.status.Status.{Status}
@@ -76,12 +76,18 @@ unread None input = input
 unread (Some Play) input = []
 unread (Some Replay) input = rest_behind (fed input).end
 
+-- what a run leaves of input that is too long: all that follows the bytes of the limit
+abbrev pub beyond : Option Command → List ℕ → List ℕ
+beyond None input = input
+beyond (Some Play) input = drop scenario_limit input
+beyond (Some Replay) input = drop feed_limit input
+
 -- the line of a feed's fault, and the status that it gives
-abbrev pub fault_text : FeedFault → List ℕ
-fault_text (faults.Malformed at) = malformed_text at
-fault_text (faults.Truncated at) = truncated_text at
-fault_text faults.ReadFault = []
-fault_text (faults.TooLong taken) = too_long_text taken
+abbrev pub feed_fault_text : FeedFault → List ℕ
+feed_fault_text (faults.Malformed at) = malformed_text at
+feed_fault_text (faults.Truncated at) = truncated_text at
+feed_fault_text faults.ReadFault = []
+feed_fault_text (faults.TooLong taken) = too_long_text taken
 
 abbrev pub status_of : FeedFault → Status
 status_of (faults.Malformed at) = status.Malformed

@@ -7,6 +7,7 @@ pub mod Output
 pub mod Faults
 pub mod Replay
 pub mod Heads
+pub mod Taken
 pub mod Replaying
 pub mod Gives
 pub mod Reading

@@ -7,11 +7,11 @@ use Rattle.spectre.specs.declared.scenario.reading.ScenarioFault.{ScenarioFault}
 use Rattle.spectre.specs.declared.scenario.reading.ScenarioFault.TheVariants.{ReadFault, TooLong, Memory}
 
 -- so many bytes were taken
-abbrev pub Took : Option (List ℕ) → Option (List ℕ) → ℕ → Type 0
-Took old new n = (bytes : List ℕ) × Consumes old new bytes × (length bytes ≡ n)
+abbrev pub ConsumesExactly : Option (List ℕ) → Option (List ℕ) → ℕ → Type 0
+ConsumesExactly old new n = (bytes : List ℕ) × Consumes old new bytes × (length bytes ≡ n)
 
 -- the count rose, or the limit was taken
 abbrev pub HasReadCause : Option (List ℕ) → Option (List ℕ) → ℕ → ℕ → ScenarioFault → Type 0
 HasReadCause old new before now ReadFault = Rose before now
-HasReadCause old new before now (TooLong taken) = (taken ≡ scenario_limit) × Took old new scenario_limit
+HasReadCause old new before now (TooLong taken) = (taken ≡ scenario_limit) × ConsumesExactly old new scenario_limit
 HasReadCause old new before now Memory = Unit {0}

@@ -7,6 +7,7 @@ use Rattle.sp_feed.specs.Feed.{End, Malformed, TooLong, Truncated, Whole}
 use Rattle.sp_feed.specs.Reads.{Moment, Took}
 use Rattle.sp_feed.specs.declared.fault.FeedFault.TheVariants as faults
 use Rattle.spectre.specs.Replay.{fed, feed_limit, replied}
+use Rattle.spectre.specs.Taken.{AreAnswered, AreNeeded}
 use Rattle.spectre.specs.declared.replay.ReplayFault.{ReplayFault}
 use Rattle.spectre.specs.declared.replay.ReplayFault.TheVariants.{Feed, WriteFault, Memory}
 
@@ -31,6 +32,8 @@ SaysReply start now old new given (Err Memory) = (more : List ℕ) → AppendsFr
 pub record Replies (start now : Moment) (old new : Option (List ℕ)) (result : Result (Unit {0}) ReplayFault) : Type 0 where
   pub given : List ℕ
   pub took : Took feed_limit start now given
+  pub needed : AreNeeded given
+  pub answered : AreAnswered old new given
   pub says : SaysReply start now old new given result
 
 -- the sink's count rose at a failed write

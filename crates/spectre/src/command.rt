@@ -1,14 +1,16 @@
 //! The top call: all that the program does, with the theorem as its contract.
 
-ghost use Rattle.std.specs.Prelude.{◌⊎◌, ◌≡◌, ◌↔◌, ◌≢◌, ℕ, List, IfSome, IsNone, Some};
+ghost use Rattle.std.specs.Prelude.{◌⊎◌, ◌≡◌, ◌↔◌, ◌≢◌, ℕ, List, [], IfSome, IsNone, Some};
 ghost use Rattle.std.specs.Io.KnownBytes.{Appends, Consumes};
 ghost use Rattle.sp_io.specs.Causes.{Rose};
-ghost use Rattle.sp_io.specs.Whole.{AppendsFront};
+ghost use Rattle.sp_io.specs.Whole.{AppendsFront, ConsumesUpTo};
 ghost use Rattle.spectre.specs.Calls.{command_in, texts};
 ghost use Rattle.spectre.specs.Ends.{Comes};
-ghost use Rattle.spectre.specs.Faults.{IsFaultless, IsMalformed, IsTooLong, IsTruncated, unread};
+ghost use Rattle.spectre.specs.Faults.{beyond, IsFaultless, IsMalformed, IsTooLong, IsTruncated, unread};
 ghost use Rattle.spectre.specs.Output.{output};
 ghost use Rattle.spectre.specs.Replay.{replied};
+ghost use Rattle.spectre.specs.Taken.{TakesFeed};
+ghost use Rattle.spectre.specs.Words.{scenario_limit};
 
 use crate::call::{Command, command_of};
 use crate::play::play;
@@ -18,11 +20,12 @@ use sp_io::{Sink, Source};
 use std::alloc::Global;
 
 /// Runs the program on the words after its name, and answers how the run ended. `play` reads its
-/// scenario from `source` to the end before it writes the first line to `sink`; it takes time in
-/// proportion to the scenario's bytes, and for n blocks at most n^4 steps for each block and for
-/// each question that follows one. `replay` reads a feed from `source` message by message and
-/// writes the line of each to `sink` before it reads the next; it takes at most n^5 steps for a
-/// block that makes n blocks present, and a look-up for each question.
+/// scenario from `source` to the end before it writes the first line to `sink`, and `replay` reads a
+/// feed message by message and writes the line of each before it takes a byte of the next.
+///
+/// No clause speaks of time. `play` takes about n^4 steps for the nth block and for each question
+/// that follows a block, and `replay` about n^5 for an arrival after which n blocks are
+/// present, if any became so.
 pub fn run<S: Source, K: Sink>(
     alloc: Global,
     words: &[String],
@@ -54,6 +57,24 @@ pub fn run<S: Source, K: Sink>(
         Appends (K.taken sink.old) (K.taken sink.new) (output (texts words.now) input)
         × IsTooLong (command_in (texts words.now)) input) }
 
+    // However the run ends, of a scenario 16,777,216 bytes were taken at most. Of a feed no more
+    // were than its limit, and none that wasn't needed: each front of them that isn't all ends too
+    // early for a feed, and the lines of its messages were written.
+    ensures taken { command_in (texts words.now) ≡ Some Command.Play
+        → ConsumesUpTo (S.left source.old) (S.left source.new) scenario_limit }
+    ensures taken_fed { command_in (texts words.now) ≡ Some Command.Replay → TakesFeed
+        (S.left source.old) (S.left source.new) (K.taken sink.old) (K.taken sink.new) }
+
+    // A faulty scenario is taken whole, and so is a feed that ends too early; of what is too long
+    // just the limit is.
+    ensures malformed_end { result ≡ Status.Malformed
+        → command_in (texts words.now) ≡ Some Command.Play → IfSome (S.left source.old) (λ input.
+        S.left source.new ≡ Some []) }
+    ensures truncated_end { result ≡ Status.Truncated → IfSome (S.left source.old) (λ input.
+        S.left source.new ≡ Some []) }
+    ensures too_long_end { result ≡ Status.TooLong → IfSome (S.left source.old) (λ input.
+        S.left source.new ≡ Some (beyond (command_in (texts words.now)) input)) }
+
     // Where a read failed, the sink took nothing of a scenario, and of a feed exactly the lines of
     // the messages in the bytes that were given.
     ensures read_fault { result ≡ Status.ReadFault
@@ -70,6 +91,10 @@ pub fn run<S: Source, K: Sink>(
     ensures write_cause { result ≡ Status.WriteFault → Rose (K.faults sink.old) (K.faults sink.new) }
     ensures memory { result ≡ Status.Memory → IfSome (S.left source.old) (λ input.
         AppendsFront (K.taken sink.old) (K.taken sink.new) (output (texts words.now) input)) }
+
+    // No count rose in any other end.
+    ensures read_quiet { result ≢ Status.ReadFault → S.faults source.new ≡ S.faults source.old }
+    ensures write_quiet { result ≢ Status.WriteFault → K.faults sink.new ≡ K.faults sink.old }
 
     // Where nothing failed and the input has no fault, the run is done, or memory was refused.
     ensures complete { ¬ Rose (S.faults source.old) (S.faults source.new)

@@ -16,6 +16,10 @@ mod status;
 mod tests;
 mod votes;
 
+ghost use Rattle.std.specs.Prelude.{◌⊎◌, ◌≡◌, IfErr};
+ghost use Rattle.std.specs.Process.{exit_status};
+ghost use Rattle.spectre.specs.Codes.{code_of};
+
 use command::run;
 use sp_io::{StdSink, StdSource};
 use status::Status;
@@ -23,7 +27,9 @@ use std::process::ExitCode;
 use std::{env, io};
 
 /// The words after the program's name, or the status where they can't be had.
-fn words_of_call(rt: &(impl env::Env + AllocGlobal)) -> Result<Vec<String>, Status> {
+fn words_of_call(rt: &(impl env::Env + AllocGlobal)) -> Result<Vec<String>, Status>
+    ensures { IfErr result (λ status. (status ≡ Status.Usage) ⊎ (status ≡ Status.Memory)) }
+{
     match env::args(rt) {
         Ok(all) => {
             let mut words = Vec::new(rt.alloc());
@@ -39,6 +45,13 @@ fn words_of_call(rt: &(impl env::Env + AllocGlobal)) -> Result<Vec<String>, Stat
     }
 }
 
+/// What the process ends with.
+fn exit_of(status: Status) -> ExitCode
+    ensures { exit_status result ≡ code_of status }
+{
+    ExitCode::from(status.code())
+}
+
 fn main(rt: HostRuntime) -> ExitCode {
     let status = match words_of_call(&rt) {
         Ok(words) => {
@@ -51,5 +64,5 @@ fn main(rt: HostRuntime) -> ExitCode {
     if status == Status::Usage {
         let _ = eprintln!(rt; "usage: spectre play | replay");
     }
-    ExitCode::from(status.code())
+    exit_of(status)
 }

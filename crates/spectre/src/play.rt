@@ -1,10 +1,10 @@
 //! The playing of a scenario: it is read whole, and then answered line by line up to its first
-//! fault, each answer written before the next line is judged.
+//! fault.
 
-ghost use Rattle.std.specs.Prelude.{◌≡◌, ◌≢◌, ◌<◌, ◌≤◌, [], ℕ, length, IfErr, IfOk, IfSome, IsNone, IsSome, OnErr, OnOk, Some, vec_len};
+ghost use Rattle.std.specs.Prelude.{◌≡◌, ◌≢◌, ◌<◌, ◌≤◌, [], ℕ, drop, length, Err, IfErr, IfOk, IfSome, IsNone, IsSome, OnErr, OnOk, Some, vec_len};
 ghost use Rattle.std.specs.Io.KnownBytes.{Appends};
 ghost use Rattle.sp_io.specs.Causes.{Rose};
-ghost use Rattle.sp_io.specs.Whole.{AppendsFront};
+ghost use Rattle.sp_io.specs.Whole.{AppendsFront, ConsumesUpTo};
 ghost use Rattle.spectre.specs.Words.{scenario_limit};
 ghost use Rattle.spectre.specs.Scenario as meant;
 ghost use Rattle.spectre.specs.Lines.{first_blocks, fault_line};
@@ -86,7 +86,7 @@ impl Table {
         ensures err { OnErr result (AppendsFront (K.taken sink.old) (K.taken sink.new)
             (line self.old.names.items self.old.blocks (Message.Block name parents))) }
         ensures cause { IfErr result (HasStopCause (K.faults sink.old) (K.faults sink.new)) }
-        ensures later { K.faults sink.old ≤ K.faults sink.new }
+        ensures quiet { result ≢ Err Stop.WriteFault → K.faults sink.new ≡ K.faults sink.old }
     {
         let text = kept_line(name.as_slice(), 1);
         self.names.reserve(1)?;
@@ -108,7 +108,7 @@ impl Table {
         ensures err { OnErr result (AppendsFront (K.taken sink.old) (K.taken sink.new)
             (line self.old.names.items self.old.blocks (Message.Vote x y))) }
         ensures cause { IfErr result (HasStopCause (K.faults sink.old) (K.faults sink.new)) }
-        ensures later { K.faults sink.old ≤ K.faults sink.new }
+        ensures quiet { result ≢ Err Stop.WriteFault → K.faults sink.new ≡ K.faults sink.old }
     {
         let text = lines::vote_line(alloc, &self.names, &mut self.blocks, x, y)?;
         write_whole(sink, text.as_slice())?;
@@ -131,7 +131,7 @@ impl Table {
         ensures err { OnErr result (AppendsFront (K.taken sink.old) (K.taken sink.new)
             (text_of self.old.names.items self.old.blocks message)) }
         ensures cause { IfErr result (HasStopCause (K.faults sink.old) (K.faults sink.new)) }
-        ensures later { K.faults sink.old ≤ K.faults sink.new }
+        ensures quiet { result ≢ Err Stop.WriteFault → K.faults sink.new ≡ K.faults sink.old }
     {
         match message {
             None => Ok(()),
@@ -149,7 +149,7 @@ fn write_fault<K: Sink>(number: u32, why: Why, sink: &mut K) -> Result<(), Stop>
     ensures err { OnErr result
         (AppendsFront (K.taken sink.old) (K.taken sink.new) (fault_line number why)) }
     ensures cause { IfErr result (HasStopCause (K.faults sink.old) (K.faults sink.new)) }
-    ensures later { K.faults sink.old ≤ K.faults sink.new }
+    ensures quiet { result ≢ Err Stop.WriteFault → K.faults sink.new ≡ K.faults sink.old }
 {
     let line = lines::fault_line(number, why);
     write_whole(sink, line.as_slice())?;
@@ -163,7 +163,7 @@ fn play_text<K: Sink>(alloc: Global, text: &[u8], sink: &mut K) -> Result<Ending
     ensures ending { IfOk result (EndsAs text.now) }
     ensures err { OnErr result (AppendsFront (K.taken sink.old) (K.taken sink.new) (played text.now)) }
     ensures cause { IfErr result (HasStopCause (K.faults sink.old) (K.faults sink.new)) }
-    ensures later { K.faults sink.old ≤ K.faults sink.new }
+    ensures quiet { result ≢ Err Stop.WriteFault → K.faults sink.new ≡ K.faults sink.old }
 {
     let mut table = Table::new(alloc)?;
     let mut rest = Some(text);
@@ -193,6 +193,7 @@ fn write_too_long<K: Sink>(sink: &mut K) -> Status
     ensures write_fault { result ≡ Status.WriteFault →
         AppendsFront (K.taken sink.old) (K.taken sink.new) said.too_long_line }
     ensures cause { result ≡ Status.WriteFault → Rose (K.faults sink.old) (K.faults sink.new) }
+    ensures quiet { result ≡ Status.TooLong → K.faults sink.new ≡ K.faults sink.old }
     ensures among { result ≢ Status.TooLong → result ≡ Status.WriteFault }
 {
     match write_whole(sink, too_long_line(16_777_216).as_slice()) {
@@ -212,9 +213,14 @@ pub fn play<S: Source, K: Sink>(alloc: Global, source: &mut S, sink: &mut K) -> 
     ensures malformed { result ≡ Status.Malformed → IfSome (S.left source.old) (λ input.
         Appends (K.taken sink.old) (K.taken sink.new) (output_by (Some Command.Play) input)
         × IsSome (meant.scene input).fault × (length input < scenario_limit)) }
+    ensures malformed_end { result ≡ Status.Malformed → IfSome (S.left source.old) (λ input.
+        S.left source.new ≡ Some []) }
     ensures too_long { result ≡ Status.TooLong → IfSome (S.left source.old) (λ input.
         Appends (K.taken sink.old) (K.taken sink.new) (output_by (Some Command.Play) input)
         × (scenario_limit ≤ length input)) }
+    ensures too_long_end { result ≡ Status.TooLong → IfSome (S.left source.old) (λ input.
+        S.left source.new ≡ Some (drop scenario_limit input)) }
+    ensures taken { ConsumesUpTo (S.left source.old) (S.left source.new) scenario_limit }
 
     ensures read_fault { result ≡ Status.ReadFault → sink.new ≡ sink.old }
     ensures write_fault { result ≡ Status.WriteFault → IfSome (S.left source.old) (λ input.
@@ -223,6 +229,8 @@ pub fn play<S: Source, K: Sink>(alloc: Global, source: &mut S, sink: &mut K) -> 
         AppendsFront (K.taken sink.old) (K.taken sink.new) (output_by (Some Command.Play) input)) }
     ensures read_cause { result ≡ Status.ReadFault → Rose (S.faults source.old) (S.faults source.new) }
     ensures write_cause { result ≡ Status.WriteFault → Rose (K.faults sink.old) (K.faults sink.new) }
+    ensures read_quiet { result ≢ Status.ReadFault → S.faults source.new ≡ S.faults source.old }
+    ensures write_quiet { result ≢ Status.WriteFault → K.faults sink.new ≡ K.faults sink.old }
 
     ensures among { Plays result }
 {

@@ -1,7 +1,7 @@
 //! The answering of a feed: message by message up to its end or its first fault, each line written
-//! before the next message is read.
+//! before a byte of the next message is taken.
 
-ghost use Rattle.std.specs.Prelude.{◌≡◌, ◌≢◌, ◌≤◌, ◌∷◌, ◌⊎◌, [], ℕ, true, IfErr, IfOk, IfSome, List, Ok, Some};
+ghost use Rattle.std.specs.Prelude.{◌≡◌, ◌≢◌, ◌∷◌, [], ℕ, true, drop, Err, IfErr, IfOk, IfSome, List, Ok, Some};
 ghost use Rattle.std.specs.Io.KnownBytes.{Appends, Consumes};
 ghost use Rattle.sp_io.specs.Causes.{Rose};
 ghost use Rattle.sp_io.specs.Whole.{AppendsFront};
@@ -9,9 +9,10 @@ ghost use Rattle.sp_engine.specs.Blocks.{block_in};
 ghost use Rattle.sp_feed.specs.Reads.{moment};
 ghost use Rattle.sp_node.specs.Node.{state};
 ghost use Rattle.spectre.specs.Ends.{Replays};
-ghost use Rattle.spectre.specs.Faults.{EndsMalformed, EndsTooLong, EndsTruncated, EndsWhole, fault_text, rest_behind, status_of};
-ghost use Rattle.spectre.specs.Replay.{fed, replayed, replied};
+ghost use Rattle.spectre.specs.Faults.{EndsMalformed, EndsTooLong, EndsTruncated, EndsWhole, feed_fault_text, rest_behind, status_of};
+ghost use Rattle.spectre.specs.Replay.{fed, feed_limit, replayed, replied};
 ghost use Rattle.spectre.specs.Replaying.{HasWriteCause, Replies};
+ghost use Rattle.spectre.specs.Taken.{TakesFeed};
 
 use crate::status::Status;
 use sp_feed::{FeedFault, FeedHead, FeedReader, HeadFault, Message};
@@ -93,7 +94,7 @@ fn node_of(alloc: Global, head: FeedHead) -> Result<Node, Refused>
     Node::plain(alloc, FeedHead { bits, genesis })
 }
 
-/// Answers each message of a feed. Not a byte behind the frame `E` is read.
+/// Answers each message of a feed.
 fn answer_messages<S: Source, K: Sink>(
     alloc: Global,
     source: &mut S,
@@ -104,7 +105,10 @@ fn answer_messages<S: Source, K: Sink>(
         (moment (S.left source.new) (S.faults source.new) taken)
         (K.taken sink.old) (K.taken sink.new) result }
     ensures cause { IfErr result (HasWriteCause (K.faults sink.old) (K.faults sink.new)) }
-    ensures later { K.faults sink.old ≤ K.faults sink.new }
+    ensures read_quiet { result ≢ Err (ReplayFault.Feed FeedFault.ReadFault)
+        → S.faults source.new ≡ S.faults source.old }
+    ensures write_quiet { result ≢ Err ReplayFault.WriteFault
+        → K.faults sink.new ≡ K.faults sink.old }
 {
     let mut reader = FeedReader::new(alloc)?;
     let head = reader.head(source)?;
@@ -121,7 +125,7 @@ fn answer_messages<S: Source, K: Sink>(
 
 /// The line of a feed's fault; none where a read failed.
 fn line_of(fault: FeedFault) -> Line
-    ensures { result ≡ fault_text fault }
+    ensures { result ≡ feed_fault_text fault }
 {
     match fault {
         FeedFault::Malformed { at } => malformed_line(at),
@@ -144,14 +148,14 @@ fn status_by(fault: FeedFault) -> Status
 }
 
 /// Writes the line of a feed's fault.
-fn tell<K: Sink>(fault: FeedFault, sink: &mut K) -> Status
-    ensures told { result ≢ Status.WriteFault → result ≡ status_of fault }
+fn write_fault<K: Sink>(fault: FeedFault, sink: &mut K) -> Status
+    ensures status { result ≢ Status.WriteFault → result ≡ status_of fault }
     ensures text { result ≢ Status.WriteFault →
-        Appends (K.taken sink.old) (K.taken sink.new) (fault_text fault) }
-    ensures front { result ≡ Status.WriteFault →
-        AppendsFront (K.taken sink.old) (K.taken sink.new) (fault_text fault) }
+        Appends (K.taken sink.old) (K.taken sink.new) (feed_fault_text fault) }
+    ensures front { AppendsFront (K.taken sink.old) (K.taken sink.new) (feed_fault_text fault) }
     ensures cause { result ≡ Status.WriteFault → Rose (K.faults sink.old) (K.faults sink.new) }
-    ensures quiet { fault ≡ FeedFault.ReadFault → result ≡ Status.ReadFault }
+    ensures quiet { result ≢ Status.WriteFault → K.faults sink.new ≡ K.faults sink.old }
+    ensures read_fault { fault ≡ FeedFault.ReadFault → result ≡ Status.ReadFault }
 {
     let line = line_of(fault);
     match write_whole(sink, line.as_slice()) {
@@ -161,8 +165,8 @@ fn tell<K: Sink>(fault: FeedFault, sink: &mut K) -> Status
 }
 
 /// Answers a feed: one line for each message, and then the line of the feed's fault, where it has
-/// one. What follows the frame `E` stays unread. It takes the time of the engine for each block,
-/// and a look-up for each question.
+/// one. What follows the frame `E` stays unread. It takes about the time of the engine for each
+/// block.
 pub fn replay<S: Source, K: Sink>(alloc: Global, source: &mut S, sink: &mut K) -> Status
     ensures done { result ≡ Status.Done → IfSome (S.left source.old) (λ input.
         Appends (K.taken sink.old) (K.taken sink.new) (replayed input) × EndsWhole (fed input).end) }
@@ -175,9 +179,15 @@ pub fn replay<S: Source, K: Sink>(alloc: Global, source: &mut S, sink: &mut K) -
     ensures truncated { result ≡ Status.Truncated → IfSome (S.left source.old) (λ input.
         Appends (K.taken sink.old) (K.taken sink.new) (replayed input)
         × EndsTruncated (fed input).end) }
+    ensures truncated_end { result ≡ Status.Truncated → IfSome (S.left source.old) (λ input.
+        S.left source.new ≡ Some []) }
     ensures too_long { result ≡ Status.TooLong → IfSome (S.left source.old) (λ input.
         Appends (K.taken sink.old) (K.taken sink.new) (replayed input)
         × EndsTooLong (fed input).end) }
+    ensures too_long_end { result ≡ Status.TooLong → IfSome (S.left source.old) (λ input.
+        S.left source.new ≡ Some (drop feed_limit input)) }
+    ensures taken { TakesFeed
+        (S.left source.old) (S.left source.new) (K.taken sink.old) (K.taken sink.new) }
 
     ensures read_fault { result ≡ Status.ReadFault → (given : List ℕ)
         × Consumes (S.left source.old) (S.left source.new) given
@@ -188,12 +198,14 @@ pub fn replay<S: Source, K: Sink>(alloc: Global, source: &mut S, sink: &mut K) -
         AppendsFront (K.taken sink.old) (K.taken sink.new) (replayed input)) }
     ensures read_cause { result ≡ Status.ReadFault → Rose (S.faults source.old) (S.faults source.new) }
     ensures write_cause { result ≡ Status.WriteFault → Rose (K.faults sink.old) (K.faults sink.new) }
+    ensures read_quiet { result ≢ Status.ReadFault → S.faults source.new ≡ S.faults source.old }
+    ensures write_quiet { result ≢ Status.WriteFault → K.faults sink.new ≡ K.faults sink.old }
 
     ensures among { Replays result }
 {
     match answer_messages(alloc, source, sink) {
         Ok(()) => Status::Done,
-        Err(ReplayFault::Feed(fault)) => tell(fault, sink),
+        Err(ReplayFault::Feed(fault)) => write_fault(fault, sink),
         Err(ReplayFault::WriteFault) => Status::WriteFault,
         Err(ReplayFault::Memory) => Status::Memory,
     }

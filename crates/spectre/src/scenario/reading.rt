@@ -1,7 +1,8 @@
 //! The reading of a whole scenario from a source, up to the limit of its bytes.
 
-ghost use Rattle.std.specs.Prelude.{◌≡◌, ◌<◌, ◌≤◌, IfOk, IfErr, vec_len};
+ghost use Rattle.std.specs.Prelude.{◌≡◌, ◌≢◌, ◌<◌, Err, IfOk, IfErr, vec_len};
 ghost use Rattle.std.specs.Io.KnownBytes.{Consumes, IsAtEnd};
+ghost use Rattle.sp_io.specs.Whole.{ConsumesUpTo};
 ghost use Rattle.spectre.specs.Reading.{HasReadCause};
 ghost use Rattle.spectre.specs.Words.{scenario_limit};
 
@@ -33,17 +34,17 @@ impl From<AllocError> for ScenarioFault {
 /// A scenario has fewer bytes than this.
 const LIMIT: u32 = 16_777_216;
 
-/// How many bytes are asked for at a time.
+/// How many bytes are asked for at a time, at most.
 const PIECE: usize = 4096;
 
-/// Reads a source to its end, or until 16,777,216 bytes are taken; it isn't asked for more. Each
-/// turn takes a byte or ends.
+/// Reads a source to its end, or until 16,777,216 bytes are taken, and takes no more.
 pub fn read_scenario<S: Source>(alloc: Global, source: &mut S) -> Result<Vec<u8>, ScenarioFault>
     ensures bytes { IfOk result (λ text. Consumes (S.left source.old) (S.left source.new) text.items) }
     ensures end { IfOk result (λ _. IsAtEnd (S.left source.new)) }
     ensures short { IfOk result (λ text. vec_len text < scenario_limit) }
     ensures cause { IfErr result (HasReadCause (S.left source.old) (S.left source.new) (S.faults source.old) (S.faults source.new)) }
-    ensures later { S.faults source.old ≤ S.faults source.new }
+    ensures taken { ConsumesUpTo (S.left source.old) (S.left source.new) scenario_limit }
+    ensures quiet { result ≢ Err ScenarioFault.ReadFault → S.faults source.new ≡ S.faults source.old }
 {
     let limit = LIMIT as usize;
     let mut text = Vec::new(alloc);

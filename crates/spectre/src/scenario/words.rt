@@ -81,7 +81,7 @@ impl<'a> Model for Words<'a> {
 }
 
 impl<'a> Words<'a> {
-    /// The words of a line, in time in proportion to its bytes.
+    /// The words of a line, in time about in proportion to its bytes.
     pub fn of(alloc: Global, line: &'a [u8]) -> Result<Words<'a>, Memory>
         ensures { IfOk result (λ words. words ≡ words_of line.now) }
     {

@@ -113,8 +113,8 @@ fn votes_of(
     Ok(votes)
 }
 
-/// The virtual vote of the members on `x` and `y`. It takes as many steps as the square of the
-/// number of blocks at most.
+/// The virtual vote of the members on `x` and `y`. It takes time about as the square of the number
+/// of blocks.
 pub fn virt_of(alloc: Global, dag: &Dag, members: &[bool], x: usize, y: usize) -> Result<i8, Memory>
     requires width { length members.now ≡ length dag.now }
     requires x_in { x < length members.now }

@@ -97,8 +97,8 @@ impl Poll {
         Ok(Poll { dag, all: None })
     }
 
-    /// Adds a block, which is present at once since its parents stand before it. It takes as many
-    /// steps as the fourth power of the number of blocks at most.
+    /// Adds a block, which is present at once since its parents stand before it. It takes time about
+    /// as the fourth power of the number of blocks.
     pub fn add(&mut self, alloc: Global, parents: Places) -> Result<(), Memory>
         requires room { length self.old < 64 }
         requires before { (parent : ℕ) → has parents parent ≡ true → parent < length self.old }
@@ -126,8 +126,8 @@ impl Poll {
         virts_of_all(alloc, &self.dag)
     }
 
-    /// What all blocks say of two of them. It takes as many steps as the fourth power of the number
-    /// of blocks at most where a block was added since the last question, else a few.
+    /// What all blocks say of two of them. It takes time about as the fourth power of the number of
+    /// blocks where a block was added since the last question, else little.
     pub fn word(&mut self, alloc: Global, x: usize, y: usize) -> Result<Word, Memory>
         requires x_in { x < length self.old }
         requires y_in { y < length self.old }

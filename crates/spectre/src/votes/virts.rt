@@ -32,8 +32,8 @@ fn push_virts(
     Ok(())
 }
 
-/// The virtual votes of the members on each two blocks. It takes as many steps as the fourth power
-/// of the number of blocks at most.
+/// The virtual votes of the members on each two blocks. It takes time about as the fourth power of
+/// the number of blocks.
 pub fn virts_of(alloc: Global, dag: &Dag, members: &[bool]) -> Result<Matrix, Memory>
     requires width { length members.now ≡ length dag.now }
     requires whole { IsDownset (graph_of dag.now) (members_of members.now) }

@@ -62,6 +62,6 @@ pieces-preserved g c =
       within = grind (arith, common_steps);
       counted = omega arith;
       bytes = subst P (sym joined) consumed;
-      later = omega (arith, c.in-Ok.ensures.cause.later);
+      quiet = omega (arith, c.in-Ok.ensures.cause.quiet);
       unasked = λ e. absurd (let room : filled < c.args.limit - c.args.taken.now = omega arith in omega (arith, e, room));
     }

@@ -9,7 +9,7 @@ invariant-pieces g l =
       within : l.filled ≤ l.wanted;
       counted : l.taken ≡ l.fn.taken + l.filled;
       bytes : Consumes (left l.fn.source) (left l.source) (take l.filled l.out);
-      later : faults l.fn.source ≤ faults l.source;
+      quiet : faults l.source ≡ faults l.fn.source;
       unasked : l.fn.taken ≡ l.limit → l.source ≡ l.fn.source;
     }
 

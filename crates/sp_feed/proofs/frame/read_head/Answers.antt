@@ -30,13 +30,13 @@ pub returns-in_err-read_block_letter-clause-reads : goal.returns-in_err-read_blo
 unfolding head_form
 returns-in_err-read_block_letter-clause-reads g c =
     let p = err_from_is_err_and c.from_residual-in_err-read_block_letter.result c.from_residual-in_err-read_block_letter.ensures.1 in
-    rw (p.1, p.2) (head_err (reads_then _ c.in_ok-read_name.ensures.reads (reads_then _ c.in_ok-bits.ensures.reads (reads_stop _ c.in_err-read_block_letter.ensures))))
+    rw (p.1, p.2) (head_err (reads_then _ c.in_ok-read_name.ensures.reads (reads_then _ c.in_ok-bits.ensures.reads (reads_stop _ c.in_err-read_block_letter.ensures.reads))))
 
 pub returns-in_err-length-clause-reads : goal.returns-in_err-length-clause-reads
 unfolding head_form
 returns-in_err-length-clause-reads g c =
     let p = err_from_is_err_and c.from_residual-in_err-length.result c.from_residual-in_err-length.ensures.1 in
-    rw (p.1, p.2) (head_err (reads_then _ c.in_ok-read_name.ensures.reads (reads_then _ c.in_ok-bits.ensures.reads (reads_then _ c.in_ok-read_block_letter.ensures (reads_stop _ c.in_err-length.ensures.reads)))))
+    rw (p.1, p.2) (head_err (reads_then _ c.in_ok-read_name.ensures.reads (reads_then _ c.in_ok-bits.ensures.reads (reads_then _ c.in_ok-read_block_letter.ensures.reads (reads_stop _ c.in_err-length.ensures.reads)))))
 
 pub returns-in_err-fill-clause-reads : goal.returns-in_err-fill-clause-reads
 unfolding head_form
@@ -44,7 +44,7 @@ returns-in_err-fill-clause-reads g c =
     let p = err_from_is_err_and c.from_residual-in_err-fill.result c.from_residual-in_err-fill.ensures.1 in
     let n = c.in_ok-length.field-0 in
     let long : length c.fill.new.out ≡ n = grind (arith, common_steps) in
-    rw (p.1, p.2) (head_err (reads_then _ c.in_ok-read_name.ensures.reads (reads_then _ c.in_ok-bits.ensures.reads (reads_then _ c.in_ok-read_block_letter.ensures (reads_then _ c.in_ok-length.ensures.reads
+    rw (p.1, p.2) (head_err (reads_then _ c.in_ok-read_name.ensures.reads (reads_then _ c.in_ok-bits.ensures.reads (reads_then _ c.in_ok-read_block_letter.ensures.reads (reads_then _ c.in_ok-length.ensures.reads
     (reads_stop _ (reads_short n (λ bytes. rule (is_genesis bytes) broken ∷ []) (λ bytes. bytes) (λ (out : List ℕ). out) c.in_err-fill.ensures.fills long)))))))
 
 pub returns-in-Ok-clause-reads : goal.returns-in-Ok-clause-reads
@@ -57,7 +57,7 @@ returns-in-Ok-clause-reads g c =
     let whole : bytes ≡ out = take_at out (drop n c.args.payload.now) n long in
     let is : is_genesis out ≡ true = ap is_genesis (sym whole) ∙ spelled_genesis bytes (parts_of c.in-Ok.genesis) c.in-Ok.ensures.found in
     let same : out ≡ c.in-Ok.genesis.bytes = sym whole ∙ sym (ap (λ (b : ReadBlock). b.bytes) c.in-Ok.ensures.block) in
-    head_ok (reads_then _ c.in_ok-read_name.ensures.reads (reads_then _ c.in_ok-bits.ensures.reads (reads_then _ c.in_ok-read_block_letter.ensures (reads_then _ c.in_ok-length.ensures.reads
+    head_ok (reads_then _ c.in_ok-read_name.ensures.reads (reads_then _ c.in_ok-bits.ensures.reads (reads_then _ c.in_ok-read_block_letter.ensures.reads (reads_then _ c.in_ok-length.ensures.reads
     (reads_last (head_of c.in_ok-bits.bits) _ (reads_field n (λ bytes. rule (is_genesis bytes) broken ∷ []) (λ bytes. bytes) (λ (out : List ℕ). out) out c.in_ok-fill.ensures.fills long (met (is_genesis out) is) refl) (ap (head_of c.in_ok-bits.bits) same))))))
 
 pub returns-in-Err-Fault-clause-reads : goal.returns-in-Err-Fault-clause-reads
@@ -70,7 +70,7 @@ returns-in-Err-Fault-clause-reads g c =
     let whole : bytes ≡ out = take_at out (drop n c.args.payload.now) n long in
     let fault : HasBlockFault bytes true c.in-Err-Fault.field-0-0 = subst (IsCause (HasBlockFault bytes true)) c.in-Err-Fault.field-0-is c.in-Err-Fault.ensures.fault in
     let is : is_genesis out ≡ false = ap is_genesis (sym whole) ∙ faulty_genesis bytes c.in-Err-Fault.field-0-0 fault in
-    head_err (reads_then _ c.in_ok-read_name.ensures.reads (reads_then _ c.in_ok-bits.ensures.reads (reads_then _ c.in_ok-read_block_letter.ensures (reads_then _ c.in_ok-length.ensures.reads
+    head_err (reads_then _ c.in_ok-read_name.ensures.reads (reads_then _ c.in_ok-bits.ensures.reads (reads_then _ c.in_ok-read_block_letter.ensures.reads (reads_then _ c.in_ok-length.ensures.reads
     (reads_stop _ (reads_faulty n (λ bytes. rule (is_genesis bytes) broken ∷ []) (λ bytes. bytes) (λ (out : List ℕ). out) broken c.in_ok-fill.ensures.fills long (unmet (is_genesis out) is)))))))
 
 pub returns-in-Err-Memory-clause-reads : goal.returns-in-Err-Memory-clause-reads
@@ -78,5 +78,5 @@ unfolding head_form
 returns-in-Err-Memory-clause-reads g c =
     let n = c.in_ok-length.field-0 in
     let long : length c.fill.new.out ≡ n = grind (arith, common_steps) in
-    head_memory (reads_then _ c.in_ok-read_name.ensures.reads (reads_then _ c.in_ok-bits.ensures.reads (reads_then _ c.in_ok-read_block_letter.ensures (reads_then _ c.in_ok-length.ensures.reads
+    head_memory (reads_then _ c.in_ok-read_name.ensures.reads (reads_then _ c.in_ok-bits.ensures.reads (reads_then _ c.in_ok-read_block_letter.ensures.reads (reads_then _ c.in_ok-length.ensures.reads
     (reads_judged n is_genesis (head_of c.in_ok-bits.bits) c.in_ok-fill.ensures.fills long).1))))

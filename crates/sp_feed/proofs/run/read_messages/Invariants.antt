@@ -12,6 +12,7 @@ invariant-messages g l =
       opened : IsTrue (is_open l.reader.stage);
       unended : l.reader.stage ≡ Behind None → ⊥;
       so_far : SoFar l.limit (moment (left l.fn.source) (faults l.fn.source) 0) (moment (left l.source) (faults l.source) l.reader.taken) (head_in l.head) (g.V.Visitor.seen l.fn.visitor) (g.V.Visitor.seen l.visitor);
+      quiet : faults l.source ≡ faults l.fn.source;
     }
 
 abbrev pub decreases-messages : goal.decreases-messages

@@ -2,7 +2,7 @@ use Rattle.std.proofs.Common.{◌<◌, ℕ, List, ap, subst, length, arith}
 use Rattle.sp_io.specs.Whole.{AppendsFront}
 use Rattle.spectre.specs.Words.{scenario_limit}
 use Rattle.spectre.specs.Output.{played}
-use Rattle.spectre.proofs.Outputs.{on_nothing, on_played, on_too_long}
+use Rattle.spectre.proofs.Outputs.{on_limit, on_nothing, on_played, on_too_long}
 use Rattle.spectre.proofs.play.play.Goals as goal
 
 pub returns-in-Err-TooLong-clause-write_fault : goal.returns-in-Err-TooLong-clause-write_fault
@@ -11,6 +11,11 @@ returns-in-Err-TooLong-clause-write_fault g c = λ e.
     let b = g.K.Sink.taken c.write_too_long.new.sink in
     let cause = rw c.in-Err-TooLong.field-0-is at c.in-Err-TooLong.ensures.cause in
     on_too_long (AppendsFront a b) (g.S.Source.left c.args.source.now) (g.S.Source.left c.read_scenario.new.source) cause.1 (c.write_too_long.ensures.write_fault e)
+
+pub returns-in-Err-TooLong-clause-too_long_end : goal.returns-in-Err-TooLong-clause-too_long_end
+returns-in-Err-TooLong-clause-too_long_end g c = λ _.
+    let cause = rw c.in-Err-TooLong.field-0-is at c.in-Err-TooLong.ensures.cause in
+    on_limit (g.S.Source.left c.args.source.now) (g.S.Source.left c.read_scenario.new.source) cause.1
 
 pub returns-in-Err-Memory-clause-memory : goal.returns-in-Err-Memory-clause-memory
 returns-in-Err-Memory-clause-memory g c = λ _. on_nothing (g.K.Sink.taken c.args.sink.now) (g.S.Source.left c.args.source.now)

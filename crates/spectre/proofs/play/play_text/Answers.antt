@@ -1,4 +1,4 @@
-use Rattle.std.proofs.Common.{◌<◌, ◌≤◌, ℕ, List, Option, Some, None, IfSome, Bor, length, sym, ap, ◌∙◌, arith, option_copied}
+use Rattle.std.proofs.Common.{◌<◌, ◌≤◌, ℕ, List, Option, Some, None, IfSome, Bor, length, sym, ap, refl, ◌∙◌, arith, option_copied}
 use Rattle.spectre.specs.Words.{lines_left}
 use Rattle.sp_io.proofs.Stops.{stops_at_start, on_err}
 use Rattle.spectre.proofs.Progress.{at_start, after_line, line_stops, at_fault, fault_stops, is_faulty, all_written, is_whole}
@@ -16,7 +16,7 @@ pub lines-init : goal.lines-init
 lines-init g c = record {
   progress = at_start (g.K.Sink.taken c.args.sink.now) c.args.text.now c.in_ok-table.table.names.items c.in_ok-table.table.blocks c.in_ok-table.ensures.names c.in_ok-table.ensures.blocks;
   counted = omega arith;
-  later = omega arith;
+  quiet = refl;
 }
 
 pub returns-in_default-clause-ok : goal.returns-in_default-clause-ok
@@ -52,5 +52,5 @@ lines-preserved g c =
     record {
       progress = after_line (g.K.Sink.taken c.answer.new.sink) _ _ c.in-Ok.message _ _ c.lines.invariant.progress lines (sym c.in_ok-message.ensures.said ∙ c.in-Ok.is) c.in_ok-answer-in-Ok.ensures.ok c.in_ok-answer-in-Ok.ensures.names c.in_ok-answer-in-Ok.ensures.blocks;
       counted = omega (arith, before, room_left c.first_line.result.1 (length c.in-Some.bytes.now) c.first_line.ensures.shorter, c.lines.invariant.counted);
-      later = omega (arith, c.in_ok-answer-in-Ok.ensures.later);
+      quiet = c.in_ok-answer-in-Ok.ensures.quiet (λ h. cc) ∙ c.lines.invariant.quiet;
     }

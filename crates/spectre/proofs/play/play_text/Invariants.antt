@@ -1,4 +1,4 @@
-use Rattle.std.proofs.Common.{◌≤◌, ◌+◌, ℕ, length, Option, Some, None, option_copied, List}
+use Rattle.std.proofs.Common.{◌≡◌, ◌≤◌, ◌+◌, ℕ, length, Option, Some, None, option_copied, List}
 use Rattle.spectre.specs.Words.{lines_left}
 use Rattle.spectre.proofs.Progress.{Progress}
 use Rattle.spectre.proofs.play.play_text.Given as goal
@@ -15,7 +15,7 @@ invariant-lines g l =
     record {
       progress : Progress (taken l.fn.sink) (taken l.sink) l.text l.table.names.items l.table.blocks l.number (lines_left rest);
       counted : l.number + room rest ≤ length l.text + 2;
-      later : faults l.fn.sink ≤ faults l.sink;
+      quiet : faults l.sink ≡ faults l.fn.sink;
     }
 
 abbrev pub decreases-lines : goal.decreases-lines

@@ -1,22 +1,21 @@
-use Rattle.std.proofs.Common.{◌≡◌, ◌∙◌, [], None, Some, IfSome, Option, refl, ap, sym, subst, arith}
+use Rattle.std.proofs.Common.{◌≡◌, ◌∙◌, [], None, Some, Err, IfSome, Option, refl, ap, sym, subst, arith}
 use Rattle.std.specs.Io.KnownBytes.{Appends}
 use Rattle.std.proofs.lemmas.Result.{err_from_is_err_and}
 use Rattle.sp_io.specs.Whole.{AppendsFront}
 use Rattle.sp_feed.specs.Kinds.{Said}
 use Rattle.sp_feed.specs.Reader.{last_of}
 use Rattle.sp_feed.specs.Reads.{moment}
-use Rattle.sp_feed.proofs.WholeFeeds.{all_memory, behind_open, from_limit, from_start, not_behind, opened, tells}
+use Rattle.sp_feed.proofs.WholeFeeds.{behind_open, from_limit, from_start, not_behind, opened, tells}
 use Rattle.sp_node.specs.Answers.{kept_then, line_of}
-use Rattle.spectre.specs.Replay.{feed_limit}
-use Rattle.spectre.proofs.Replies.{at_end, at_fault, at_head, head_fault, not_answered, nothing_yet, one_more, stop_cause, stopped_at}
+use Rattle.spectre.specs.declared.replay.ReplayFault.TheVariants.{Feed}
+use Rattle.spectre.proofs.Replies.{at_end, at_fault, at_head, head_fault, not_answered, nothing_behind_head, nothing_read, one_more, quiet_head, quiet_next, quiet_node, stop_cause}
 use Rattle.spectre.proofs.replay.answer_messages.Goals as goal
 
 pub returns-in_err-reader-clause-replies : goal.returns-in_err-reader-clause-replies
 returns-in_err-reader-clause-replies g c =
     let p = err_from_is_err_and c.from_residual.result c.from_residual.ensures.1 in
     let start = moment (g.S.Source.left c.args.source.now) (g.S.Source.faults c.args.source.now) 0 in
-    let nothing = all_memory feed_limit start (λ h. h) [] (omega arith) in
-    rw (p.1, p.2) (0, nothing_yet (g.K.Sink.taken c.args.sink.now) nothing.given nothing.took)
+    rw (p.1, p.2) (0, nothing_read start (g.K.Sink.taken c.args.sink.now) (omega arith))
 
 pub returns-in_err-head-clause-replies : goal.returns-in_err-head-clause-replies
 returns-in_err-head-clause-replies g c =
@@ -27,7 +26,7 @@ pub returns-in_err-node-clause-replies : goal.returns-in_err-node-clause-replies
 returns-in_err-node-clause-replies g c =
     let p = err_from_is_err_and c.from_residual-in_err-node.result c.from_residual-in_err-node.ensures.1 in
     let gives = from_start (ap (λ r. r.limit) c.in_ok-reader.ensures) (ap (λ r. r.taken) c.in_ok-reader.ensures) c.in_ok-head.ensures.gives in
-    rw (p.1, p.2) (c.head.new.self.taken, nothing_yet (g.K.Sink.taken c.args.sink.now) gives.given gives.took)
+    rw (p.1, p.2) (c.head.new.self.taken, nothing_behind_head (g.K.Sink.taken c.args.sink.now) gives)
 
 pub messages-init : goal.messages-init
 messages-init g c = record {
@@ -37,13 +36,24 @@ messages-init g c = record {
   live = ap (λ n. n.stopped) c.in_ok-node.ensures.node;
   answering = at_head (g.K.Sink.taken c.args.sink.now) refl (from_start (ap (λ r. r.limit) c.in_ok-reader.ensures) (ap (λ r. r.taken) c.in_ok-reader.ensures) c.in_ok-head.ensures.gives)
       c.in_ok-node.ensures.genesis (ap (λ n. n.bits) c.in_ok-node.ensures.node) (ap (λ n. n.kept) c.in_ok-node.ensures.node);
-  later = omega arith;
+  read_quiet = c.in_ok-head.ensures.quiet;
+  write_quiet = refl;
 }
 
 pub returns-in_err-next-clause-replies : goal.returns-in_err-next-clause-replies
 returns-in_err-next-clause-replies g c =
     let p = err_from_is_err_and c.from_residual-in_err-next.result c.from_residual-in_err-next.ensures.1 in
     rw (p.1, p.2) (c.next.new.self.taken, at_fault c.messages.invariant.answering (from_limit c.messages.invariant.limit (c.in_err-next.ensures.gives c.messages.invariant.unended)))
+
+pub returns-in_err-head-clause-read_quiet : goal.returns-in_err-head-clause-read_quiet
+returns-in_err-head-clause-read_quiet g c =
+    let p = err_from_is_err_and c.from_residual-in_err-head.result c.from_residual-in_err-head.ensures.1 in
+    rw (p.1, p.2) (λ other. quiet_head _ _ _ c.in_err-head.ensures.quiet (λ h. other (ap (λ t. Err t) h)))
+
+pub returns-in_err-next-clause-read_quiet : goal.returns-in_err-next-clause-read_quiet
+returns-in_err-next-clause-read_quiet g c =
+    let p = err_from_is_err_and c.from_residual-in_err-next.result c.from_residual-in_err-next.ensures.1 in
+    rw (p.1, p.2) (λ other. quiet_next _ _ _ c.in_err-next.ensures.quiet (λ h. other (ap (λ t. Err (Feed t)) h)) ∙ c.messages.invariant.read_quiet)
 
 pub returns-in_err-next-clause-cause : goal.returns-in_err-next-clause-cause
 returns-in_err-next-clause-cause g c =
@@ -69,7 +79,8 @@ messages-preserved g c =
           (subst (λ (o : Option Said). IfSome o (λ said. Appends (g.K.Sink.taken c.messages.sink) (g.K.Sink.taken c.message.new.sink) (line_of bits kept said))) s.1 c.in_ok-message-in_default.ensures.ok)
           (subst (λ (o : Option Said). IfSome o (λ said. c.message.new.self.kept ≡ kept_then bits kept said)) s.1 c.in_ok-message-in_default.ensures.kept)
           c.in_ok-message-in_default.ensures.bits;
-      later = omega (arith, c.messages.invariant.later, c.in_ok-message-in_default.ensures.later);
+      read_quiet = c.in_ok-next.ensures.quiet ∙ c.messages.invariant.read_quiet;
+      write_quiet = c.in_ok-message-in_default.ensures.quiet (λ h. cc) ∙ c.messages.invariant.write_quiet;
     }
 
 pub returns-in_err-message-in_default : goal.returns-in_err-message-in_default
@@ -83,8 +94,9 @@ returns-in_err-message-in_default g c =
     rw (p.1, p.2) (record {
       replies = (
         c.next.new.self.taken,
-        stopped_at _ (not_answered s.0 c.messages.invariant.answering (from_limit c.messages.invariant.limit (c.in_ok-next.ensures.gives c.messages.invariant.unended)) is front),
+        not_answered _ s.0 c.messages.invariant.answering (from_limit c.messages.invariant.limit (c.in_ok-next.ensures.gives c.messages.invariant.unended)) is front,
       );
-      cause = stop_cause _ (g.K.Sink.faults c.args.sink.now) (g.K.Sink.faults c.messages.sink) (g.K.Sink.faults c.message.new.sink) c.messages.invariant.later c.in_err-message-in_default.ensures.cause;
-      later = omega (arith, c.messages.invariant.later, c.in_err-message-in_default.ensures.later);
+      cause = stop_cause _ (g.K.Sink.faults c.args.sink.now) (g.K.Sink.faults c.messages.sink) (g.K.Sink.faults c.message.new.sink) c.messages.invariant.write_quiet c.in_err-message-in_default.ensures.cause;
+      read_quiet = λ _. c.in_ok-next.ensures.quiet ∙ c.messages.invariant.read_quiet;
+      write_quiet = λ other. quiet_node _ _ _ (λ k. c.in_err-message-in_default.ensures.quiet (λ h. k cc)) (λ h. other (ap (λ t. Err t) h)) ∙ c.messages.invariant.write_quiet;
     })

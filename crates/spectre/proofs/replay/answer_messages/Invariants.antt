@@ -1,4 +1,4 @@
-use Rattle.std.proofs.Common.{◌≡◌, ◌≤◌, ◌-◌, None, IsTrue, false}
+use Rattle.std.proofs.Common.{◌≡◌, ◌-◌, None, IsTrue, false}
 use Rattle.sp_feed.specs.Reader.{Behind, is_open}
 use Rattle.sp_feed.specs.Reads.{moment}
 use Rattle.spectre.specs.Replay.{feed_limit}
@@ -14,7 +14,8 @@ invariant-messages g l =
       unended : l.reader.stage ≡ Behind None → ⊥;
       live : l.node.stopped ≡ false;
       answering : Answering (moment (left l.fn.source) (faults l.fn.source) 0) (moment (left l.source) (faults l.source) l.reader.taken) (taken l.fn.sink) (taken l.sink) l.node.bits l.node.kept;
-      later : g.K.Sink.faults l.fn.sink ≤ g.K.Sink.faults l.sink;
+      read_quiet : faults l.source ≡ faults l.fn.source;
+      write_quiet : g.K.Sink.faults l.sink ≡ g.K.Sink.faults l.fn.sink;
     }
 
 abbrev pub decreases-messages : goal.decreases-messages

@@ -10,7 +10,7 @@ invariant-pieces g l =
       limit : l.limit ≡ scenario_limit;
       within : vec_len l.text ≤ scenario_limit;
       bytes : Consumes (left l.fn.source) (left l.source) l.text.items;
-      later : faults l.fn.source ≤ faults l.source;
+      quiet : faults l.source ≡ faults l.fn.source;
     }
 
 abbrev pub decreases-pieces : goal.decreases-pieces

@@ -5,7 +5,7 @@ use Rattle.sp_feed.specs.declared.message.Message.TheVariants.{Block, Vote, End}
 use Rattle.sp_feed.specs.Kinds.{Said, SaysBlock, SaysVote}
 
 -- nothing where it is the end
-abbrev pub told : Message → Option Said
-told (Block bytes) = Some (SaysBlock bytes.now)
-told (Vote x y) = Some (SaysVote x y)
-told End = None
+abbrev pub said_by : Message → Option Said
+said_by (Block bytes) = Some (SaysBlock bytes.now)
+said_by (Vote x y) = Some (SaysVote x y)
+said_by End = None

@@ -1,0 +1,25 @@
+-- What a run takes of a feed, and what it has written by then.
+use Rattle.std.specs.Prelude.{◌≡◌, ◌<◌, ◌≤◌, ℕ, List, ◌++◌, length, Option}
+use Rattle.std.specs.Io.KnownBytes.{Consumes}
+use Rattle.sp_io.specs.Whole.{AppendsAtLeast}
+use Rattle.sp_feed.specs.Feed.{Truncated}
+use Rattle.spectre.specs.Replay.{fed, feed_limit, replied}
+
+-- no front of these bytes but all of them is a whole feed, or at fault but for its early end: not a
+-- byte more was taken than is needed
+abbrev pub AreNeeded : List ℕ → Type 0
+AreNeeded given =
+    (front rest : List ℕ) → given ≡ front ++ rest → 0 < length rest → (fed front).end ≡ Truncated (length front)
+
+-- the lines of the messages in each such front were written
+abbrev pub AreAnswered : Option (List ℕ) → Option (List ℕ) → List ℕ → Type 0
+AreAnswered old new given =
+    (front rest : List ℕ) → given ≡ front ++ rest → 0 < length rest → AppendsAtLeast old new (replied front)
+
+-- so much was taken of a source, while a sink's known bytes went from old to new
+pub record TakesFeed (before after old new : Option (List ℕ)) : Type 0 where
+  pub given : List ℕ
+  pub consumed : Consumes before after given
+  pub within : length given ≤ feed_limit
+  pub needed : AreNeeded given
+  pub answered : AreAnswered old new given
