@@ -1,6 +1,9 @@
 //! Tests of the whole program by its top call, over sources and sinks in memory: what the contracts
 //! rest on and can't say, that the definitions are the rules. Every expected answer was worked out
 //! by hand from the rules.
+//!
+//! A test is a table of runs, and `tries` compares each run whole. Since tests are proved too, the
+//! program is called in one place, and what a run ends as is plain data.
 
 mod answered;
 mod faults;
@@ -11,32 +14,81 @@ mod lines;
 mod orders;
 mod pieces;
 mod shapes;
+mod streams;
 mod words;
 
 use crate::command::run;
 use crate::status::Status;
-use sp_io::{Calls, Fails, MemSink, MemSource};
+use sp_io::{Calls, Fails, MemSink, MemSource, Sink, Source};
 use std::alloc::Global;
 use std::process::Abort;
 use std::test::Fail;
 
 /// A name, a text that is read, and what is answered.
-pub type Case = (&'static [u8], &'static [u8], &'static [u8]);
+pub type Case = (&'static str, &'static [u8], &'static [u8]);
 
 pub const SAMPLE: &[u8] = b"block A on G\nblock B on G\nblock C on A\nvote A B\n";
 
 pub const SAMPLE_ANSWERS: &[u8] =
     b"kept A present 1\nkept B present 1\nkept C present 1\nvote A B before\n";
 
-/// How a run ended, and its source and sink as it left them.
-#[derive(Drop)]
-pub struct Ended {
-    pub status: Status,
-    pub source: MemSource,
-    pub sink: MemSink,
+/// How a source gives and a sink takes.
+#[derive(Clone, Copy)]
+pub struct Ends {
+    /// The most bytes that one read gives; not 0.
+    pub given: u16,
+    /// The most bytes that one write takes; not 0.
+    pub taken: u16,
+    /// How many bytes the sink has room for.
+    pub room: usize,
+    /// The number of the one read that fails, counted from 0.
+    pub bad_read: Option<u32>,
+    /// The number of the one write that fails, counted from 0.
+    pub bad_write: Option<u32>,
 }
 
-pub fn words_of(alloc: Global, lines: &[u8]) -> Result<Vec<String>, Fail> {
+/// No call fails, and there is room for every answer, which is taken whole.
+pub const WIDE: Ends = Ends {
+    given: 4096,
+    taken: 65535,
+    room: 1 << 20,
+    bad_read: None,
+    bad_write: None,
+};
+
+/// A run of the program.
+#[derive(Clone, Copy)]
+pub struct Trial<'a> {
+    /// The words after the program's name, each ended by a line end.
+    pub words: &'a [u8],
+    pub input: &'a [u8],
+    pub ends: Ends,
+}
+
+/// What the source gives to two reads of 7 bytes once the run has ended, none where the read fails,
+/// the bytes that stand there then, and whether the sink takes one byte more.
+pub type Rest = (Option<usize>, Option<usize>, [u8; 7], bool);
+
+/// What a run has to end as.
+#[derive(Clone, Copy)]
+pub struct Wanted<'a> {
+    pub status: Status,
+    /// How many lines come before those that are compared.
+    pub lines: usize,
+    pub output: &'a [u8],
+    /// Not compared where there is none.
+    pub rest: Option<Rest>,
+}
+
+/// What a run ended as.
+#[derive(Drop)]
+struct Ended {
+    status: Status,
+    output: Vec<u8>,
+    rest: Rest,
+}
+
+fn words_of(alloc: Global, lines: &[u8]) -> Result<Vec<String>, Fail> {
     let mut words = Vec::new(alloc);
     for word in str::from_utf8(lines)?.lines() {
         words.push(String::from_str(alloc, word)?)?;
@@ -44,50 +96,124 @@ pub fn words_of(alloc: Global, lines: &[u8]) -> Result<Vec<String>, Fail> {
     Ok(words)
 }
 
+fn fails(alloc: Global, call: Option<u32>) -> Result<Fails, Fail> {
+    match call {
+        Some(call) => Ok(Fails::At(Calls::of(vec![in alloc; call]?))),
+        None => Ok(Fails::Never),
+    }
+}
+
+fn source_of(alloc: Global, trial: &Trial) -> Result<MemSource, Fail> {
+    let given = trial.ends.given;
+    if given == 0 {
+        return Err("reads of nothing".into());
+    }
+    let fails = fails(alloc, trial.ends.bad_read)?;
+    let bytes = Vec::from_slice(alloc, trial.input)?;
+    Ok(MemSource::new(bytes, given, fails))
+}
+
+fn sink_of(alloc: Global, ends: &Ends) -> Result<MemSink, Fail> {
+    if ends.taken == 0 {
+        return Err("writes of nothing".into());
+    }
+    let fails = fails(alloc, ends.bad_write)?;
+    Ok(MemSink::new(alloc, ends.room, ends.taken, fails)?)
+}
+
+fn rest_of(source: &mut MemSource, sink: &mut MemSink) -> Rest {
+    let mut bytes = [0u8; 7];
+    let first = source.read(&mut bytes).ok();
+    let second = source.read(&mut bytes).ok();
+    (first, second, bytes, sink.write(b"x").is_ok())
+}
+
 /// Runs the program. This is the tests' one call of it.
-pub fn ran(
-    alloc: Global,
-    lines: &[u8],
-    mut source: MemSource,
-    mut sink: MemSink,
-) -> Result<Ended, Fail> {
-    let words = words_of(alloc, lines)?;
+fn ran(alloc: Global, trial: &Trial) -> Result<Ended, Fail> {
+    let words = words_of(alloc, trial.words)?;
+    let mut source = source_of(alloc, trial)?;
+    let mut sink = sink_of(alloc, &trial.ends)?;
     let status = run(alloc, &words, &mut source, &mut sink);
+    let output = Vec::from_slice(alloc, sink.bytes())?;
+    let rest = rest_of(&mut source, &mut sink);
     Ok(Ended {
         status,
-        source,
-        sink,
+        output,
+        rest,
     })
 }
 
-/// A sink with room for every answer, which takes them whole.
-pub fn wide_sink(alloc: Global) -> Result<MemSink, Fail> {
-    Ok(MemSink::new(alloc, 1 << 20, 65535, Fails::Never)?)
+/// What follows so many lines.
+fn behind(output: &[u8], lines: usize) -> &[u8] {
+    let mut ended = 0usize;
+    for (at, byte) in output.iter().enumerate() {
+        if ended == lines {
+            return output.get(at..).unwrap_or(b"");
+        }
+        if *byte == b'\n' {
+            ended = ended.saturating_add(1);
+        }
+    }
+    b""
 }
 
-pub fn fails_at(alloc: Global, call: u32) -> Result<Fails, Fail> {
-    Ok(Fails::At(Calls::of(vec![in alloc; call]?)))
+fn is_as(ended: &Ended, wanted: &Wanted) -> bool {
+    let rests = match wanted.rest {
+        Some(rest) => ended.rest == rest,
+        None => true,
+    };
+    rests && ended.status == wanted.status && behind(&ended.output, wanted.lines) == wanted.output
 }
 
-/// Plays a text, and compares how that ended and what was written.
+/// Runs the program, and compares what the run ends as with what is wanted.
+pub fn tries(
+    rt: &impl Abort,
+    alloc: Global,
+    name: &str,
+    at: usize,
+    trial: &Trial,
+    wanted: &Wanted,
+) -> Result<(), Fail> {
+    let ended = ran(alloc, trial)?;
+    let written = str::from_utf8(&ended.output)?;
+    assert!(rt;
+        is_as(&ended, wanted),
+        "{name}, {at}: {:?} after\n{written}and then {:?}",
+        ended.status,
+        ended.rest
+    );
+    Ok(())
+}
+
+/// The one text and then the other.
+pub fn joined(alloc: Global, one: &[u8], other: &[u8]) -> Result<Vec<u8>, Fail> {
+    let mut whole = Vec::from_slice(alloc, one)?;
+    whole.extend_from_slice(other)?;
+    Ok(whole)
+}
+
+/// Plays a text from a source and into a sink that are wide.
 pub fn plays(
     rt: &impl Abort,
     alloc: Global,
-    name: &[u8],
-    text: Vec<u8>,
+    name: &str,
+    at: usize,
+    input: &[u8],
     status: Status,
     output: &[u8],
 ) -> Result<(), Fail> {
-    let name = str::from_utf8(name)?;
-    let source = MemSource::new(text, 4096, Fails::Never);
-    let ended = ran(alloc, b"play", source, wide_sink(alloc)?)?;
-    let written = str::from_utf8(ended.sink.bytes())?;
-    for (line, wanted) in written.lines().zip(str::from_utf8(output)?.lines()) {
-        assert_eq!(rt; line, wanted, "{name}");
-    }
-    assert!(rt; written.as_bytes() == output, "{name}");
-    assert_eq!(rt; ended.status, status, "{name}");
-    Ok(())
+    let trial = Trial {
+        words: b"play",
+        input,
+        ends: WIDE,
+    };
+    let wanted = Wanted {
+        status,
+        lines: 0,
+        output,
+        rest: None,
+    };
+    tries(rt, alloc, name, at, &trial, &wanted)
 }
 
 pub fn plays_all(
@@ -96,9 +222,8 @@ pub fn plays_all(
     cases: &[Case],
     status: Status,
 ) -> Result<(), Fail> {
-    for case in cases {
-        let text = Vec::from_slice(alloc, case.1)?;
-        plays(rt, alloc, case.0, text, status, case.2)?;
+    for (name, input, output) in cases {
+        plays(rt, alloc, name, 0, input, status, output)?;
     }
     Ok(())
 }

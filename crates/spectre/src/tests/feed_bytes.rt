@@ -109,6 +109,9 @@ const BLOCKS: [Known; 16] = [
     ),
 ];
 
+/// The frame that ends a feed.
+pub const END: &[u8] = b"E\0\0\0\0";
+
 /// The id `N` of no block.
 const NOBODY: &str = "0000000000000000000000000000000000000000000000000000000000000000";
 
@@ -129,92 +132,97 @@ fn id_of(name: u8) -> Result<&'static str, Fail> {
 }
 
 fn put_id(out: &mut Vec<u8>, name: u8) -> Result<(), Fail> {
-    let id = BlockId::from_hex(id_of(name)?.as_bytes())
-        .ok()
-        .ok_or("no id")?;
+    let Ok(id) = BlockId::from_hex(id_of(name)?.as_bytes()) else {
+        return Err("no id".into());
+    };
     out.extend_from_slice(id.as_bytes())?;
     Ok(())
 }
 
-/// The front of a block up to the number of its parents.
-fn put_front(out: &mut Vec<u8>, salt: u8, parents: u8) -> Result<(), Fail> {
-    out.push(1)?;
-    out.push(salt)?;
-    out.extend_from_slice(&[0; 15])?;
-    out.push(parents)?;
+/// What a frame begins with: its kind, and the length of its payload.
+pub fn put_kind(out: &mut Vec<u8>, kind: u8, length: u32) -> Result<(), Fail> {
+    out.push(kind)?;
+    out.extend_from_slice(&length.to_le_bytes())?;
     Ok(())
 }
 
-fn block_bytes(alloc: Global, name: u8) -> Result<Vec<u8>, Fail> {
-    let (_, salt, parents, _) = block_of(name)?;
-    let mut out = Vec::new(alloc);
-    put_front(&mut out, *salt, u8::try_from(parents.len())?)?;
-    for parent in *parents {
-        put_id(&mut out, *parent)?;
-    }
-    out.extend_from_slice(&[0; 2])?;
-    Ok(out)
+/// The front of a block of this salt up to the number of its parents.
+fn put_front(out: &mut Vec<u8>, salt: u8, parents: u8) -> Result<(), Fail> {
+    let mut front = [0u8; 18];
+    front[0] = 1;
+    front[1] = salt;
+    front[17] = parents;
+    out.extend_from_slice(&front)?;
+    Ok(())
 }
 
-/// The bytes of a block of this salt on one parent.
-pub fn child(alloc: Global, salt: u8, parent: &BlockId) -> Result<Vec<u8>, Fail> {
-    let mut out = Vec::new(alloc);
-    put_front(&mut out, salt, 1)?;
+/// The frame of a block of this salt on one parent.
+pub fn put_child(out: &mut Vec<u8>, salt: u8, parent: &BlockId) -> Result<(), Fail> {
+    put_kind(out, b'B', 52)?;
+    put_front(out, salt, 1)?;
     out.extend_from_slice(parent.as_bytes())?;
     out.extend_from_slice(&[0; 2])?;
-    Ok(out)
+    Ok(())
 }
 
-pub fn put_frame(out: &mut Vec<u8>, kind: u8, payload: &[u8]) -> Result<(), Fail> {
-    out.push(kind)?;
-    out.extend_from_slice(&u32::try_from(payload.len())?.to_le_bytes())?;
-    out.extend_from_slice(payload)?;
+/// The frame of a block, with so many bytes more behind it.
+pub fn put_block(out: &mut Vec<u8>, name: u8, more: u8) -> Result<(), Fail> {
+    let (_, salt, parents, _) = block_of(name)?;
+    let count = u8::try_from(parents.len())?;
+    put_kind(out, b'B', 20 + 32 * u32::from(count) + u32::from(more))?;
+    put_front(out, *salt, count)?;
+    for parent in *parents {
+        put_id(out, *parent)?;
+    }
+    out.resize(
+        out.len()
+            .saturating_add(2)
+            .saturating_add(usize::from(more)),
+        0,
+    )?;
     Ok(())
 }
 
 pub fn put_question(out: &mut Vec<u8>, x: u8, y: u8) -> Result<(), Fail> {
-    out.extend_from_slice(&[b'V', 64, 0, 0, 0])?;
+    put_kind(out, b'V', 64)?;
     put_id(out, x)?;
     put_id(out, y)
 }
 
+/// 65,537 bytes, one more than a block may have.
+fn put_long(out: &mut Vec<u8>) -> Result<(), Fail> {
+    put_kind(out, b'B', 65_537)?;
+    out.resize(out.len().saturating_add(65_537), 0)?;
+    Ok(())
+}
+
 /// The frame of a message. The name of a block sends it, with a byte more where `+` follows; two
-/// names ask about the two; and `*` sends 65,537 bytes, one more than a block may have.
-fn put_message(alloc: Global, out: &mut Vec<u8>, message: &[u8]) -> Result<(), Fail> {
-    match message {
-        [b'*'] => {
-            let payload = vec![in alloc; 0u8; 65_537]?;
-            put_frame(out, b'B', &payload)
-        }
-        [name] => put_frame(out, b'B', &block_bytes(alloc, *name)?),
-        [name, b'+'] => {
-            let mut block = block_bytes(alloc, *name)?;
-            block.push(0)?;
-            put_frame(out, b'B', &block)
-        }
-        [x, y] => put_question(out, *x, *y),
-        _ => Err("no message".into()),
+/// names ask about the two; and `*` sends a block that is too long.
+fn put_message(out: &mut Vec<u8>, message: &[u8]) -> Result<(), Fail> {
+    let first = message.first().copied().unwrap_or(b'N');
+    match message.get(1) {
+        Some(b'+') => put_block(out, first, 1),
+        Some(second) => put_question(out, first, *second),
+        None if first == b'*' => put_long(out),
+        None => put_block(out, first, 0),
     }
 }
 
-/// A feed without its end: the head, and the frame of each line's message.
-pub fn opened(alloc: Global, bits: u8, messages: &[u8]) -> Result<Vec<u8>, Fail> {
+/// The head of a feed.
+pub fn head_of(alloc: Global, bits: u8) -> Result<Vec<u8>, Fail> {
     let mut out = Vec::from_slice(alloc, b"SPCTRF01")?;
     out.push(bits)?;
-    put_message(alloc, &mut out, b"G")?;
-    for message in str::from_utf8(messages)?.lines() {
-        put_message(alloc, &mut out, message.as_bytes())?;
-    }
+    put_block(&mut out, b'G', 0)?;
     Ok(out)
 }
 
-pub fn put_end(out: &mut Vec<u8>) -> Result<(), Fail> {
-    put_frame(out, b'E', b"")
-}
-
-pub fn feed_of(alloc: Global, bits: u8, messages: &[u8]) -> Result<Vec<u8>, Fail> {
-    let mut out = opened(alloc, bits, messages)?;
-    put_end(&mut out)?;
+/// A feed: the head, the frame of each line's message, and then these bytes.
+pub fn feed_of(alloc: Global, bits: u8, messages: &[u8], tail: &[u8]) -> Result<Vec<u8>, Fail> {
+    let mut out = head_of(alloc, bits)?;
+    for message in str::from_utf8(messages)?.lines() {
+        put_message(&mut out, message.as_bytes())?;
+    }
+    out.extend_from_slice(tail)?;
     Ok(out)
 }
 

@@ -1,8 +1,7 @@
 //! Texts around the limit of a scenario's bytes, and large line numbers.
 
 use crate::status::Status;
-use crate::tests::{plays, ran};
-use sp_io::{Fails, MemSink, MemSource, Source};
+use crate::tests::{Ends, Rest, Trial, WIDE, Wanted, tries};
 use std::alloc::Global;
 use std::test::Fail;
 
@@ -11,64 +10,66 @@ const LIMIT: usize = 16_777_216;
 
 const TOO_LONG: &[u8] = b"fault too-long 16777216\n";
 
-/// So many line ends, and then this text.
-fn after_line_ends(alloc: Global, count: usize, text: &[u8]) -> Result<Vec<u8>, Fail> {
-    let mut whole = vec![in alloc; b'\n'; count]?;
-    whole.extend_from_slice(text)?;
+/// A source that gives as much as it can, and a sink that has no room for the line of a fault.
+const NARROW: Ends = Ends {
+    given: 65535,
+    taken: 2,
+    room: 5,
+    bad_read: None,
+    bad_write: None,
+};
+
+/// Nothing is left to be read.
+const NOTHING: Rest = (Some(0), Some(0), [0; 7], true);
+
+/// So many line ends and then a text, and what becomes of them.
+struct Long {
+    line_ends: usize,
+    text: &'static [u8],
+    ends: Ends,
+    status: Status,
+    output: &'static [u8],
+    rest: Option<Rest>,
+}
+
+const LAST: &[u8] = b"vote G G\nvote A B\n";
+
+#[rattlefmt::skip]
+const LONG: [Long; 8] = [
+    Long { line_ends: 8, text: b"vote A B", ends: WIDE, status: Status::Malformed, output: b"fault line 9 unknown\n", rest: Some(NOTHING) },
+    Long { line_ends: 9, text: b"vote A B", ends: WIDE, status: Status::Malformed, output: b"fault line 10 unknown\n", rest: Some(NOTHING) },
+    Long { line_ends: 65_535, text: b"vote A B", ends: WIDE, status: Status::Malformed, output: b"fault line 65536 unknown\n", rest: Some(NOTHING) },
+    Long { line_ends: 999_998, text: LAST, ends: WIDE, status: Status::Malformed, output: b"vote G G same\nfault line 1000000 unknown\n", rest: Some(NOTHING) },
+    Long { line_ends: LIMIT - 1, text: b"", ends: WIDE, status: Status::Done, output: b"", rest: Some(NOTHING) },
+    Long { line_ends: LIMIT, text: b"", ends: WIDE, status: Status::TooLong, output: TOO_LONG, rest: None },
+    Long { line_ends: LIMIT - 18, text: LAST, ends: WIDE, status: Status::TooLong, output: TOO_LONG, rest: None },
+    // Of a longer text the rest stays unread. Where its line can't be written whole, the write is
+    // at fault.
+    Long { line_ends: LIMIT - 8, text: b"vote G G\n", ends: NARROW, status: Status::WriteFault, output: b"fault", rest: Some((Some(1), Some(0), *b"\n\0\0\0\0\0\0", false)) },
+];
+
+fn text_of(alloc: Global, long: &Long) -> Result<Vec<u8>, Fail> {
+    let mut whole = vec![in alloc; b'\n'; long.line_ends]?;
+    whole.extend_from_slice(long.text)?;
     Ok(whole)
 }
 
 #[test]
 fn long_texts(rt: HostRuntime) -> Result<(), Fail> {
-    let alloc = rt.alloc();
-    let last = b"vote G G\nvote A B\n";
-    let cases: [(usize, &[u8], Status, &[u8]); 7] = [
-        (8, b"vote A B", Status::Malformed, b"fault line 9 unknown\n"),
-        (
-            9,
-            b"vote A B",
-            Status::Malformed,
-            b"fault line 10 unknown\n",
-        ),
-        (
-            65_535,
-            b"vote A B",
-            Status::Malformed,
-            b"fault line 65536 unknown\n",
-        ),
-        (
-            999_998,
-            last,
-            Status::Malformed,
-            b"vote G G same\nfault line 1000000 unknown\n",
-        ),
-        (LIMIT - 1, b"", Status::Done, b""),
-        (LIMIT, b"", Status::TooLong, TOO_LONG),
-        (LIMIT - 18, last, Status::TooLong, TOO_LONG),
-    ];
-    for (count, text, status, output) in cases {
-        plays(
-            &rt,
-            alloc,
-            b"line ends",
-            after_line_ends(alloc, count, text)?,
-            status,
-            output,
-        )?;
+    for (at, long) in LONG.iter().enumerate() {
+        let input = text_of(rt.alloc(), long)?;
+        let trial = Trial {
+            words: b"play",
+            input: &input,
+            ends: long.ends,
+        };
+        let wanted = Wanted {
+            status: long.status,
+            lines: 0,
+            output: long.output,
+            rest: long.rest,
+        };
+        tries(&rt, rt.alloc(), "long", at, &trial, &wanted)?;
     }
-    // Of a longer text the rest stays unread. Where its line can't be written whole, the write is
-    // at fault.
-    let text = after_line_ends(alloc, LIMIT - 8, b"vote G G\n")?;
-    let source = MemSource::new(text, 65535, Fails::Never);
-    let mut ended = ran(
-        alloc,
-        b"play",
-        source,
-        MemSink::new(alloc, 5, 2, Fails::Never)?,
-    )?;
-    assert_eq!(rt; ended.status, Status::WriteFault);
-    assert_eq!(rt; ended.sink.bytes(), b"fault".as_slice());
-    let mut piece = [0u8; 7];
-    assert_eq!(rt; ended.source.read(&mut piece), Ok(1));
     Ok(())
 }

@@ -17,16 +17,21 @@ fn alone(byte: u8) -> (Status, &'static [u8]) {
 
 #[test]
 fn answers_and_faults(rt: HostRuntime) -> Result<(), Fail> {
-    let alloc = rt.alloc();
-    plays_all(&rt, alloc, &ANSWERED, Status::Done)?;
-    plays_all(&rt, alloc, &FAULTS, Status::Malformed)?;
+    plays_all(&rt, rt.alloc(), &ANSWERED, Status::Done)?;
+    plays_all(&rt, rt.alloc(), &FAULTS, Status::Malformed)
+}
+
+#[test]
+fn each_byte_alone(rt: HostRuntime) -> Result<(), Fail> {
     for byte in 0..=255u8 {
         let (status, output) = alone(byte);
+        let input = [byte, b'\n'];
         plays(
             &rt,
-            alloc,
-            b"a byte alone",
-            vec![in alloc; byte, b'\n']?,
+            rt.alloc(),
+            "byte",
+            usize::from(byte),
+            &input,
             status,
             output,
         )?;

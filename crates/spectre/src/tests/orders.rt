@@ -2,10 +2,11 @@
 //! many blocks with a question after each.
 
 use crate::status::Status;
-use crate::tests::feed_bytes::{child, in_full, opened, put_end, put_frame, put_question};
-use crate::tests::{ran, wide_sink};
+use crate::tests::feed_bytes::{
+    END, head_of, in_full, put_block, put_child, put_kind, put_question,
+};
+use crate::tests::{Trial, WIDE, Wanted, tries};
 use sp_ids::BlockId;
-use sp_io::{Fails, MemSource};
 use std::alloc::Global;
 use std::process::Abort;
 use std::test::Fail;
@@ -13,154 +14,198 @@ use std::test::Fail;
 /// Parents first.
 const NAMES: [u8; 12] = *b"ABIJKLMOPCDH";
 
-/// The answer to each of them and each of them, in this order, by another program from the rules of
-/// votes.
-const WORDS: [&[u8]; 12] = [
-    b"same before tie before before before before before before before before before",
-    b"after same before before before before before before before before before before",
-    b"tie after same before before before before before before before before before",
-    b"after after after same before after after before before before before before",
-    b"after after after after same after after before before before before before",
-    b"after after after before before same before after after before before before",
-    b"after after after before before after same after after before before before",
-    b"after after after after after before before same before before before before",
-    b"after after after after after before before after same before before before",
-    b"after after after after after after after after after same tie after",
-    b"after after after after after after after after after tie same after",
-    b"after after after after after after after after after before before same",
+/// The first letter of the answer to each of them and each of them, in this order, by another
+/// program from the rules of votes.
+const WORDS: [[u8; 12]; 12] = [
+    *b"sbtbbbbbbbbb",
+    *b"asbbbbbbbbbb",
+    *b"tasbbbbbbbbb",
+    *b"aaasbaabbbbb",
+    *b"aaaasaabbbbb",
+    *b"aaabbsbaabbb",
+    *b"aaabbasaabbb",
+    *b"aaaaabbsbbbb",
+    *b"aaaaabbasbbb",
+    *b"aaaaaaaaasta",
+    *b"aaaaaaaaatsa",
+    *b"aaaaaaaaabbs",
 ];
+
+/// The end of an answer.
+fn word_of(letter: u8) -> &'static [u8] {
+    match letter {
+        b'a' => b" after\n",
+        b'b' => b" before\n",
+        b't' => b" tie\n",
+        _ => b" same\n",
+    }
+}
+
+fn put_answer(out: &mut Vec<u8>, x: u8, y: u8, letter: u8) -> Result<(), Fail> {
+    out.extend_from_slice(&[b'v', b'o', b't', b'e', b' ', x, b' ', y])?;
+    out.extend_from_slice(word_of(letter))?;
+    Ok(())
+}
 
 /// The lines of all answers.
 fn all_answers(alloc: Global) -> Result<Vec<u8>, Fail> {
     let mut text = Vec::new(alloc);
     for (x, words) in NAMES.iter().zip(&WORDS) {
-        for (y, word) in NAMES.iter().zip(str::from_utf8(words)?.split(' ')) {
-            text.extend_from_slice(&[b'v', b'o', b't', b'e', b' ', *x, b' ', *y, b' '])?;
-            text.extend_from_slice(word.as_bytes())?;
-            text.push(b'\n')?;
+        for (y, letter) in NAMES.iter().zip(words) {
+            put_answer(&mut text, *x, *y, *letter)?;
         }
     }
     in_full(alloc, &text)
 }
 
-/// The feed that sends these blocks in this order, and then asks about each two.
-fn feed_in(alloc: Global, names: &[u8]) -> Result<Vec<u8>, Fail> {
-    let mut messages = Vec::new(alloc);
-    for name in names {
-        messages.push(*name)?;
-        messages.push(b'\n')?;
-    }
-    let mut feed = opened(alloc, 0, &messages)?;
+/// Questions on each two of the blocks, and the end.
+fn all_questions(alloc: Global) -> Result<Vec<u8>, Fail> {
+    let mut frames = Vec::new(alloc);
     for x in &NAMES {
         for y in &NAMES {
-            put_question(&mut feed, *x, *y)?;
+            put_question(&mut frames, *x, *y)?;
         }
     }
-    put_end(&mut feed)?;
+    frames.extend_from_slice(END)?;
+    Ok(frames)
+}
+
+/// The feed that sends the blocks from a place on, each time so many places further, round and
+/// round, and then these frames.
+fn feed_in(alloc: Global, start: usize, step: usize, frames: &[u8]) -> Result<Vec<u8>, Fail> {
+    let mut feed = head_of(alloc, 0)?;
+    for turn in 0..12usize {
+        let place = start.wrapping_add(step.wrapping_mul(turn)) % 12;
+        put_block(&mut feed, NAMES[place], 0)?;
+    }
+    feed.extend_from_slice(frames)?;
     Ok(feed)
 }
 
-fn agrees(rt: &impl Abort, alloc: Global, names: &[u8], answers: &[u8]) -> Result<(), Fail> {
-    let source = MemSource::new(feed_in(alloc, names)?, 4096, Fails::Never);
-    let ended = ran(alloc, b"replay", source, wide_sink(alloc)?)?;
-    assert_eq!(rt; ended.status, Status::Done);
-    let order = str::from_utf8(names)?;
-    let lines = str::from_utf8(ended.sink.bytes())?.lines().count();
-    assert_eq!(rt; lines, 156, "{order}");
-    assert!(rt; ended.sink.bytes().ends_with(answers), "{order}");
-    Ok(())
+/// Replays a feed, and compares what is written behind so many lines.
+fn replays(
+    rt: &impl Abort,
+    alloc: Global,
+    at: usize,
+    input: &[u8],
+    lines: usize,
+    output: &[u8],
+) -> Result<(), Fail> {
+    let trial = Trial {
+        words: b"replay",
+        input,
+        ends: WIDE,
+    };
+    let wanted = Wanted {
+        status: Status::Done,
+        lines,
+        output,
+        rest: None,
+    };
+    tries(rt, alloc, "order", at, &trial, &wanted)
 }
 
-/// The names with so many of them moved from the front to the end.
-fn rotated(alloc: Global, names: &[u8], by: usize) -> Result<Vec<u8>, Fail> {
-    let mut out = Vec::new(alloc);
-    out.extend_from_slice(names.get(by..).ok_or("too far")?)?;
-    out.extend_from_slice(names.get(..by).ok_or("too far")?)?;
-    Ok(out)
-}
-
+/// From each of the twelve places forwards, and from eight of them backwards.
 #[test]
 fn twenty_orders(rt: HostRuntime) -> Result<(), Fail> {
-    let alloc = rt.alloc();
-    let answers = all_answers(alloc)?;
-    for by in 0..12usize {
-        agrees(&rt, alloc, &rotated(alloc, &NAMES, by)?, &answers)?;
-    }
-    let mut reversed = Vec::from_slice(alloc, &NAMES)?;
-    reversed.reverse();
-    for by in 0..8usize {
-        agrees(&rt, alloc, &rotated(alloc, &reversed, by)?, &answers)?;
+    let answers = all_answers(rt.alloc())?;
+    let questions = all_questions(rt.alloc())?;
+    for order in 0..20usize {
+        let (start, step) = if order < 12 {
+            (order, 1)
+        } else {
+            (23 - order, 11)
+        };
+        let feed = feed_in(rt.alloc(), start, step, &questions)?;
+        replays(&rt, rt.alloc(), order, &feed, 12, &answers)?;
     }
     Ok(())
 }
 
-/// The answer to a question on the block before this one and this one, of two chains on genesis
-/// that grow by turns: a block on genesis is behind it, chains of one length are in a tie, and the
-/// longer chain is before the shorter.
-fn word_of(block: u8) -> &'static str {
+/// A feed of two chains on genesis that grow by turns, with a question after each block on the one
+/// before and that one, and the answers.
+#[derive(Drop)]
+struct Chains {
+    feed: Vec<u8>,
+    answers: Vec<u8>,
+    two_before: BlockId,
+    before: BlockId,
+}
+
+/// The end of the answer to a question on the block before this one and this one: a block on genesis
+/// is behind it, chains of one length are in a tie, and the longer chain is before the shorter.
+fn chain_word(block: u8) -> &'static [u8] {
     if block == 1 {
-        "before"
+        b" before\n"
     } else if block % 2 == 0 {
-        "tie"
+        b" tie\n"
     } else {
-        "after"
+        b" after\n"
     }
 }
 
-fn put_hex(out: &mut Vec<u8>, id: &BlockId) -> Result<(), Fail> {
+fn put_hex(out: &mut Vec<u8>, front: &[u8], id: &BlockId) -> Result<(), Fail> {
     let mut hex = [0u8; 64];
     id.to_hex(&mut hex);
+    out.extend_from_slice(front)?;
     out.extend_from_slice(&hex)?;
     Ok(())
 }
 
-/// What a block of two chains and the question that follows are answered.
+/// What a block and the question that follows are answered.
 fn put_answers(out: &mut Vec<u8>, block: u8, before: &BlockId, id: &BlockId) -> Result<(), Fail> {
-    out.extend_from_slice(b"kept ")?;
-    put_hex(out, id)?;
-    out.extend_from_slice(b" present 1\nvote ")?;
-    put_hex(out, before)?;
-    out.push(b' ')?;
-    put_hex(out, id)?;
-    out.push(b' ')?;
-    out.extend_from_slice(word_of(block).as_bytes())?;
-    out.push(b'\n')?;
+    put_hex(out, b"kept ", id)?;
+    put_hex(out, b" present 1\nvote ", before)?;
+    put_hex(out, b" ", id)?;
+    out.extend_from_slice(chain_word(block))?;
     Ok(())
 }
 
-/// A feed of so many blocks in two chains, with a question after each, and its answers.
-fn two_chains(alloc: Global, count: u8) -> Result<(Vec<u8>, Vec<u8>), Fail> {
-    let mut feed = opened(alloc, 0, b"")?;
-    let mut answers = Vec::new(alloc);
-    let genesis = feed.get(14..).ok_or("no genesis")?;
-    let mut two_before = BlockId::of(genesis);
-    let mut before = two_before;
-    for salt in 1..=count {
-        let block = child(alloc, salt, &two_before)?;
-        let id = BlockId::of(&block);
-        put_frame(&mut feed, b'B', &block)?;
-        feed.extend_from_slice(&[b'V', 64, 0, 0, 0])?;
-        feed.extend_from_slice(before.as_bytes())?;
-        feed.extend_from_slice(id.as_bytes())?;
-        put_answers(&mut answers, salt, &before, &id)?;
-        two_before = before;
-        before = id;
+fn put_asked(out: &mut Vec<u8>, x: &BlockId, y: &BlockId) -> Result<(), Fail> {
+    put_kind(out, b'V', 64)?;
+    out.extend_from_slice(x.as_bytes())?;
+    out.extend_from_slice(y.as_bytes())?;
+    Ok(())
+}
+
+/// The id of the block in a frame.
+fn id_in(frame: &[u8]) -> BlockId {
+    BlockId::of(frame.get(5..).unwrap_or(b""))
+}
+
+fn put_next(chains: &mut Chains, block: u8) -> Result<(), Fail> {
+    let from = chains.feed.len();
+    put_child(&mut chains.feed, block, &chains.two_before)?;
+    let id = id_in(chains.feed.get(from..).unwrap_or(b""));
+    put_asked(&mut chains.feed, &chains.before, &id)?;
+    put_answers(&mut chains.answers, block, &chains.before, &id)?;
+    chains.two_before = chains.before;
+    chains.before = id;
+    Ok(())
+}
+
+fn two_chains(alloc: Global, count: u8) -> Result<Chains, Fail> {
+    let feed = head_of(alloc, 0)?;
+    let genesis = id_in(feed.get(9..).unwrap_or(b""));
+    let mut chains = Chains {
+        feed,
+        answers: Vec::new(alloc),
+        two_before: genesis,
+        before: genesis,
+    };
+    for block in 1..=count {
+        put_next(&mut chains, block)?;
     }
-    put_end(&mut feed)?;
-    Ok((feed, answers))
-}
-
-fn answers_many(rt: &impl Abort, alloc: Global, count: u8) -> Result<(), Fail> {
-    let (feed, answers) = two_chains(alloc, count)?;
-    let source = MemSource::new(feed, 4096, Fails::Never);
-    let ended = ran(alloc, b"replay", source, wide_sink(alloc)?)?;
-    assert_eq!(rt; ended.status, Status::Done);
-    assert!(rt; ended.sink.bytes() == answers.as_slice(), "{count} blocks");
-    Ok(())
+    chains.feed.extend_from_slice(END)?;
+    Ok(chains)
 }
 
 #[test]
 fn many_blocks(rt: HostRuntime) -> Result<(), Fail> {
-    answers_many(&rt, rt.alloc(), 40)?;
-    answers_many(&rt, rt.alloc(), 60)
+    for count in [40u8, 60] {
+        let chains = two_chains(rt.alloc(), count)?;
+        let at = usize::from(count);
+        replays(&rt, rt.alloc(), at, &chains.feed, 0, &chains.answers)?;
+    }
+    Ok(())
 }

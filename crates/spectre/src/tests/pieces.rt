@@ -1,115 +1,140 @@
-//! Sources and sinks that give and take in pieces, and each of their calls failing in turn.
+//! Scenarios and feeds in pieces, and with each call of the source and of the sink failing in turn.
 
 use crate::status::Status;
-use crate::tests::{Ended, SAMPLE, SAMPLE_ANSWERS, fails_at, ran, wide_sink};
-use sp_io::{Fails, MemSink, MemSource};
-use std::alloc::Global;
-use std::process::Abort;
+use crate::tests::feed_bytes::{END, feed_of, in_full};
+use crate::tests::streams::{Stream, try_all};
+use crate::tests::{SAMPLE, SAMPLE_ANSWERS};
 use std::test::Fail;
 
-/// Compares how a run ended and what was written.
-fn ends_as(rt: &impl Abort, ended: &Ended, status: Status, output: &[u8], at: usize) {
-    assert_eq!(rt; ended.status, status, "at {at}");
-    assert_eq!(rt; ended.sink.bytes(), output, "at {at}");
-}
-
-/// Plays a text, taken whole into a sink.
-fn played_into(alloc: Global, text: &[u8], sink: MemSink) -> Result<Ended, Fail> {
-    let source = MemSource::new(Vec::from_slice(alloc, text)?, 4096, Fails::Never);
-    ran(alloc, b"play", source, sink)
-}
-
-/// A text with what is written and how that ends.
-#[derive(Clone, Copy)]
-struct Play {
-    text: &'static [u8],
-    output: &'static [u8],
-    status: Status,
-}
-
-/// The read of this number fails, of a source that gives a byte a call.
-fn read_fails(
-    rt: &impl Abort,
-    alloc: Global,
-    text: &[u8],
-    call: usize,
-    status: Status,
-    output: &[u8],
-) -> Result<(), Fail> {
-    let fails = fails_at(alloc, u32::try_from(call)?)?;
-    let source = MemSource::new(Vec::from_slice(alloc, text)?, 1, fails);
-    let ended = ran(alloc, b"play", source, wide_sink(alloc)?)?;
-    ends_as(rt, &ended, status, output, call);
-    Ok(())
-}
-
-/// Each read fails in turn, the one that tells the end too, and then one that is never made.
-fn reads_fail(rt: &impl Abort, alloc: Global, play: &Play) -> Result<(), Fail> {
-    let length = play.text.len();
-    for call in 0..=length {
-        read_fails(rt, alloc, play.text, call, Status::ReadFault, b"")?;
-    }
-    let never = length.saturating_add(1);
-    read_fails(rt, alloc, play.text, never, play.status, play.output)
-}
-
-/// Each write fails in turn, of a sink that takes a byte a call, and each lack of room comes.
-fn writes_fail(rt: &impl Abort, alloc: Global, play: &Play) -> Result<(), Fail> {
-    for taken in 0..play.output.len() {
-        let fails = fails_at(alloc, u32::try_from(taken)?)?;
-        let ended = played_into(alloc, play.text, MemSink::new(alloc, 4096, 1, fails)?)?;
-        ends_as(rt, &ended, Status::WriteFault, &play.output[..taken], taken);
-        let sink = MemSink::new(alloc, taken, 10, Fails::Never)?;
-        let ended = played_into(alloc, play.text, sink)?;
-        ends_as(rt, &ended, Status::WriteFault, &play.output[..taken], taken);
-    }
-    Ok(())
-}
-
-/// There is just enough room, and the first write that isn't made would fail.
-fn last_writes_pass(rt: &impl Abort, alloc: Global, play: &Play) -> Result<(), Fail> {
-    let length = play.output.len();
-    let fails = fails_at(alloc, u32::try_from(length)?)?;
-    let ended = played_into(alloc, play.text, MemSink::new(alloc, length, 1, fails)?)?;
-    ends_as(rt, &ended, play.status, play.output, length);
-    Ok(())
-}
-
-/// The sample in pieces of this size, given and taken.
-fn in_pieces(rt: &impl Abort, alloc: Global, given: u16, taken: u16) -> Result<(), Fail> {
-    assert!(rt; 0 < given && 0 < taken);
-    let source = MemSource::new(Vec::from_slice(alloc, SAMPLE)?, given, Fails::Never);
-    let sink = MemSink::new(alloc, 4096, taken, Fails::Never)?;
-    let ended = ran(alloc, b"play", source, sink)?;
-    ends_as(rt, &ended, Status::Done, SAMPLE_ANSWERS, usize::from(given));
-    Ok(())
-}
-
-const PLAYS: [Play; 2] = [
-    Play {
-        text: SAMPLE,
-        output: SAMPLE_ANSWERS,
+/// Scenarios. One is read to its end, which a read more tells, before anything is written.
+const PLAYS: [Stream; 4] = [
+    Stream {
+        name: "sample",
+        words: b"play",
+        input: SAMPLE,
+        reads: 49,
         status: Status::Done,
+        output: SAMPLE_ANSWERS,
+        growth: &[],
     },
-    Play {
-        text: b"block A on G\nvote A B\nvote A A\n",
-        output: b"kept A present 1\nfault line 2 unknown\n",
+    Stream {
+        name: "unknown",
+        words: b"play",
+        input: b"block A on G\nvote A B\nvote A A\n",
+        reads: 32,
         status: Status::Malformed,
+        output: b"kept A present 1\nfault line 2 unknown\n",
+        growth: &[],
+    },
+    Stream {
+        name: "nothing",
+        words: b"play",
+        input: b"",
+        reads: 1,
+        status: Status::Done,
+        output: b"",
+        growth: &[],
+    },
+    Stream {
+        name: "returns, blanks and a comment, and no line end at the end",
+        words: b"play",
+        input: b"#a\r\n\r\nblock A on G\r\n\tvote A  G\r",
+        reads: 32,
+        status: Status::Done,
+        output: b"kept A present 1\nvote A G after\n",
+        growth: &[],
     },
 ];
 
-#[test]
-fn pieces_and_failing_calls(rt: HostRuntime) -> Result<(), Fail> {
-    let alloc = rt.alloc();
-    for given in [1u16, 2, 3, 7, 4096] {
-        for taken in [1u16, 2, 3, 7, 4096] {
-            in_pieces(&rt, alloc, given, taken)?;
-        }
+/// A feed without work, and what a run on it ends as.
+struct Flow {
+    name: &'static str,
+    messages: &'static [u8],
+    /// What follows the messages.
+    tail: &'static [u8],
+    reads: u32,
+    status: Status,
+    /// Names stand for ids.
+    output: &'static [u8],
+    growth: &'static [(u32, usize)],
+}
+
+/// The head takes 34 bytes, a block on one parent 57 and a question 69. A line `kept` takes 80.
+/// Behind the frame `E` nothing is read, nor behind the kind of a frame that there is not.
+const FLOWS: [Flow; 5] = [
+    Flow {
+        name: "two blocks and a question",
+        messages: b"A\nB\nAB\n",
+        tail: END,
+        reads: 222,
+        status: Status::Done,
+        output: b"kept A present 1\nkept B present 1\nvote A B tie\n",
+        growth: &[(91, 80), (148, 160), (217, 299)],
+    },
+    Flow {
+        name: "no end",
+        messages: b"A\n",
+        tail: b"",
+        reads: 92,
+        status: Status::Truncated,
+        output: b"kept A present 1\nfault truncated 91\n",
+        growth: &[(91, 80)],
+    },
+    Flow {
+        name: "a kind that there is not",
+        messages: b"A\n",
+        tail: b"R\0\0\0\0",
+        reads: 92,
+        status: Status::Malformed,
+        output: b"kept A present 1\nfault malformed 91\n",
+        growth: &[(91, 80)],
+    },
+    Flow {
+        name: "bytes behind the end",
+        messages: b"A\n",
+        tail: b"E\0\0\0\0Zz",
+        reads: 96,
+        status: Status::Done,
+        output: b"kept A present 1\n",
+        growth: &[(91, 80)],
+    },
+    Flow {
+        name: "the head alone",
+        messages: b"",
+        tail: END,
+        reads: 39,
+        status: Status::Done,
+        output: b"",
+        growth: &[],
+    },
+];
+
+fn stream_of<'a>(flow: &Flow, input: &'a [u8], output: &'a [u8]) -> Stream<'a> {
+    Stream {
+        name: flow.name,
+        words: b"replay",
+        input,
+        reads: flow.reads,
+        status: flow.status,
+        output,
+        growth: flow.growth,
     }
-    for play in &PLAYS {
-        reads_fail(&rt, alloc, play)?;
-        writes_fail(&rt, alloc, play)?;
-        last_writes_pass(&rt, alloc, play)?;
+}
+
+#[test]
+fn scenarios(rt: HostRuntime) -> Result<(), Fail> {
+    for stream in &PLAYS {
+        try_all(&rt, rt.alloc(), stream)?;
+    }
+    Ok(())
+}
+
+#[test]
+fn feeds(rt: HostRuntime) -> Result<(), Fail> {
+    for flow in &FLOWS {
+        let input = feed_of(rt.alloc(), 0, flow.messages, flow.tail)?;
+        let output = in_full(rt.alloc(), flow.output)?;
+        try_all(&rt, rt.alloc(), &stream_of(flow, &input, &output))?;
     }
     Ok(())
 }

@@ -1,36 +1,29 @@
 //! 63 blocks in several shapes with a question on each pair, and the line of a 64th block.
 
 use crate::status::Status;
-use crate::tests::{Case, plays};
+use crate::tests::{Case, joined, plays};
 use std::alloc::Global;
-use std::process::Abort;
+use std::cmp::Ordering;
 use std::test::Fail;
 
-/// What is wrong with the 64th block line, and the reason that is given for it.
+/// What is wrong with the 64th line, and the line of its fault.
+#[rattlefmt::skip]
 const SIXTY_FOURTH: [Case; 11] = [
-    (b"many", b"block c on b63\n", b"many"),
-    (
-        b"many, on several parents",
-        b"block c on G b1 b2 b3\n",
-        b"many",
-    ),
-    (b"repeat before many", b"block c on G b63 G\n", b"repeat"),
-    (b"unknown before many", b"block c on c\n", b"unknown"),
-    (b"taken before many", b"block b63 on G\n", b"taken"),
-    (b"name before many", b"block c! on G\n", b"name"),
-    (b"form before many", b"block c on\n", b"form"),
-    (
-        b"form, by carries, before many",
-        b"block c on G carries G\n",
-        b"form",
-    ),
-    (b"byte before many", b"block c\x7f on G\n", b"byte"),
-    (b"command", b"blocks c on G\n", b"command"),
-    (b"unknown, in a vote", b"vote b63 b64\n", b"unknown"),
+    ("many", b"block c on b63\n", b"fault line 64 many\n"),
+    ("many, on several parents", b"block c on G b1 b2 b3\n", b"fault line 64 many\n"),
+    ("repeat before many", b"block c on G b63 G\n", b"fault line 64 repeat\n"),
+    ("unknown before many", b"block c on c\n", b"fault line 64 unknown\n"),
+    ("taken before many", b"block b63 on G\n", b"fault line 64 taken\n"),
+    ("name before many", b"block c! on G\n", b"fault line 64 name\n"),
+    ("form before many", b"block c on\n", b"fault line 64 form\n"),
+    ("form, by carries, before many", b"block c on G carries G\n", b"fault line 64 form\n"),
+    ("byte before many", b"block c\x7f on G\n", b"fault line 64 byte\n"),
+    ("command", b"blocks c on G\n", b"fault line 64 command\n"),
+    ("unknown, in a vote", b"vote b63 b64\n", b"fault line 64 unknown\n"),
 ];
 
 /// Which earlier blocks each of 63 blocks stands on.
-#[derive(Clone, Copy, Debug, PartialEq, Eq)]
+#[derive(Clone, Copy)]
 enum Shape {
     /// The one before.
     Chain,
@@ -59,98 +52,139 @@ impl Shape {
         }
     }
 
+    /// Whether one of the two blocks is an ancestor of the other, or they are the same.
+    fn relates(self, x: u8, y: u8) -> bool {
+        match self {
+            Shape::Chain | Shape::Ladder | Shape::Full => true,
+            Shape::Star => x == y || x == 0 || y == 0,
+            Shape::TwoChains => x == 0 || y == 0 || x % 2 == y % 2,
+        }
+    }
+
     /// The answer to a vote. An ancestor is before its descendants, blocks alone on genesis are in
     /// a tie, and every block of the longer chain is before every block of the shorter.
     fn word(self, x: u8, y: u8) -> &'static str {
-        let related = match self {
-            Shape::Chain | Shape::Ladder | Shape::Full => true,
-            Shape::Star => x == 0 || y == 0,
-            Shape::TwoChains => x == 0 || y == 0 || x % 2 == y % 2,
-        };
-        if x == y {
-            "same"
-        } else if related {
-            if x < y { "before" } else { "after" }
-        } else if self == Shape::Star {
-            "tie"
-        } else if x % 2 == 1 {
-            "before"
+        if self.relates(x, y) {
+            match x.cmp(&y) {
+                Ordering::Less => "before",
+                Ordering::Equal => "same",
+                Ordering::Greater => "after",
+            }
         } else {
-            "after"
+            match self {
+                Shape::TwoChains => if x % 2 == 1 { "before" } else { "after" },
+                _ => "tie",
+            }
         }
     }
 }
 
-fn name_of(alloc: Global, block: u8) -> Result<String, Fail> {
+const SHAPES: [Shape; 5] = [
+    Shape::Chain,
+    Shape::Star,
+    Shape::Ladder,
+    Shape::Full,
+    Shape::TwoChains,
+];
+
+/// A scenario, and what it is answered.
+#[derive(Drop)]
+struct Scene {
+    text: String,
+    answers: String,
+}
+
+fn put_name(text: &mut String, block: u8) -> Result<(), Fail> {
     if block == 0 {
-        Ok(String::from_str(alloc, "G")?)
+        text.push_str("G")?;
     } else {
-        Ok(format!(in alloc; "b{block}")?)
+        write!(text, "b{block}")?;
     }
+    Ok(())
 }
 
-/// The lines that make 63 blocks, and what they are answered.
-fn blocks_of(alloc: Global, shape: Shape) -> Result<(String, String), Fail> {
-    let mut text = String::new(alloc);
-    let mut output = String::new(alloc);
+fn put_parents(text: &mut String, shape: Shape, block: u8) -> Result<(), Fail> {
+    let (first, end) = shape.parents(block);
+    for parent in first..end {
+        text.push_str(" ")?;
+        put_name(text, parent)?;
+    }
+    Ok(())
+}
+
+fn put_block(scene: &mut Scene, shape: Shape, block: u8) -> Result<(), Fail> {
+    write!(scene.text, "block b{block} on")?;
+    put_parents(&mut scene.text, shape, block)?;
+    scene.text.push_str("\n")?;
+    writeln!(scene.answers, "kept b{block} present 1")?;
+    Ok(())
+}
+
+/// The lines that make 63 blocks.
+fn blocks_of(alloc: Global, shape: Shape) -> Result<Scene, Fail> {
+    let mut scene = Scene {
+        text: String::new(alloc),
+        answers: String::new(alloc),
+    };
     for block in 1..64u8 {
-        let name = name_of(alloc, block)?;
-        write!(text, "block {name} on")?;
-        let (first, end) = shape.parents(block);
-        for parent in first..end {
-            let parent = name_of(alloc, parent)?;
-            write!(text, " {parent}")?;
-        }
-        writeln!(text)?;
-        writeln!(output, "kept {name} present 1")?;
+        put_block(&mut scene, shape, block)?;
     }
-    Ok((text, output))
+    Ok(scene)
 }
 
-/// Plays 63 blocks and then each of these lines.
-fn refused_after_63(rt: &impl Abort, alloc: Global, lines: &[Case]) -> Result<(), Fail> {
-    for (name, line, reason) in lines {
-        let (text, output) = blocks_of(alloc, Shape::Ladder)?;
-        let mut text = text.into_bytes();
-        text.extend_from_slice(line)?;
-        let mut output = output.into_bytes();
-        output.extend_from_slice(b"fault line 64 ")?;
-        output.extend_from_slice(reason)?;
-        output.push(b'\n')?;
-        plays(rt, alloc, name, text, Status::Malformed, &output)?;
+fn put_question(text: &mut String, x: u8, y: u8) -> Result<(), Fail> {
+    text.push_str("vote ")?;
+    put_name(text, x)?;
+    text.push_str(" ")?;
+    put_name(text, y)
+}
+
+/// A question on two blocks.
+fn put_vote(scene: &mut Scene, shape: Shape, x: u8, y: u8) -> Result<(), Fail> {
+    put_question(&mut scene.text, x, y)?;
+    scene.text.push_str("\n")?;
+    put_question(&mut scene.answers, x, y)?;
+    writeln!(scene.answers, " {}", shape.word(x, y))?;
+    Ok(())
+}
+
+/// A question on each two blocks.
+fn put_votes(scene: &mut Scene, shape: Shape) -> Result<(), Fail> {
+    for x in 0..64u8 {
+        for y in 0..64u8 {
+            put_vote(scene, shape, x, y)?;
+        }
     }
     Ok(())
 }
 
 #[test]
 fn sixty_four_blocks(rt: HostRuntime) -> Result<(), Fail> {
-    let alloc = rt.alloc();
-    for shape in [
-        Shape::Chain,
-        Shape::Star,
-        Shape::Ladder,
-        Shape::Full,
-        Shape::TwoChains,
-    ] {
-        let (mut text, mut output) = blocks_of(alloc, shape)?;
-        for x in 0..64u8 {
-            let first = name_of(alloc, x)?;
-            for y in 0..64u8 {
-                let second = name_of(alloc, y)?;
-                let word = shape.word(x, y);
-                writeln!(text, "vote {first} {second}")?;
-                writeln!(output, "vote {first} {second} {word}")?;
-            }
-        }
-        let name = format!(in alloc; "{shape:?}")?;
+    for (at, shape) in SHAPES.iter().enumerate() {
+        let mut scene = blocks_of(rt.alloc(), *shape)?;
+        put_votes(&mut scene, *shape)?;
+        let (text, answers) = (scene.text.as_bytes(), scene.answers.as_bytes());
+        plays(&rt, rt.alloc(), "shape", at, text, Status::Done, answers)?;
+    }
+    Ok(())
+}
+
+/// What is wrong with the line behind 63 blocks.
+#[test]
+fn sixty_fourth_lines(rt: HostRuntime) -> Result<(), Fail> {
+    let scene = blocks_of(rt.alloc(), Shape::Ladder)?;
+    for (name, line, fault) in &SIXTY_FOURTH {
+        let text = joined(rt.alloc(), scene.text.as_bytes(), line)?;
+        let answers = joined(rt.alloc(), scene.answers.as_bytes(), fault)?;
         plays(
             &rt,
-            alloc,
-            name.as_bytes(),
-            text.into_bytes(),
-            Status::Done,
-            output.as_bytes(),
+            rt.alloc(),
+            name,
+            64,
+            &text,
+            Status::Malformed,
+            &answers,
         )?;
     }
-    refused_after_63(&rt, alloc, &SIXTY_FOURTH)
+    Ok(())
 }
