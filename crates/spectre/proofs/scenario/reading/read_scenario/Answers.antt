@@ -1,4 +1,4 @@
-use Rattle.std.proofs.Common.{◌≤◌, ◌++◌, length, take, arith, length-append}
+use Rattle.std.proofs.Common.{◌≤◌, ◌++◌, length, take, arith}
 use Rattle.std.proofs.lemmas.Grind.{common_steps}
 use Rattle.sp_io.proofs.Known.{consumes_then}
 use Rattle.spectre.specs.Words.{scenario_limit}
