@@ -4,8 +4,6 @@
 #![tactic(auto)]
 
 mod row;
-#[cfg(test)]
-mod tests;
 mod truths;
 
 pub use row::Row;

@@ -19,6 +19,3 @@ pub use draft::{Draft, draft_bytes, seek_nonce};
 pub use fault::{BlockFault, ReadBlockFault};
 pub use list::{Blocks, Parents};
 pub use read::read_block;
-
-#[cfg(test)]
-mod tests;

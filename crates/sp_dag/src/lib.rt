@@ -11,7 +11,5 @@ mod numbers;
 mod pairs;
 mod rows;
 mod table;
-#[cfg(test)]
-mod tests;
 
 pub use dag::Dag;

@@ -16,6 +16,3 @@ mod votes;
 
 pub use answer::{Answer, Refusal};
 pub use engine::Engine;
-
-#[cfg(test)]
-mod tests;

@@ -23,6 +23,3 @@ pub use head::FeedHead;
 pub use message::Message;
 pub use reader::FeedReader;
 pub use run::{Visitor, read_all};
-
-#[cfg(test)]
-mod tests;

@@ -14,6 +14,3 @@ pub mod laws;
 pub use array::array_of;
 pub use fault::ReadFault;
 pub use fields::Fields;
-
-#[cfg(test)]
-mod tests;

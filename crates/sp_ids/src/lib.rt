@@ -14,8 +14,6 @@ mod ids;
 mod lock;
 mod memory;
 mod outpoint;
-#[cfg(test)]
-mod tests;
 mod tx_id;
 
 pub use block_id::BlockId;

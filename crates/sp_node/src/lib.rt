@@ -8,8 +8,6 @@
 mod fault;
 pub mod laws;
 mod node;
-#[cfg(test)]
-mod tests;
 
 pub use fault::NodeFault;
 pub use node::Node;

@@ -11,6 +11,3 @@ mod plain;
 
 pub use matrix::Matrix;
 pub use plain::plain_votes;
-
-#[cfg(test)]
-mod tests;

@@ -11,8 +11,6 @@ mod entries;
 pub mod laws;
 mod pool;
 mod release;
-#[cfg(test)]
-mod tests;
 
 pub use answers::{Offer, Standing};
 pub use arrivals::offer_all;

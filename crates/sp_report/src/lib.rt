@@ -13,8 +13,6 @@ mod line;
 mod lines;
 mod naming;
 mod reasons;
-#[cfg(test)]
-mod tests;
 
 pub use answers::answer_line;
 pub use ask::Ask;

@@ -22,6 +22,3 @@ pub use parts::{Input, Output};
 pub use spending::{conflicts, opens};
 pub use tx::{Tx, read_tx};
 pub use writer::{id, write_tx, written_len};
-
-#[cfg(test)]
-mod tests;
