@@ -7,7 +7,8 @@ use crate::fixtures::{
 };
 use crate::rows::holds;
 use sp_feed::{FeedHead, Message};
-use sp_io::MemSink;
+use sp_ids::Memory;
+use sp_io::{Failed, MemSink};
 use sp_node::{Node, NodeFault};
 use sp_report::Naming;
 use std::alloc::Global;
@@ -243,4 +244,11 @@ fn cut_answers(rt: HostRuntime) -> Result<(), Fail> {
         holds(&rt, place, are_cut(rt.alloc(), row)?);
     }
     Ok(())
+}
+
+/// A node tells a sink's failure from want of memory.
+#[test]
+fn causes(rt: HostRuntime) {
+    holds(&rt, 0, NodeFault::from(Failed) == NodeFault::WriteFault);
+    holds(&rt, 1, NodeFault::from(Memory) == NodeFault::Memory);
 }
