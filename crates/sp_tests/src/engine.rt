@@ -614,10 +614,18 @@ fn are_filled(told: &[Told]) -> bool {
     waiting.iter().all(|one| *one == Told::Held) && last == LAST.as_slice()
 }
 
+/// How many blocks are present, wait and are kept once so many came.
+fn counts_after(blocks: &Numbered, came: &[Vec<u8>], count: usize) -> Result<Counts, Fail> {
+    let (first, _) = came.split_at(came.len().min(count));
+    Ok(run(blocks.alloc, blocks.text(0), 0, first, &[])?.counts)
+}
+
 #[test]
 fn a_full_engine(rt: HostRuntime) -> Result<(), Fail> {
     let blocks = orphans(rt.alloc())?;
-    let ran = run(rt.alloc(), blocks.text(0), 0, &fillers(&blocks)?, &[])?;
-    holds(&rt, 0, are_filled(&ran.told) && ran.counts == (2, 510, 512));
+    let came = fillers(&blocks)?;
+    holds(&rt, 0, counts_after(&blocks, &came, 510)? == (1, 510, 511));
+    let ran = run(rt.alloc(), blocks.text(0), 0, &came, &[])?;
+    holds(&rt, 1, are_filled(&ran.told) && ran.counts == (2, 510, 512));
     Ok(())
 }

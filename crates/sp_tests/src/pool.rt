@@ -224,11 +224,11 @@ fn too_many(alloc: Global) -> Result<Numbered, Fail> {
 }
 
 /// All of them come, and the first one again.
-fn fill(blocks: &Numbered, pool: &mut Pool) -> Result<Vec<Told>, Fail> {
+fn fill(blocks: &Numbered, pool: &mut Pool) -> Result<Ran, Fail> {
     let mut numbers = span(blocks.alloc, 1, 514)?;
     numbers.push(1)?;
     let came = blocks.chosen(&numbers)?;
-    Ok(offer_each(blocks.alloc, pool, &came)?.told)
+    offer_each(blocks.alloc, pool, &came)
 }
 
 fn are_filled(told: &[Told]) -> bool {
@@ -237,12 +237,18 @@ fn are_filled(told: &[Told]) -> bool {
         && last == [Told::Full, Told::Full, Told::Known].as_slice()
 }
 
+/// Whether the first 511 are kept, each present at once, and then no more.
+fn is_filled(blocks: &Numbered, pool: &mut Pool) -> Result<bool, Fail> {
+    let ran = fill(blocks, pool)?;
+    let numbers = span(blocks.alloc, 1, 512)?;
+    Ok(are_filled(&ran.told) && are_ordered(blocks, &ran.order, &numbers))
+}
+
 #[test]
 fn a_full_pool(rt: HostRuntime) -> Result<(), Fail> {
     let blocks = too_many(rt.alloc())?;
     let mut pool = pool_of(&blocks)?;
-    let told = fill(&blocks, &mut pool)?;
-    holds(&rt, 0, are_filled(&told));
+    holds(&rt, 0, is_filled(&blocks, &mut pool)?);
     holds(
         &rt,
         1,
