@@ -1,0 +1,10 @@
+pub mod Payment
+pub mod Ledger
+pub mod Money
+pub mod Examples
+pub mod Lookups
+pub mod Carried
+pub mod Kept
+pub mod Worth
+pub mod Growth
+pub mod Rivals

@@ -1,0 +1,170 @@
+//! The public type: what the crates above see of transactions and carriers.
+
+ghost use Rattle.std.specs.Prelude.{◌≡◌, ◌<◌, ◌≤◌, length, IfOk, IfSome, OnOk, OnErr, Some, slice_get};
+ghost use Rattle.sp_tx.specs.Spending.{id_of};
+ghost use Rattle.sp_carry.specs.Lookups.{spenders_in};
+ghost use Rattle.sp_carry.specs.Carried.{carriers_in, nothing, number_of, tx_at, with_block, IsCarried};
+ghost use Rattle.sp_carry.specs.Rivals.{rivals_of};
+
+use crate::carrier::Carrier;
+use crate::rivals::rivals;
+use crate::table::Table;
+use sp_dag::Dag;
+use sp_ids::{Memory, Outpoint, TxId};
+use sp_tx::{Tx, Txs};
+use std::alloc::Global;
+use std::marker::Model;
+
+/// The transactions and carriers of the first blocks of a graph, at most 512 of them.
+///
+/// Transactions and carriers are numbered from 0 in the order of their blocks, and in a block in
+/// that of their places. A transaction counts once, whatever number of blocks carries it. Where two
+/// transactions have one id, which SHA-256 makes hard to find, both count as the first of them.
+/// Contracts see the number of blocks, the transactions, and the carriers.
+#[derive(Drop)]
+pub struct Carriers {
+    alloc: Global,
+    table: Table,
+}
+
+impl Model for Carriers {
+    ghost use Rattle.sp_carry.specs.Carried.{Carried, IsCarried};
+    ghost use Rattle.sp_carry.specs.Kept.{carried_of, IsKept};
+
+    ghost Value = { Carried };
+
+    ghost view = { λ carriers. carried_of carriers.table };
+
+    ghost invariant = { λ carriers. IsKept carriers.table × IsCarried (carried_of carriers.table) };
+}
+
+impl Carriers {
+    /// Those of no block.
+    pub fn new(alloc: Global) -> Carriers
+        ensures { result ≡ nothing }
+    {
+        Carriers {
+            alloc,
+            table: Table::new(alloc),
+        }
+    }
+
+    /// Adds the carriers of the next block of the graph, which has these transactions. Each is
+    /// sound as the definition says, over the blocks in its past; a transaction whose id is known
+    /// is the one that is known.
+    ///
+    /// The time is that of a look-up for each transaction and each of its inputs, and of one step
+    /// for each carrier of a transaction that an input names.
+    ///
+    /// # Errors
+    ///
+    /// Memory was refused; all is as before.
+    pub fn add(&mut self, dag: &Dag, number: u16, txs: &Txs) -> Result<(), Memory>
+        requires next { self.old.blocks ≡ number }
+        requires there { number < length dag.now.parents }
+        requires few { length txs.now ≤ 256 }
+        ensures ok { OnOk result (self.new ≡ with_block dag.now.parents self.old txs.now) }
+        ensures err { OnErr result (self.new ≡ self.old) }
+    {
+        // This call's contract says what a graph always is.
+        let _blocks = dag.len();
+        let first = self.table.rows.len();
+        match self.table.carry_all(self.alloc, dag, txs.as_slice()) {
+            Ok(()) => {
+                self.table.blocks = number + 1;
+                Ok(())
+            }
+            Err(Memory) => {
+                self.table.take_back(first);
+                Err(Memory)
+            }
+        }
+    }
+
+    /// How many transactions there are, at most 131,072.
+    pub fn tx_count(&self) -> u32
+        ensures value { result ≡ length self.now.txs }
+        ensures bound { result ≤ 131072 }
+    {
+        self.table.txs.len() as u32
+    }
+
+    /// The number of the transaction of an id, by one look-up.
+    pub fn tx_of(&self, id: &TxId) -> Option<u32>
+        ensures value { result ≡ number_of self.now id.now }
+        ensures within { IfSome result (λ tx. tx < length self.now.txs) }
+    {
+        self.table.tx_of(id)
+    }
+
+    /// The id of a transaction.
+    pub fn tx_id(&self, tx: u32) -> TxId
+        requires { tx < length self.now.txs }
+        ensures { result ≡ id_of (tx_at self.now tx) }
+    {
+        self.table.ids[tx as usize]
+    }
+
+    /// A transaction.
+    pub fn tx(&self, tx: u32) -> &Tx
+        requires { tx < length self.now.txs }
+        ensures { result.now ≡ tx_at self.now tx }
+    {
+        &self.table.txs[tx as usize]
+    }
+
+    /// How many blocks were added. What always holds of their transactions and carriers stands
+    /// here, for each caller.
+    pub fn block_count(&self) -> u16
+        ensures value { result ≡ self.now.blocks }
+        ensures carried { IsCarried self.now }
+    {
+        self.table.blocks
+    }
+
+    /// How many carriers there are, at most 131,072.
+    pub fn carrier_count(&self) -> u32
+        ensures value { result ≡ length self.now.rows }
+        ensures bound { result ≤ 131072 }
+    {
+        self.table.rows.len() as u32
+    }
+
+    /// A carrier.
+    pub fn carrier(&self, c: u32) -> Carrier
+        requires { c < length self.now.rows }
+        ensures { slice_get self.now.rows c ≡ Some result }
+    {
+        self.table.rows[c as usize]
+    }
+
+    /// The numbers of a transaction's carriers, ascending. There is at least one.
+    pub fn carriers_of(&self, tx: u32) -> &[u32]
+        requires { tx < length self.now.txs }
+        ensures { result.now ≡ carriers_in self.now.rows tx }
+    {
+        self.table.carriers_of(tx)
+    }
+
+    /// The numbers of the transactions that spend an outpoint, sound or not, ascending, by one
+    /// look-up. Its time is logarithmic, whatever outpoints strangers choose.
+    pub fn spenders_of(&self, from: &Outpoint) -> &[u32]
+        ensures { result.now ≡ spenders_in self.now.txs from.now }
+    {
+        self.table.spenders_of(from)
+    }
+
+    /// The numbers of the sound carriers that conflict with a carrier, in whatever block they
+    /// stand, ascending. The time is in proportion to the carriers of the transactions that spend
+    /// one of its outpoints, and not to all carriers.
+    ///
+    /// # Errors
+    ///
+    /// Memory was refused.
+    pub fn conflicts_of(&self, c: u32) -> Result<Vec<u32>, Memory>
+        requires { c < length self.now.rows }
+        ensures { IfOk result (λ list. list.items ≡ rivals_of self.now c) }
+    {
+        rivals(self.alloc, &self.table, c)
+    }
+}

@@ -1,0 +1,95 @@
+//! Carriers of the next block, one by one, and how the last ones are taken back.
+
+ghost use Rattle.std.specs.Prelude.{◌≡◌, ◌<◌, ◌^◌, ℕ, List, length, OnOk, OnErr};
+ghost use Rattle.sp_tx.specs.Parts.{Transaction};
+ghost use Rattle.sp_dag.specs.Numbered.{IsNumbered};
+ghost use Rattle.sp_carry.specs.Carried.{Carried, with_carrier, with_carriers, AreLinked};
+ghost use Rattle.sp_carry.specs.Growth.{HasRoom, IsGrown};
+ghost use Rattle.sp_carry.specs.Kept.{carried_of, IsKept, Keeps};
+
+use crate::carrier::Carrier;
+use crate::table::Table;
+use crate::worth::is_sound;
+use sp_dag::Dag;
+use sp_ids::Memory;
+use sp_tx::Tx;
+use std::alloc::Global;
+
+impl Table {
+    // One more carrier in the next block. After `Memory` all is as before.
+    fn carry(&mut self, alloc: Global, dag: &Dag, tx: &Tx) -> Result<(), Memory>
+        requires kept { IsKept self.old }
+        requires room { HasRoom dag.now.parents 1 (carried_of self.old) }
+        requires numbered { IsNumbered dag.now }
+        ensures ok { OnOk result (Keeps self.new (with_carrier dag.now.parents (carried_of self.old) tx.now)) }
+        ensures err { OnErr result (Keeps self.new (carried_of self.old)) }
+    {
+        let id = sp_tx::id(alloc, tx)?;
+        let block = self.blocks;
+        match self.tx_of(&id) {
+            Some(number) => {
+                let sound = is_sound(self, dag, &self.txs[number as usize]);
+                self.carry_known(Carrier {
+                    block,
+                    tx: number,
+                    sound,
+                })
+            }
+            None => {
+                let number = self.txs.len() as u32;
+                let sound = is_sound(self, dag, tx);
+                self.carry_new(
+                    alloc,
+                    tx,
+                    id,
+                    Carrier {
+                        block,
+                        tx: number,
+                        sound,
+                    },
+                )
+            }
+        }
+    }
+
+    // The next block's carriers. After `Memory` some of them are there.
+    pub(crate) fn carry_all(&mut self, alloc: Global, dag: &Dag, txs: &[Tx]) -> Result<(), Memory>
+        requires kept { IsKept self.old }
+        requires room { HasRoom dag.now.parents (length txs.now) (carried_of self.old) }
+        requires numbered { IsNumbered dag.now }
+        ensures ok { OnOk result (Keeps self.new (with_carriers dag.now.parents (carried_of self.old) txs.now)) }
+        ensures err { OnErr result (IsGrown dag.now.parents (carried_of self.old) (length self.old.rows.items) (carried_of self.new)) }
+        ensures kept { OnErr result (IsKept self.new) }
+    {
+        'txs: for tx in txs {
+            self.carry(alloc, dag, tx)?;
+        }
+        Ok(())
+    }
+
+    // Takes the last carrier back, and its transaction where it was the only one.
+    fn drop_carrier(&mut self)
+        requires kept { IsKept self.old }
+        requires linked { AreLinked (carried_of self.old) }
+        requires some { 0 < length self.old.rows.items }
+        requires few { length self.old.txs.items < 2 ^ 32 }
+        ensures { (parents : List (List ℕ)) (k : Carried) (t : Transaction) → AreLinked k →
+            Keeps self.old (with_carrier parents k t) → Keeps self.new k }
+    {
+        if self.drop_row() {
+            self.drop_tx();
+        }
+    }
+
+    // Takes the last carriers back, down to a number of them.
+    pub(crate) fn take_back(&mut self, first: usize)
+        requires kept { IsKept self.old }
+        requires grown { (parents : List (List ℕ)) × (k : Carried) × IsGrown parents k first (carried_of self.old) }
+        ensures { (parents : List (List ℕ)) (k : Carried) → IsGrown parents k first (carried_of self.old) →
+            Keeps self.new k }
+    {
+        'rows: while self.rows.len() > first {
+            self.drop_carrier();
+        }
+    }
+}
