@@ -1,0 +1,10 @@
+pub mod Numbers
+pub mod Places
+pub mod Carriers
+pub mod Decided
+pub mod Passed
+pub mod Turned
+pub mod Renamed
+pub mod States
+pub mod Grown
+pub mod StillRight

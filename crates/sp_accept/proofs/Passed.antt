@@ -1,0 +1,134 @@
+-- The whole pass, and what follows for transactions.
+use Rattle.std.proofs.Common.{◌≡◌, ℕ, zero, suc, ◌+◌, ◌<◌, ◌≤◌, Bool, true, false, ◌&&◌, List, [], ◌∷◌, ◌++◌, map, length, refl, sym, ap, ◌∙◌, inl, inr, arith, eqb, add-one, length-append}
+use Rattle.std.specs.List.{list_any, range_with_len}
+use Rattle.std.proofs.lemmas.Bool.{cases_lt, eqb-true, eq-eqb, lt-ltb}
+use Rattle.std.proofs.lemmas.List.FromFn.{get_or-map-range_with_len, map-range_with_len_more, length-map-range_with_len}
+use Rattle.sp_model.specs.Graph.{has, keys}
+use Rattle.sp_model.proofs.Sets.{same_truth}
+use Rattle.sp_dag.specs.Numbered.{AreInOrder, graph_of}
+use Rattle.sp_dag.proofs.Whole.{keys_are_numbers}
+use Rattle.sp_carry.specs.Payment.{Payment}
+use Rattle.sp_carry.specs.Ledger.{Ledger, accepted_carriers, accepts, is_accepted}
+use Rattle.sp_carry.specs.Carried.{AreSound, Carried, IsCarried, carriers_in, ledger_of}
+use Rattle.sp_carry.proofs.Conflicts.{accepted_from, from_accepted}
+use Rattle.sp_carry.proofs.Members.{IsIn, any_of_member, member_of_any}
+use Rattle.sp_accept.specs.Acceptance.{Acceptance, first_blocks, is_accepted_carrier, is_accepted_tx, is_set, IsRight}
+use Rattle.sp_accept.specs.Pass.{carried_flags, is_next, passed}
+use Rattle.sp_accept.specs.Rows.{AreOf, payment_at, row_at}
+use Rattle.sp_accept.proofs.Carriers.{AreRows, rows_are, carried_at, carries, one_number}
+use Rattle.sp_accept.proofs.Decided.{AreDecided, member, next_is}
+use Rattle.sp_accept.proofs.Numbers.{carrier_of, of_carrier}
+
+-- one more carrier
+pub passed_more : (table : List (List ℕ)) (k : Carried) (flags seen new : List Bool) (now : Bool) (n : ℕ) → flags ≡ passed table k n
+    → seen ≡ flags → now ≡ is_next table k seen n → new ≡ flags ++ now ∷ [] → new ≡ passed table k (n + 1)
+unfolding passed
+passed_more table k flags seen new now n e s f g = g ∙ rw (add-one n, f, s, e) refl
+
+-- one more transaction
+pub mapped_more : (f : ℕ → Bool) (flags new : List Bool) (now : Bool) (n : ℕ) → flags ≡ map f (range_with_len 0 n) → now ≡ f n → new ≡ flags ++ now ∷ []
+    → new ≡ map f (range_with_len 0 (n + 1))
+mapped_more f flags new now n e g h = h ∙ rw (map-range_with_len_more f 0 n n (omega arith), e, g) refl
+
+flag_before : (flags : List Bool) (f : Bool) (d : ℕ) → d < length flags → is_set (flags ++ f ∷ []) d ≡ is_set flags d
+flag_before [] f d lt = absurd (omega (arith, lt))
+flag_before (x ∷ xs) f zero lt = refl
+flag_before (x ∷ xs) f (suc d) lt = flag_before xs f d (omega (arith, lt))
+
+flag_last : (flags : List Bool) (f : Bool) → is_set (flags ++ f ∷ []) (length flags) ≡ f
+flag_last [] f = refl
+flag_last (x ∷ xs) f = flag_last xs f
+
+module _ (table : List (List ℕ)) (k : Carried) (kept : AreRows k) (blocks : length table ≡ k.blocks) (order : AreInOrder table) (sound : AreSound table k) where
+  abbrev ledger : Ledger
+  ledger = ledger_of table k
+
+  abbrev set : List ℕ
+  set = keys (graph_of table)
+
+  abbrev decision : ℕ → Bool
+  decision c = accepts ledger set (row_at k.rows c).block (payment_at k (row_at k.rows c).tx)
+
+  decided_more : (flags : List Bool) (n : ℕ) → AreDecided table k flags n → n < length k.rows → AreDecided table k (flags ++ is_next table k flags n ∷ []) (suc n)
+  decided_more flags n d ln = record {
+    long = (let l : length (flags ++ is_next table k flags n ∷ []) ≡ length flags + 1 = length-append flags (is_next table k flags n ∷ []) in omega (arith, l, d.long));
+    each = λ c lt. at c lt;
+  }
+    where
+      at : (c : ℕ) → c < suc n → is_set (flags ++ is_next table k flags n ∷ []) c ≡ decision c
+      at c lt =
+          elim (cases_lt c n) [
+            | inl less ↦ flag_before flags (is_next table k flags n) c (omega (arith, less, d.long)) ∙ d.each c less
+            | inr ge ↦ (let e : c ≡ length flags = omega (arith, ge, lt, d.long) in
+                let f : n ≡ c = omega (arith, ge, lt) in
+                ap (is_set (flags ++ is_next table k flags n ∷ [])) e
+                ∙ flag_last flags (is_next table k flags n)
+                ∙ next_is table k kept blocks order sound flags n d ln
+                ∙ ap decision f)
+          ]
+
+  pub all_decided : (n : ℕ) → n ≤ length k.rows → AreDecided table k (passed table k n) n
+  unfolding passed
+  all_decided zero le = record { long = refl; each = λ c lt. absurd (omega (arith, lt)) }
+  all_decided (suc n) le = decided_more (passed table k n) n (all_decided n (omega (arith, le))) (omega (arith, le))
+
+  -- a transaction is accepted where a carrier of it has its flag
+  tx_is : (flags : List Bool) (t : ℕ) → AreDecided table k flags (length k.rows) → t < length k.txs
+      → list_any (is_set flags) (carriers_in k.rows t) ≡ is_accepted ledger set (payment_at k t).id
+  tx_is flags t d lt = same_truth _ _ forth back
+    where
+      forth : list_any (is_set flags) (carriers_in k.rows t) ≡ true → is_accepted ledger set (payment_at k t).id ≡ true
+      forth h =
+          let c : (c : ℕ) × IsIn (carriers_in k.rows t) c × (is_set flags c ≡ true) = member_of_any (is_set flags) (carriers_in k.rows t) h in
+          let p : (c.0 < length k.rows) × ((row_at k.rows c.0).tx ≡ t) = carrier_of k.rows t c.0 c.1 in
+          any_of_member (λ (u : Payment). eqb u.id (payment_at k t).id) (accepted_carriers ledger set) (payment_at k (row_at k.rows c.0).tx)
+          (from_accepted ledger set (row_at k.rows c.0).block (payment_at k (row_at k.rows c.0).tx)
+          (member table k kept blocks order sound c.0 p.0) (carries k kept c.0 p.0) (sym (d.each c.0 p.0) ∙ c.2))
+          (eq-eqb _ _ (ap (λ (n : ℕ). (payment_at k n).id) p.1))
+
+      back : is_accepted ledger set (payment_at k t).id ≡ true → list_any (is_set flags) (carriers_in k.rows t) ≡ true
+      back h =
+          let u : (u : Payment) × IsIn (accepted_carriers ledger set) u × (eqb u.id (payment_at k t).id ≡ true) =
+          member_of_any (λ (u : Payment). eqb u.id (payment_at k t).id) (accepted_carriers ledger set) h in
+          let a : (z : ℕ) × (has set z ≡ true) × IsIn (ledger.txs z) u.0 × (accepts ledger set z u.0 ≡ true) = accepted_from ledger set u.0 u.1 in
+          let c : (c : ℕ) × (c < length k.rows) × ((row_at k.rows c).block ≡ a.0) × (payment_at k (row_at k.rows c).tx ≡ u.0) = carried_at k kept a.0 u.0 a.2 in
+          let same : (row_at k.rows c.0).tx ≡ t =
+          one_number k kept (row_at k.rows c.0).tx t (kept.known c.0 c.1) lt (ap (λ (u : Payment). u.id) c.3 ∙ eqb-true _ _ u.2) in
+          any_of_member (is_set flags) (carriers_in k.rows t) c.0 (of_carrier k.rows t c.0 c.1 same)
+          (d.each c.0 c.1 ∙ ap (λ (w : ℕ). accepts ledger set w (payment_at k (row_at k.rows c.0).tx)) c.2 ∙ ap (accepts ledger set a.0) c.3 ∙ a.3)
+
+  -- ---- the flags of the pass are right
+
+  set_is : (n : ℕ) → n ≡ k.blocks → set ≡ first_blocks n
+  set_is n e = keys_are_numbers table ∙ ap (range_with_len 0) (blocks ∙ sym e)
+
+  right : (a : Acceptance) → a.blocks ≡ k.blocks → a.carriers ≡ passed table k (length k.rows) → a.txs ≡ carried_flags k a.carriers → IsRight table k a
+  right a n flags txs = record {
+    few = omega (arith, n);
+    carriers = λ c lt. carrier c lt;
+    no_more = omega (arith, ap length flags, d.long);
+    txs = λ t lt. tx t lt;
+    no_more_txs = omega (arith, ap length txs, length-map-range_with_len (λ tx. list_any (is_set a.carriers) (carriers_in k.rows tx)) 0 (length k.txs));
+  }
+    where
+      d : AreDecided table k (passed table k (length k.rows)) (length k.rows)
+      d = all_decided (length k.rows) (omega arith)
+
+      carrier : (c : ℕ) → c < length k.rows → is_set a.carriers c ≡ is_accepted_carrier table k a.blocks c
+      carrier c lt =
+          let less : (row_at k.rows c).block < a.blocks = (let b : (row_at k.rows c).block < k.blocks = kept.inside c lt in omega (arith, b, n)) in
+          ap (λ (fs : List Bool). is_set fs c) flags ∙ d.each c lt
+          ∙ ap (λ (s : List ℕ). accepts ledger s (row_at k.rows c).block (payment_at k (row_at k.rows c).tx)) (set_is a.blocks n)
+          ∙ ap (λ (b : Bool). b && accepts ledger (first_blocks a.blocks) (row_at k.rows c).block (payment_at k (row_at k.rows c).tx)) (sym (lt-ltb (row_at k.rows c).block a.blocks less))
+
+      tx : (t : ℕ) → t < length k.txs → is_set a.txs t ≡ is_accepted_tx table k a.blocks t
+      tx t lt =
+          ap (λ (fs : List Bool). is_set fs t) txs
+          ∙ get_or-map-range_with_len (λ tx. list_any (is_set a.carriers) (carriers_in k.rows tx)) 0 (length k.txs) t t false lt (omega arith)
+          ∙ ap (λ (fs : List Bool). list_any (is_set fs) (carriers_in k.rows t)) flags
+          ∙ tx_is (passed table k (length k.rows)) t d lt
+          ∙ ap (λ (s : List ℕ). is_accepted ledger s (payment_at k t).id) (set_is a.blocks n)
+
+pub right_from : (table : List (List ℕ)) (k : Carried) (a : Acceptance) → IsCarried k → AreOf table k → a.blocks ≡ k.blocks
+    → a.carriers ≡ passed table k (length k.rows) → a.txs ≡ carried_flags k a.carriers → IsRight table k a
+right_from table k a kept of = right table k (rows_are k kept) of.long of.order of.sound a

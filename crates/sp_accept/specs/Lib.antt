@@ -1,0 +1,6 @@
+pub mod Rows
+pub mod Standing
+pub mod Acceptance
+pub mod Flips
+pub mod Pass
+pub mod States

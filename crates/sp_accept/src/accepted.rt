@@ -1,0 +1,92 @@
+//! Which carriers and transactions are accepted: what the crates above keep and ask.
+
+ghost use Rattle.std.specs.Prelude.{◌≡◌, ◌<◌, length, All, IfOk, OnOk, OnErr, []};
+ghost use Rattle.sp_accept.specs.Rows.{AreOf};
+ghost use Rattle.sp_accept.specs.Acceptance.{is_set, IsRight};
+ghost use Rattle.sp_accept.specs.Flips.{flips_of};
+
+use crate::flags::is_set;
+use crate::flips::flips_between;
+use crate::order::Order;
+use crate::pass::{carrier_flags, tx_flags};
+use sp_carry::{Carriers, Flip};
+use sp_ids::Memory;
+use std::alloc::Global;
+use std::marker::Model;
+
+/// The accepted carriers and transactions of the first blocks of a graph, by number. Contracts see
+/// how many blocks these are, and a flag for each carrier and each transaction.
+#[derive(Drop)]
+pub struct Accepted {
+    alloc: Global,
+    carriers: Vec<bool>,
+    txs: Vec<bool>,
+    blocks: u16,
+}
+
+impl Model for Accepted {
+    ghost use Rattle.sp_accept.specs.Acceptance.{Acceptance};
+
+    ghost Value = { Acceptance };
+
+    ghost view = { λ a. record { blocks = a.blocks; carriers = a.carriers.items; txs = a.txs.items } };
+}
+
+impl Accepted {
+    /// Of no block.
+    pub fn new(alloc: Global) -> Accepted
+        ensures { result ≡ record { blocks = 0; carriers = []; txs = [] } }
+    {
+        Accepted {
+            alloc,
+            carriers: Vec::new(alloc),
+            txs: Vec::new(alloc),
+            blocks: 0,
+        }
+    }
+
+    /// Decides on all carriers anew, with all added blocks as the set, and answers the transactions
+    /// whose acceptance differs from before, ascending, each with its new state. The order has to
+    /// speak of the graph whose blocks were added.
+    ///
+    /// It goes over the carriers once, in their order. For each it looks up the transactions that it
+    /// spends and the other spenders of what it spends, with their carriers, and stops at the first
+    /// that decides; it makes no list of them. It takes memory for one flag of each carrier, one of
+    /// each transaction, and the answer.
+    ///
+    /// # Errors
+    ///
+    /// Memory was refused; all is as before.
+    pub fn rebuild<O: Order>(&mut self, order: &O, carriers: &Carriers) -> Result<Vec<Flip>, Memory>
+        requires { AreOf (O.table order.now) carriers.now }
+        ensures right { OnOk result (IsRight (O.table order.now) carriers.now self.new) }
+        ensures blocks { OnOk result (self.new.blocks ≡ carriers.now.blocks) }
+        ensures flips { IfOk result (λ flips. flips.items
+            ≡ flips_of self.old.txs self.new.txs (length carriers.now.txs)) }
+        ensures known { IfOk result (λ flips.
+            All (λ flip. flip.tx < length carriers.now.txs) flips.items) }
+        ensures err { OnErr result (self.new ≡ self.old) }
+    {
+        let flags = carrier_flags(self.alloc, order, carriers)?;
+        let txs = tx_flags(self.alloc, carriers, &flags)?;
+        let flips = flips_between(self.alloc, &self.txs, &txs, carriers.tx_count())?;
+        self.carriers = flags;
+        self.txs = txs;
+        self.blocks = carriers.block_count();
+        Ok(flips)
+    }
+
+    /// Whether the transaction is accepted, at once. One that isn't known is not.
+    pub fn is_accepted(&self, tx: u32) -> bool
+        ensures { result ≡ is_set self.now.txs tx }
+    {
+        is_set(&self.txs, tx)
+    }
+
+    /// Whether the carrier is accepted, at once. One that isn't known is not.
+    pub fn carrier_accepted(&self, c: u32) -> bool
+        ensures { result ≡ is_set self.now.carriers c }
+    {
+        is_set(&self.carriers, c)
+    }
+}

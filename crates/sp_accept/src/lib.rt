@@ -1,0 +1,18 @@
+//! Acceptance: which carriers and which transactions are accepted, by one pass over the carriers in
+//! their order, and which transactions' acceptance turned. It stands on the definition of an
+//! accepted carrier in the crate of the carriers; where blocks stand to one another is told by
+//! whatever order is handed in.
+#![tactic(auto)]
+
+mod accepted;
+mod flags;
+mod flips;
+pub mod laws;
+mod lookups;
+mod order;
+mod pass;
+mod rivals;
+mod sources;
+
+pub use accepted::Accepted;
+pub use order::Order;

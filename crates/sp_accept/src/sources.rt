@@ -1,0 +1,81 @@
+//! Whether what a carrier spends is accepted in the past of its block.
+
+ghost use Rattle.std.specs.Prelude.{◌≡◌, ◌<◌, length};
+ghost use Rattle.std.specs.List.{list_all};
+ghost use Rattle.sp_accept.specs.Pass.{has_source, is_accepted_below, is_paid};
+
+use crate::flags::is_set;
+use crate::lookups::{carrier_at, carriers_of};
+use crate::order::Order;
+use sp_carry::Carriers;
+use sp_tx::Input;
+
+/// Whether the carrier is accepted and stands in the past of the block.
+fn is_accepted_below<O: Order>(
+    order: &O,
+    carriers: &Carriers,
+    flags: &[bool],
+    block: u16,
+    c: u32,
+) -> bool
+    requires blocks { length (O.table order.now) ≡ carriers.now.blocks }
+    requires block { block < carriers.now.blocks }
+    requires c { c < length carriers.now.rows }
+    ensures { result ≡ is_accepted_below (O.table order.now) carriers.now flags.now block c }
+{
+    is_set(flags, c) && order.in_past(carrier_at(carriers, c).block, block)
+}
+
+/// Whether an accepted carrier of the transaction stands in the past of the block.
+fn is_paid<O: Order>(order: &O, carriers: &Carriers, flags: &[bool], block: u16, tx: u32) -> bool
+    requires blocks { length (O.table order.now) ≡ carriers.now.blocks }
+    requires block { block < carriers.now.blocks }
+    requires tx { tx < length carriers.now.txs }
+    ensures { result ≡ is_paid (O.table order.now) carriers.now flags.now block tx }
+{
+    let of_tx = carriers_of(carriers, tx);
+    'carriers: for c in of_tx {
+        if is_accepted_below(order, carriers, flags, block, *c) {
+            return true;
+        }
+    }
+    false
+}
+
+/// Whether that holds of the transaction that the input names.
+fn has_source<O: Order>(
+    order: &O,
+    carriers: &Carriers,
+    flags: &[bool],
+    block: u16,
+    input: &Input,
+) -> bool
+    requires blocks { length (O.table order.now) ≡ carriers.now.blocks }
+    requires block { block < carriers.now.blocks }
+    ensures { result ≡ has_source (O.table order.now) carriers.now flags.now block input.now }
+{
+    match carriers.tx_of(&input.from.tx) {
+        Some(tx) => is_paid(order, carriers, flags, block, tx),
+        None => false,
+    }
+}
+
+/// Whether each input's transaction has an accepted carrier in the past of the block.
+pub(crate) fn are_sources_accepted<O: Order>(
+    order: &O,
+    carriers: &Carriers,
+    flags: &[bool],
+    block: u16,
+    inputs: &[Input],
+) -> bool
+    requires blocks { length (O.table order.now) ≡ carriers.now.blocks }
+    requires block { block < carriers.now.blocks }
+    ensures { result ≡ list_all (has_source (O.table order.now) carriers.now flags.now block) inputs.now }
+{
+    'inputs: for input in inputs {
+        if !has_source(order, carriers, flags, block, input) {
+            return false;
+        }
+    }
+    true
+}
