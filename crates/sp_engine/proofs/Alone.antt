@@ -1,17 +1,20 @@
 -- An engine of genesis alone.
-use Rattle.std.proofs.Common.{◌≡◌, ℕ, zero, suc, ◌≤◌, Bool, true, false, cond, List, [], ◌∷◌, get_or, length, map, refl, sym, ap, subst, ◌∙◌, eqb, Some, None}
+use Rattle.std.proofs.Common.{arith, ◌≡◌, ℕ, zero, suc, ◌≤◌, Bool, true, false, cond, List, [], ◌∷◌, get_or, length, map, refl, sym, ap, subst, ◌∙◌, eqb, Some, None}
 use Rattle.std.specs.Prelude.{slice_get}
 use Rattle.std.specs.List.{list_all}
 use Rattle.std.specs.Option.{option_map}
-use Rattle.std.proofs.lemmas.Bool.{false≢true}
+use Rattle.std.proofs.lemmas.Bool.{eq-eqb, false≢true}
 use Rattle.sp_block.specs.Block.{IsBlock, IsGenesis, ReadBlock}
 use Rattle.sp_model.specs.Graph.{has, parents_of, parents_or_none}
 use Rattle.sp_pool.specs.Kept.{AreKept, graph_of, node_of, present}
 use Rattle.sp_pool.proofs.KeptBlocks.{no_parents}
 use Rattle.sp_dag.specs.Numbered.{graph_of as numbered_graph, IsNumbered, number_of, Numbered}
 use Rattle.sp_plain.specs.Virts.{HasVirts, Virts}
-use Rattle.sp_engine.specs.Engine.{AreNumbered, IsEngine, numbers}
+use Rattle.sp_carry.specs.Carried.{Carried, IsCarried, nothing, with_block}
+use Rattle.sp_engine.specs.Engine.{AreCarried, AreNumbered, IsEngine, numbers}
 use Rattle.sp_engine.specs.Presence.{joining, order_from, order_of}
+use Rattle.sp_engine.specs.Transactions.{txs_of, txs_or_none}
+use Rattle.sp_engine.proofs.CarriedBlocks.{carried_alone}
 
 one : ReadBlock → Numbered
 one g = record { ids = g.id ∷ []; parents = [] ∷ [] }
@@ -39,6 +42,27 @@ numbered_alone g none = record {
     empty : (n : ℕ) → get_or (let rows : List (List ℕ) = [] ∷ [] in rows) n [] ≡ []
     empty zero = refl
     empty (suc n) = refl
+
+none_yet : IsCarried nothing
+none_yet = record {
+  linked = record { ids = tt; txs = λ i d lt. absurd (omega (arith, lt)); used = λ tx lt. absurd (omega (arith, lt)) };
+  blocks = λ i d lt. absurd (omega (arith, lt));
+  order = λ i j d ij lt. absurd (omega (arith, lt));
+  few = omega arith;
+  few_txs = omega arith;
+  small = omega arith;
+}
+
+-- its carriers are those of genesis
+pub carried_in_alone : (inside g : ReadBlock) (pool : List ReadBlock) (blocks : Numbered) (k : Carried) → inside ≡ g → pool ≡ g ∷ [] → blocks ≡ record { ids = inside.id ∷ []; parents = [] ∷ [] }
+    → IsNumbered blocks → k ≡ with_block blocks.parents nothing inside.txs → IsCarried k → AreCarried pool blocks k
+carried_in_alone inside g pool blocks k is kept alone n added carried =
+    carried_alone pool blocks k inside.id inside.txs theirs (ap (λ (a : Numbered). a.ids) alone) (ap (λ (a : Numbered). a.parents) alone) none_yet n added carried
+  where
+    theirs : txs_of pool inside.id ≡ inside.txs
+    theirs =
+        ap (λ (l : List ReadBlock). txs_of l inside.id) (kept ∙ ap (λ (b : ReadBlock). b ∷ []) (sym is))
+        ∙ ap (λ (c : Bool). txs_or_none (cond c (Some inside) None)) (eq-eqb inside.id inside.id refl)
 
 pub engine_alone : (bits : ℕ) (inside g : ReadBlock) (pool : List ReadBlock) (blocks : Numbered) (virts : Virts) → bits ≤ 64 → inside ≡ g → IsBlock inside → IsGenesis g
     → pool ≡ g ∷ [] → present pool ≡ g.id ∷ [] → blocks ≡ record { ids = inside.id ∷ []; parents = [] ∷ [] } → AreKept pool → IsNumbered blocks

@@ -20,9 +20,12 @@ use Rattle.sp_pool.proofs.Standings.{from_fresh}
 use Rattle.sp_dag.specs.Numbered.{graph_of as numbered_graph, IsNumbered, Numbered}
 use Rattle.sp_plain.specs.Virts.{HasVirts, Virts}
 use Rattle.sp_engine.specs.Arrivals.{joined}
-use Rattle.sp_engine.specs.Engine.{AreNumbered, IsEngine, Ledger, numbers}
+use Rattle.sp_carry.specs.Carried.{Carried}
+use Rattle.sp_accept.specs.Acceptance.{Acceptance}
+use Rattle.sp_engine.specs.Engine.{AreCarried, AreNumbered, IsAccepting, IsEngine, Ledger, numbers}
 use Rattle.sp_engine.specs.Presence.{joining}
 use Rattle.sp_engine.specs.declared.answer.Answer.TheVariants.{Kept, Held}
+use Rattle.sp_engine.proofs.CarriedBlocks.{AreCarried-kept}
 use Rattle.sp_engine.proofs.Counts.{distinct_within, present_counts}
 use Rattle.sp_engine.proofs.Facts.{present_count}
 use Rattle.sp_engine.proofs.NumberedBlocks.{AreNumbered-kept}
@@ -54,6 +57,10 @@ module _ {bits genesis : ℕ} {kept : List ReadBlock} {blocks : Numbered} {virts
 
   pub comes_numbered : (new : List ReadBlock) → new ≡ keep kept b → Comes bits genesis kept blocks virts b → AreNumbered new blocks
   comes_numbered new e h = subst (λ (k : List ReadBlock). AreNumbered k blocks) (sym (kept_is new e h)) (numbered_more h)
+
+  pub comes_carried : {k : Carried} → (new : List ReadBlock) → new ≡ keep kept b → Comes bits genesis kept blocks virts b → AreCarried kept blocks k → AreCarried new blocks k
+  comes_carried {k} new e h c =
+      subst (λ (l : List ReadBlock). AreCarried l blocks k) (sym (kept_is new e h)) (AreCarried-kept kept b blocks k h.engine.numbered c)
 
   releases : (ids : List ℕ) → Comes bits genesis kept blocks virts b → Joins kept b ids → Releases (kept ++ b ∷ []) blocks.ids ids
   releases ids h j = Releases-same (kept ++ b ∷ []) (present kept) blocks.ids ids (λ z. sym (h.engine.same z)) j.order
@@ -118,6 +125,10 @@ module _ {bits genesis : ℕ} {kept : List ReadBlock} {blocks : Numbered} {virts
         votes = h.engine.votes;
       })
 
+  pub waits_accepting : {k : Carried} {a : Acceptance} → (new : List ReadBlock) → new ≡ keep kept b → Comes bits genesis kept blocks virts b → IsAccepting kept blocks k a
+      → IsAccepting new blocks k a
+  waits_accepting new e h i = record { carriers = comes_carried new e h i.carriers; right = i.right; all = i.all }
+
   pub waits_answer : Comes bits genesis kept blocks virts b → Waits kept b → Held b.id ≡ joined kept b
   unfolding joined
   waits_answer h w = sym (rw w.absent refl)
@@ -130,11 +141,12 @@ pub waits_of : {kept : List ReadBlock} {b : ReadBlock} (o : Offer) → o ≡ Wai
 waits_of {kept = kept} {b = b} o e h = subst (λ (x : Offer). IsAnswer kept b x) e h
 
 -- a block that is taken comes to the engine
-pub comes_of : {bits genesis : ℕ} {kept : List ReadBlock} {blocks : Numbered} {virts : Virts} {broken : Bool} {l : Ledger} {inside b : ReadBlock}
-    → (let seen : Ledger = record { bits = bits; kept = kept; broken = broken } in seen) ≡ l → (broken ≡ false → IsEngine bits kept genesis blocks virts) → l.broken ≡ false
+pub comes_of : {bits genesis : ℕ} {kept : List ReadBlock} {blocks : Numbered} {virts : Virts} {k : Carried} {a : Acceptance} {broken : Bool} {l : Ledger} {inside b : ReadBlock}
+    → (let seen : Ledger = record { bits = bits; kept = kept; broken = broken } in seen) ≡ l
+    → (broken ≡ false → IsEngine bits kept genesis blocks virts × IsAccepting kept blocks k a) → l.broken ≡ false
     → inside ≡ b → IsBlock inside → IsOther b → standing_of l.kept b.id ≡ Fresh → Comes bits genesis kept blocks virts b
 comes_of {b = b} view inv whole is block other fresh = record {
-  engine = inv (ap (λ (l : Ledger). l.broken) view ∙ whole);
+  engine = (inv (ap (λ (l : Ledger). l.broken) view ∙ whole)).0;
   block = subst (λ (x : ReadBlock). IsBlock x) is block;
   other = other;
   fresh = ap (λ (l : Ledger). standing_of l.kept b.id) view ∙ fresh;

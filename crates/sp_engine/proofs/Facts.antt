@@ -14,7 +14,9 @@ use Rattle.sp_dag.specs.Numbered.{graph_of as numbered_graph, IsNumbered, Number
 use Rattle.sp_dag.proofs.Whole.{ancestors_lower}
 use Rattle.sp_plain.specs.Plain.{IsClosed}
 use Rattle.sp_plain.specs.Virts.{entry, Virts}
-use Rattle.sp_engine.specs.Engine.{AreNumbered, IsEngine, Ledger, numbers}
+use Rattle.sp_carry.specs.Carried.{Carried}
+use Rattle.sp_accept.specs.Acceptance.{Acceptance}
+use Rattle.sp_engine.specs.Engine.{AreNumbered, IsAccepting, IsEngine, Ledger, numbers}
 use Rattle.sp_engine.specs.Presence.{order_of}
 use Rattle.sp_engine.proofs.Counts.{distinct_within, present_counts}
 use Rattle.sp_engine.proofs.NumberedBlocks.{next_fresh, next_kept}
@@ -26,8 +28,13 @@ seen bits kept broken = record { bits = bits; kept = kept; broken = broken }
 
 module _ {bits genesis : ℕ} {kept : List ReadBlock} {blocks : Numbered} {virts : Virts} where
   -- what is kept, of the value that contracts see
-  pub engine_of : {broken : Bool} {l : Ledger} → seen bits kept broken ≡ l → (broken ≡ false → IsEngine bits kept genesis blocks virts) → l.broken ≡ false → IsEngine l.bits l.kept genesis blocks virts
-  engine_of view inv whole = subst (λ (l : Ledger). l.broken ≡ false → IsEngine l.bits l.kept genesis blocks virts) view inv whole
+  pub engine_of : {broken : Bool} {l : Ledger} {k : Carried} {a : Acceptance} → seen bits kept broken ≡ l
+      → (broken ≡ false → IsEngine bits kept genesis blocks virts × IsAccepting kept blocks k a) → l.broken ≡ false → IsEngine l.bits l.kept genesis blocks virts
+  engine_of view inv whole = subst (λ (l : Ledger). l.broken ≡ false → IsEngine l.bits l.kept genesis blocks virts) view (λ b. (inv b).0) whole
+
+  pub accepting_of : {broken : Bool} {l : Ledger} {k : Carried} {a : Acceptance} → seen bits kept broken ≡ l
+      → (broken ≡ false → IsEngine bits kept genesis blocks virts × IsAccepting kept blocks k a) → l.broken ≡ false → IsAccepting l.kept blocks k a
+  accepting_of {k = k} {a = a} view inv whole = subst (λ (l : Ledger). l.broken ≡ false → IsAccepting l.kept blocks k a) view (λ b. (inv b).1) whole
 
   pub present_count : IsEngine bits kept genesis blocks virts → length (present kept) ≡ length blocks.parents
   present_count e = present_counts kept blocks.ids e.all_kept.apart e.in_order.distinct e.same ∙ e.in_order.long

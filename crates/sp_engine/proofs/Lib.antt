@@ -3,6 +3,8 @@ pub mod SpelledBlocks
 pub mod Presence
 pub mod NumberedBlocks
 pub mod Counts
+pub mod CarriedBlocks
+pub mod VotedBlocks
 pub mod WordsByNumbers
 pub mod Facts
 pub mod Released
@@ -11,3 +13,4 @@ pub mod Judged
 pub mod Alone
 pub mod Judgements
 pub mod Answered
+pub mod StatesByNumbers

@@ -74,7 +74,7 @@ key_below table z there =
 pub number_in : (blocks : Numbered) (n : ℕ) → n < length blocks.parents → has (numbers blocks) n ≡ true
 number_in blocks n less = sym (ap (λ (l : List ℕ). has l n) (keys_are_numbers blocks.parents)) ∙ key_in blocks.parents n less
 
-number_below : (blocks : Numbered) (n : ℕ) → has (numbers blocks) n ≡ true → n < length blocks.parents
+pub number_below : (blocks : Numbered) (n : ℕ) → has (numbers blocks) n ≡ true → n < length blocks.parents
 number_below blocks n there = key_below blocks.parents n (ap (λ (l : List ℕ). has l n) (keys_are_numbers blocks.parents) ∙ there)
 
 -- ---- the graph of the kept blocks is that of the numbered ones under their ids

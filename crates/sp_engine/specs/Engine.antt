@@ -7,7 +7,11 @@ use Rattle.sp_model.specs.Graph.{has, parents_of}
 use Rattle.sp_pool.specs.Kept.{AreKept, graph_of, ids_of, present}
 use Rattle.sp_dag.specs.Numbered.{graph_of as numbered_graph, IsNumbered, number_of, Numbered}
 use Rattle.sp_plain.specs.Virts.{HasVirts, Virts}
+use Rattle.sp_tx.specs.Spending.{id_of}
+use Rattle.sp_carry.specs.Carried.{AreSound, Carried, Carries, IsCarried}
+use Rattle.sp_accept.specs.Acceptance.{Acceptance, IsRight}
 use Rattle.sp_engine.specs.Presence.{order_of}
+use Rattle.sp_engine.specs.Transactions.{each_once, tx_ids_in, txs_of}
 
 -- the bits of work, the kept blocks, and whether memory was refused
 pub record Ledger : Type 0 where
@@ -39,3 +43,16 @@ pub record IsEngine (bits : ℕ) (kept : List ReadBlock) (genesis : ℕ) (blocks
   pub order : blocks.ids ≡ order_of kept
   pub same : (id : ℕ) → has blocks.ids id ≡ has (present kept) id
   pub votes : HasVirts (numbered_graph blocks.parents) (numbers blocks) (length blocks.parents) virts
+
+-- the carriers are those of the numbered blocks, in their order, and are marked sound where they are so in their graph
+pub record AreCarried (kept : List ReadBlock) (blocks : Numbered) (k : Carried) : Type 0 where
+  pub carried : IsCarried k
+  pub theirs : Carries (map (txs_of kept) blocks.ids) k
+  pub ids : map id_of k.txs ≡ each_once (tx_ids_in kept blocks.ids)
+  pub sound : AreSound blocks.parents k
+
+-- the carriers are those of the numbered blocks, and the accepted ones are those of the definition, all blocks being the set
+pub record IsAccepting (kept : List ReadBlock) (blocks : Numbered) (k : Carried) (a : Acceptance) : Type 0 where
+  pub carriers : AreCarried kept blocks k
+  pub right : IsRight blocks.parents k a
+  pub all : a.blocks ≡ k.blocks

@@ -1,5 +1,6 @@
 pub mod Blocks
 pub mod Presence
+pub mod Transactions
 pub mod Arrivals
 pub mod Causes
 pub mod Engine

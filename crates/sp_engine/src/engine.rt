@@ -1,23 +1,30 @@
-//! The engine: the kept blocks, the graph of the present ones, and the votes of all of them.
+//! The engine: the kept blocks, the graph of the present ones, the votes of all of them, and which of
+//! their transactions are accepted.
 
-ghost use Rattle.std.specs.Prelude.{◌≡◌, ◌≤◌, ◌<◌, ◌+◌, ◌++◌, ◌∷◌, [], ◌==◌, ℕ, false, find, length, slice_get, Some, IfOk, OnOk, is_err};
+ghost use Rattle.std.specs.Prelude.{◌≡◌, ◌≤◌, ◌<◌, ◌+◌, ◌++◌, ◌∷◌, [], ◌==◌, ℕ, false, find, length, slice_get, Some, IfOk, OnOk, is_err, ◌↔◌, IsFalse};
 ghost use Rattle.std.specs.Option.{option_copied};
 ghost use Rattle.sp_ids.specs.Bits.{BeginsWithZeros};
 ghost use Rattle.sp_block.specs.Block.{IsGenesis, IsOther};
-ghost use Rattle.sp_model.specs.Graph.{has};
+ghost use Rattle.sp_model.specs.Graph.{has, AreDistinct};
 ghost use Rattle.sp_model.specs.Votes.{word};
 ghost use Rattle.sp_pool.specs.Kept.{AreKept, graph_of, present, standing_of};
 ghost use Rattle.sp_pool.specs.declared.answers.Standing.{Standing};
 ghost use Rattle.sp_engine.specs.Arrivals.{answer_of, joined, kept_after};
 ghost use Rattle.sp_engine.specs.Presence.{order_of};
+ghost use Rattle.sp_engine.specs.Transactions.{ledger_of, tx_ids};
+ghost use Rattle.sp_carry.specs.declared.state.TxState.{TxState};
+ghost use Rattle.sp_carry.specs.Ledger.{is_accepted, is_carried, state, IsPlain};
 
+use crate::acceptance::accept_all;
 use crate::answer::{Answer, Refusal};
 use crate::numbering::add_all;
 use crate::valid::valid_block;
 use crate::votes::{votes_of_all, word_at};
+use sp_accept::Accepted;
 use sp_block::Block;
+use sp_carry::{Carriers, TxState};
 use sp_dag::Dag;
-use sp_ids::{BlockId, Memory};
+use sp_ids::{BlockId, Memory, TxId};
 use sp_model::Word;
 use sp_plain::Matrix;
 use sp_pool::{Offer, Pool, Standing};
@@ -36,18 +43,23 @@ pub struct Engine {
     dag: Dag,
     // The virtual votes of all of them.
     votes: Matrix,
+    // Their transactions, and the carriers of each.
+    carriers: Carriers,
+    // Which of these are accepted.
+    accepted: Accepted,
     broken: bool,
 }
 
 impl Model for Engine {
     ghost use Rattle.std.specs.Prelude.{◌≡◌, false};
-    ghost use Rattle.sp_engine.specs.Engine.{IsEngine, Ledger};
+    ghost use Rattle.sp_engine.specs.Engine.{IsAccepting, IsEngine, Ledger};
 
     ghost Value = { Ledger };
 
     ghost view = { λ e. record { bits = e.bits; kept = e.pool; broken = e.broken } };
 
-    ghost invariant = { λ e. e.broken ≡ false → IsEngine e.bits e.pool e.genesis e.dag e.votes };
+    ghost invariant = { λ e. e.broken ≡ false →
+        IsEngine e.bits e.pool e.genesis e.dag e.votes × IsAccepting e.pool e.dag e.carriers e.accepted };
 }
 
 impl Engine {
@@ -64,12 +76,17 @@ impl Engine {
         ensures { IfOk result (λ engine. engine ≡ ledger bits (genesis ∷ [])) }
     {
         let id = genesis.id;
-        let pool = Pool::new(alloc, genesis)?;
         let dag = Dag::new(alloc, id)?;
+        let mut carriers = Carriers::new(alloc);
+        carriers.add(&dag, 0, &genesis.txs)?;
+        let pool = Pool::new(alloc, genesis)?;
         let votes = votes_of_all(alloc, &dag)?;
-        // Tell the proof what kept and numbered blocks are.
+        // Tell the proof what kept and numbered blocks and carriers are.
         let _kept = pool.kept();
         let _blocks = dag.len();
+        let _added = carriers.block_count();
+        let mut accepted = Accepted::new(alloc);
+        accept_all(&dag, &votes, &carriers, &mut accepted)?;
         Ok(Engine {
             alloc,
             bits,
@@ -77,6 +94,8 @@ impl Engine {
             pool,
             dag,
             votes,
+            carriers,
+            accepted,
             broken: false,
         })
     }
@@ -85,7 +104,8 @@ impl Engine {
     /// finds room. They are refused by their first fault or for their work; else the block is
     /// known, else there is no room for it, else it is kept, and waits or is present.
     ///
-    /// A block that becomes present takes the time of the votes of all present blocks anew.
+    /// A block that becomes present takes the time of the votes of all present blocks anew, and of
+    /// one pass over their transactions.
     ///
     /// # Errors
     ///
@@ -136,10 +156,11 @@ impl Engine {
         match self.pool.offer(block)? {
             Offer::Present(ids) => {
                 let ids = ids.as_slice();
-                add_all(&self.pool, &mut self.dag, ids)?;
+                add_all(&self.pool, &mut self.dag, &mut self.carriers, ids)?;
                 self.votes = votes_of_all(self.alloc, &self.dag)?;
                 // Tells the proof what numbered blocks are.
                 let _blocks = self.dag.len();
+                accept_all(&self.dag, &self.votes, &self.carriers, &mut self.accepted)?;
                 self.broken = false;
                 let present = ids.len() as u16;
                 Ok(Answer::Kept { id, present })
@@ -170,6 +191,59 @@ impl Engine {
             return Word::Same;
         }
         word_at(&self.votes, first, second)
+    }
+
+    /// What the present blocks say of a transaction: accepted, rejected, or carried by none of them.
+    /// It stands ready, so it takes about the time of a look-up by hash, and no memory.
+    ///
+    /// Whether it is accepted is said where no two different transactions of the present blocks have
+    /// one id, which would take two inputs of one SHA-256; whether a block carries it, always.
+    pub fn tx_state(&self, id: &TxId) -> TxState
+        requires { self.now.broken ≡ false }
+        ensures absent { (result ≡ TxState.Absent) ↔
+            IsFalse (is_carried (ledger_of self.now.kept) (present self.now.kept) id.now) }
+        ensures state { IsPlain (ledger_of self.now.kept) (present self.now.kept) →
+            result ≡ state (ledger_of self.now.kept) (present self.now.kept) id.now }
+    {
+        match self.carriers.tx_of(id) {
+            None => TxState::Absent,
+            Some(tx) => {
+                if self.accepted.is_accepted(tx) {
+                    TxState::Accepted
+                } else {
+                    TxState::Rejected
+                }
+            }
+        }
+    }
+
+    /// How many transactions the present blocks carry, from 0 to 131,072. One that several of them
+    /// carry counts once. What stands of the list of their ids stands here, for each caller.
+    pub fn tx_count(&self) -> u32
+        requires { self.now.broken ≡ false }
+        ensures count { result ≡ length (tx_ids self.now.kept) }
+        ensures ids { (id : ℕ) → has (tx_ids self.now.kept) id
+            ≡ is_carried (ledger_of self.now.kept) (present self.now.kept) id }
+        ensures once { AreDistinct (tx_ids self.now.kept) }
+        ensures few { result ≤ 131072 }
+    {
+        self.carriers.tx_count()
+    }
+
+    /// The id of the transaction of this number, and whether it is accepted. Transactions are
+    /// numbered from 0 in the order in which their blocks became present, and in a block in that of
+    /// their places. It takes a bounded number of steps.
+    ///
+    /// Whether it is accepted is said where no two different transactions of the present blocks have
+    /// one id.
+    pub fn tx_at(&self, i: u32) -> (TxId, bool)
+        requires whole { self.now.broken ≡ false }
+        requires within { i < length (tx_ids self.now.kept) }
+        ensures id { slice_get (tx_ids self.now.kept) i ≡ Some result.0 }
+        ensures accepted { IsPlain (ledger_of self.now.kept) (present self.now.kept) →
+            result.1 ≡ is_accepted (ledger_of self.now.kept) (present self.now.kept) result.0 }
+    {
+        (self.carriers.tx_id(i), self.accepted.is_accepted(i))
     }
 
     /// How many blocks are present, from 1 to 512. What stands of their order stands here, for each

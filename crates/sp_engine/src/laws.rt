@@ -10,6 +10,7 @@ ghost use Rattle.sp_engine.specs.Arrivals.{KeptAreOfArrivals, NoOthersAreKept};
 ghost use Rattle.sp_engine.specs.Blocks.{BlockIsSpelled, BlockIsWhole, FaultIsFirst, WorkIsMet};
 ghost use Rattle.sp_engine.specs.Causes.{FullIsCaused, HeldIsCaused, KeptIsCaused, KnownIsCaused, SpellingIsCaused, WorkIsCaused};
 ghost use Rattle.sp_engine.specs.Presence.{order_of};
+ghost use Rattle.sp_engine.specs.Transactions.{each_once};
 
 /// What a list of bytes is as a block, by the function that arrivals are judged with, is what it
 /// spells, or else its first fault.
@@ -50,4 +51,9 @@ pub fn order_is_as_released()
     ensures { (genesis : ReadBlock) (arrivals : List ReadBlock) (answers : List Offer) →
         genesis.parents ≡ [] → AreAnswers (genesis ∷ []) arrivals answers →
         order_of (kept_of genesis arrivals) ≡ order_of_presence genesis answers }
+{}
+
+/// Each id of a list is counted once, at its first place: a list that was counted by hand.
+pub fn ids_count_once()
+    ensures { each_once (5 ∷ 7 ∷ 5 ∷ 6 ∷ 7 ∷ []) ≡ 5 ∷ 7 ∷ 6 ∷ [] }
 {}

@@ -1,12 +1,14 @@
-//! One arrival at a time: bytes are judged, kept, numbered and voted on, and questions on two
-//! blocks are answered.
+//! One arrival at a time: bytes are judged, kept, numbered and voted on, transactions are accepted,
+//! and questions on two blocks and on a transaction are answered.
 //!
-//! The engine joins the pool of kept blocks, the graph of the present ones and their votes. The graph
-//! and the votes speak in numbers of presence; here the answers become those of ids, by the law that
-//! other keys change no vote. Contracts see the bits of work, the kept blocks, and whether
-//! memory was refused. The lines of answers and the node stand on this crate.
+//! The engine joins the pool of kept blocks, the graph of the present ones, their votes, their
+//! transactions and which of these are accepted. All but the pool speak in numbers of presence; here
+//! the answers become those of ids, by the laws that other keys change no vote and no acceptance.
+//! Contracts see the bits of work, the kept blocks, and whether memory was refused. The lines of
+//! answers and the node stand on this crate.
 #![tactic(auto)]
 
+mod acceptance;
 mod answer;
 mod engine;
 pub mod laws;
@@ -16,3 +18,4 @@ mod votes;
 
 pub use answer::{Answer, Refusal};
 pub use engine::Engine;
+pub use sp_carry::TxState;

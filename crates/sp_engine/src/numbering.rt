@@ -1,41 +1,55 @@
-//! The numbering of the blocks that become present, in their order.
+//! The numbering of the blocks that become present, in their order, with their carriers.
 
 ghost use Rattle.std.specs.Prelude.{◌≡◌, ◌++◌, ◌∷◌, [], OnOk};
 ghost use Rattle.sp_pool.specs.Kept.{IsNext, Releases};
-ghost use Rattle.sp_engine.specs.Engine.{AreNumbered};
+ghost use Rattle.sp_engine.specs.Engine.{AreCarried, AreNumbered};
 
+use sp_carry::Carriers;
 use sp_dag::Dag;
 use sp_ids::{BlockId, Memory};
 use sp_pool::Pool;
 
-/// Adds the kept block of this id, which is the earliest one that is ready.
-fn add_one(pool: &Pool, dag: &mut Dag, id: &BlockId) -> Result<(), Memory>
+/// Adds the kept block of this id, which is the earliest one that is ready, and its carriers.
+fn add_one(pool: &Pool, dag: &mut Dag, carriers: &mut Carriers, id: &BlockId) -> Result<(), Memory>
     requires numbered { AreNumbered pool.now dag.old }
+    requires carried { AreCarried pool.now dag.old carriers.old }
     requires next { IsNext pool.now dag.old.ids id.now }
     ensures numbered { OnOk result (AreNumbered pool.now dag.new) }
     ensures ids { OnOk result (dag.new.ids ≡ dag.old.ids ++ id.now ∷ []) }
+    ensures carried { OnOk result (AreCarried pool.now dag.new carriers.new) }
 {
     // Tell the proof what kept and numbered blocks are.
     let _kept = pool.kept();
     let _blocks = dag.len();
     match pool.block(id) {
         Some(block) => {
-            let _number = dag.add(*id, block.parents.as_slice())?;
+            let number = dag.add(*id, block.parents.as_slice())?;
+            carriers.add(dag, number, &block.txs)?;
+            // Tell the proof what numbered blocks and carriers are.
+            let _more = dag.len();
+            let _added = carriers.block_count();
             Ok(())
         }
         None => unreachable!(),
     }
 }
 
-/// Adds the kept blocks of these ids, which become present one after another.
-pub(crate) fn add_all(pool: &Pool, dag: &mut Dag, ids: &[BlockId]) -> Result<(), Memory>
+/// Adds the kept blocks of these ids, which become present one after another, and their carriers.
+pub(crate) fn add_all(
+    pool: &Pool,
+    dag: &mut Dag,
+    carriers: &mut Carriers,
+    ids: &[BlockId],
+) -> Result<(), Memory>
     requires numbered { AreNumbered pool.now dag.old }
+    requires carried { AreCarried pool.now dag.old carriers.old }
     requires order { Releases pool.now dag.old.ids ids.now }
     ensures numbered { OnOk result (AreNumbered pool.now dag.new) }
     ensures ids { OnOk result (dag.new.ids ≡ dag.old.ids ++ ids.now) }
+    ensures carried { OnOk result (AreCarried pool.now dag.new carriers.new) }
 {
     for id in ids {
-        add_one(pool, dag, id)?;
+        add_one(pool, dag, carriers, id)?;
     }
     Ok(())
 }

@@ -7,6 +7,7 @@ add_one-requires-clause-next c = next_of c.args.pool.now c.loop-id.dag.ids c.arg
 pub loop-id-preserved : goal.loop-id-preserved
 loop-id-preserved c = record {
   numbered = c.in_ok-add_one.ensures.numbered;
+  carried = c.in_ok-add_one.ensures.carried;
   ids = more_ids c.args.dag.now.ids c.loop-id.dag.ids c.add_one.new.dag.ids c.args.ids.now c.loop-id.id-index c.id-item.result c.loop-id.invariant.ids c.loop-id-test.true c.id-item.is c.in_ok-add_one.ensures.ids;
   order = rest_of c.args.pool.now c.loop-id.dag.ids c.args.ids.now c.loop-id.id-index c.id-item.result c.add_one.new.dag.ids c.loop-id.invariant.order c.loop-id-test.true c.id-item.is c.in_ok-add_one.ensures.ids;
 }

@@ -4,6 +4,8 @@ use Rattle.sp_block.specs.Block.{ReadBlock}
 use Rattle.std.specs.List.{list_all}
 use Rattle.sp_model.specs.Graph.{has, parents_of}
 use Rattle.sp_pool.specs.Kept.{graph_of}
+use Rattle.sp_carry.specs.Carried.{with_block}
+use Rattle.sp_engine.proofs.CarriedBlocks.{AreCarried-more, few_txs}
 use Rattle.sp_engine.proofs.Facts.{all_items, is_found, room_left}
 use Rattle.sp_engine.proofs.NumberedBlocks.{AreNumbered-more, found_by, next_closed, next_fresh, next_kept}
 use Rattle.sp_engine.proofs.numbering.add_one.Goals as goal
@@ -40,4 +42,13 @@ returns-clause-numbered c =
     let is : parents_of (graph_of kept) c.args.id.now ≡ c.as_slice.result.now =
     found_by kept c.args.id.now c.in-Some.block.now c.kept-kept.ensures.blocks.apart (sym c.block.ensures ∙ ap option_copied c.in-Some.is)
     ∙ sym (ap (λ (b : ReadBlock). b.parents) c.block-in-Some.view_is) ∙ sym c.as_slice.ensures in
-    AreNumbered-more kept c.args.dag.now c.add.new.self c.args.id.now c.as_slice.result.now c.kept-kept.ensures.blocks c.len-blocks.ensures.numbered c.requires.numbered c.requires.next is c.in_ok-_number-in-Some.ensures.ok
+    AreNumbered-more kept c.args.dag.now c.add.new.self c.args.id.now c.as_slice.result.now c.kept-kept.ensures.blocks c.len-blocks.ensures.numbered c.requires.numbered c.requires.next is c.in_ok-number-in-Some.ensures.ok
+
+pub add-requires-in-Some-clause-few : goal.add-requires-in-Some-clause-few
+add-requires-in-Some-clause-few c = few_txs _ c.block-in-Some.invariant
+
+pub returns-clause-carried : goal.returns-clause-carried
+returns-clause-carried c =
+    AreCarried-more c.args.pool.now c.args.dag.now c.add.new.self c.args.carriers.now c.add-in-Some.new.self c.args.id.now c.as_slice.result.now c.in-Some.block.now
+    c.len-blocks.ensures.numbered c.len-more.ensures.numbered c.requires.carried (sym c.block.ensures ∙ ap option_copied c.in-Some.is) c.in_ok-number-in-Some.ensures.ok
+    c.block_count-added.ensures.carried (c.in_ok-add-in-Some.ensures.ok ∙ ap (λ (b : ReadBlock). with_block c.add.new.self.parents c.args.carriers.now b.txs) c.block-in-Some.view_is)

@@ -4,13 +4,24 @@ use Rattle.sp_pool.specs.Kept.{Releases}
 use Rattle.sp_engine.specs.Arrivals.{joined}
 use Rattle.sp_engine.specs.Engine.{Ledger}
 use Rattle.sp_engine.specs.declared.answer.Answer.TheVariants.{Kept, Held}
-use Rattle.sp_engine.proofs.Arriving.{comes_answer, comes_engine, comes_numbered, comes_order, comes_of, joins_of, waits_answer, waits_engine, waits_of}
+use Rattle.sp_engine.proofs.CarriedBlocks.{are_of}
+use Rattle.sp_engine.proofs.Arriving.{comes_answer, comes_carried, comes_engine, comes_numbered, comes_order, comes_of, joins_of, waits_accepting, waits_answer, waits_engine, waits_of}
 use Rattle.sp_engine.proofs.engine.Engine.take.Goals as goal
 
 pub add_all-requires-clause-numbered : goal.add_all-requires-clause-numbered
 add_all-requires-clause-numbered c =
     let came = comes_of c.self.view_is c.self.invariant c.requires.whole c.block.view_is c.block.invariant c.requires.other c.requires.fresh in
     comes_numbered c.offer.new.self c.in_ok-ids.ensures.kept came
+
+pub add_all-requires-clause-carried : goal.add_all-requires-clause-carried
+add_all-requires-clause-carried c =
+    let came = comes_of c.self.view_is c.self.invariant c.requires.whole c.block.view_is c.block.invariant c.requires.other c.requires.fresh in
+    let accepting = (c.self.invariant (ap (λ (l : Ledger). l.broken) c.self.view_is ∙ c.requires.whole)).1 in
+    comes_carried c.offer.new.self c.in_ok-ids.ensures.kept came accepting.carriers
+
+pub accept_all-requires-clause-of : goal.accept_all-requires-clause-of
+accept_all-requires-clause-of c =
+    are_of c.offer.new.self c.add_all.new.dag c.add_all.new.carriers c.len-blocks.ensures.numbered c.in_ok-add_all-in-Present.ensures.carried
 
 pub add_all-requires-clause-order : goal.add_all-requires-clause-order
 add_all-requires-clause-order c =
@@ -20,18 +31,23 @@ add_all-requires-clause-order c =
 
 pub invariant_of-self-in-Present : goal.invariant_of-self-in-Present
 invariant_of-self-in-Present c = λ _.
-    let came = comes_of c.self.view_is c.self.invariant c.requires.whole c.block.view_is c.block.invariant c.requires.other c.requires.fresh in
-    comes_engine c.offer.new.self c.in-Present.ids c.add_all.new.dag c.in_ok-self-inside-in-Present.field-0 c.in_ok-ids.ensures.kept came
-    (joins_of c.in_ok-ids.field-0 c.in-Present.ids c.in-Present.is c.in_ok-ids.ensures.answer) c.len-blocks.ensures.numbered c.in_ok-add_all-in-Present.ensures.numbered
-    (c.in_ok-add_all-in-Present.ensures.ids ∙ ap (λ ids. c.self.inside.dag.ids ++ ids) c.as_slice-ids.ensures) c.in_ok-self-inside-in-Present.ensures
+    let came = comes_of c.self.view_is c.self.invariant c.requires.whole c.block.view_is c.block.invariant c.requires.other c.requires.fresh in (
+      comes_engine c.offer.new.self c.in-Present.ids c.add_all.new.dag c.in_ok-self-inside-in-Present.field-0 c.in_ok-ids.ensures.kept came
+          (joins_of c.in_ok-ids.field-0 c.in-Present.ids c.in-Present.is c.in_ok-ids.ensures.answer) c.len-blocks.ensures.numbered c.in_ok-add_all-in-Present.ensures.numbered
+          (c.in_ok-add_all-in-Present.ensures.ids ∙ ap (λ ids. c.self.inside.dag.ids ++ ids) c.as_slice-ids.ensures) c.in_ok-self-inside-in-Present.ensures,
+      record { carriers = c.in_ok-add_all-in-Present.ensures.carried; right = c.in_ok-accept_all-in-Present.ensures.right; all = c.in_ok-accept_all-in-Present.ensures.all },
+    )
 
 pub invariant_of-self-in-Waiting : goal.invariant_of-self-in-Waiting
 invariant_of-self-in-Waiting c = λ _.
     let came = comes_of c.self.view_is c.self.invariant c.requires.whole c.block.view_is c.block.invariant c.requires.other c.requires.fresh in
-    waits_engine c.offer.new.self c.in_ok-ids.ensures.kept came (waits_of c.in_ok-ids.field-0 c.in-Waiting.is c.in_ok-ids.ensures.answer)
+    let accepting = (c.self.invariant (ap (λ (l : Ledger). l.broken) c.self.view_is ∙ c.requires.whole)).1 in (
+      waits_engine c.offer.new.self c.in_ok-ids.ensures.kept came (waits_of c.in_ok-ids.field-0 c.in-Waiting.is c.in_ok-ids.ensures.answer),
+      waits_accepting c.offer.new.self c.in_ok-ids.ensures.kept came accepting,
+    )
 
-pub returns-in_ok-self-inside-in-Present-clause-answer : goal.returns-in_ok-self-inside-in-Present-clause-answer
-returns-in_ok-self-inside-in-Present-clause-answer c =
+pub returns-in_ok-accept_all-in-Present-clause-answer : goal.returns-in_ok-accept_all-in-Present-clause-answer
+returns-in_ok-accept_all-in-Present-clause-answer c =
     let came = comes_of c.self.view_is c.self.invariant c.requires.whole c.block.view_is c.block.invariant c.requires.other c.requires.fresh in
     ap (Kept c.block.inside.id) (ap length c.as_slice-ids.ensures) ∙ ap (λ (b : ReadBlock). Kept b.id (length c.in-Present.ids)) c.block.view_is
     ∙ comes_answer c.in-Present.ids came (joins_of c.in_ok-ids.field-0 c.in-Present.ids c.in-Present.is c.in_ok-ids.ensures.answer)

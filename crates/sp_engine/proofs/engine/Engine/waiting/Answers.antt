@@ -5,7 +5,7 @@ use Rattle.sp_engine.proofs.engine.Engine.waiting.Goals as goal
 pub overflow_sub-result : goal.overflow_sub-result
 overflow_sub-result c =
     let whole = ap (λ l. l.broken) c.self.view_is ∙ c.requires in
-    omega (arith, few_present (c.self.invariant whole), c.len.ensures.value, c.kept.ensures.count)
+    omega (arith, few_present (c.self.invariant whole).0, c.len.ensures.value, c.kept.ensures.count)
 
 pub returns-clause-count : goal.returns-clause-count
 returns-clause-count c =

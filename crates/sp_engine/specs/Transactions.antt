@@ -1,0 +1,38 @@
+-- The transactions of the kept blocks: the ledger that they make, and the order in which they became present.
+use Rattle.std.specs.Prelude.{ℕ, ◌==◌, if◌then◌else◌, List, [], ◌∷◌, ◌++◌, map, find, fold, flat_map, Option, Some, None}
+use Rattle.sp_tx.specs.Parts.{Transaction}
+use Rattle.sp_tx.specs.Spending.{id_of}
+use Rattle.sp_block.specs.Block.{ReadBlock}
+use Rattle.sp_model.specs.Graph.{has}
+use Rattle.sp_pool.specs.Kept.{graph_of}
+use Rattle.sp_carry.specs.Ledger.{Ledger}
+use Rattle.sp_carry.specs.Payment.{payment_of}
+use Rattle.sp_engine.specs.Presence.{order_of}
+
+abbrev pub txs_or_none : Option ReadBlock → List Transaction
+txs_or_none None = []
+txs_or_none (Some block) = block.txs
+
+-- the transactions of the kept block of an id, in their order
+abbrev pub txs_of : List ReadBlock → ℕ → List Transaction
+txs_of kept id = txs_or_none (find (λ (block : ReadBlock). block.id == id) kept)
+
+-- the graph of the kept blocks, and the transactions of each
+abbrev pub ledger_of : List ReadBlock → Ledger
+ledger_of kept = record { graph = graph_of kept; txs = λ id. map payment_of (txs_of kept id) }
+
+-- the ids with one more, if it isn't one of them
+abbrev pub with_id : List ℕ → ℕ → List ℕ
+with_id ids id = if has ids id then ids else ids ++ id ∷ []
+
+-- each of the ids once, at its first place
+abbrev pub each_once : List ℕ → List ℕ
+each_once ids = fold with_id [] ids
+
+-- the ids of the transactions of these blocks, in their order, and then in that of the places in a block
+abbrev pub tx_ids_in : List ReadBlock → List ℕ → List ℕ
+tx_ids_in kept blocks = flat_map (λ id. map id_of (txs_of kept id)) blocks
+
+-- the ids of the transactions of the present blocks in order of presence, and then of place, each once
+abbrev pub tx_ids : List ReadBlock → List ℕ
+tx_ids kept = each_once (tx_ids_in kept (order_of kept))

@@ -1,0 +1,73 @@
+//! Acceptance over the present blocks, where their votes say how two of them stand.
+
+ghost use Rattle.std.specs.Prelude.{◌≡◌, length, OnOk};
+ghost use Rattle.sp_dag.specs.Numbered.{graph_of};
+ghost use Rattle.sp_plain.specs.Virts.{HasVirts};
+ghost use Rattle.sp_accept.specs.Acceptance.{IsRight};
+ghost use Rattle.sp_accept.specs.Rows.{AreOf};
+ghost use Rattle.sp_engine.specs.Engine.{numbers};
+
+use crate::votes::word_at;
+use sp_accept::{Accepted, Order};
+use sp_carry::Carriers;
+use sp_dag::Dag;
+use sp_ids::Memory;
+use sp_model::Word;
+use sp_plain::Matrix;
+use std::marker::Model;
+
+/// The present blocks by number, in the order that the votes of all of them give. Contracts see the
+/// parents of each block.
+#[derive(Drop)]
+struct VotedOrder<'a> {
+    dag: &'a Dag,
+    votes: &'a Matrix,
+}
+
+impl<'a> Model for VotedOrder<'a> {
+    ghost use Rattle.std.specs.Prelude.{List, ℕ, length};
+    ghost use Rattle.sp_dag.specs.Numbered.{graph_of};
+    ghost use Rattle.sp_plain.specs.Virts.{HasVirts};
+    ghost use Rattle.sp_engine.specs.Engine.{numbers};
+
+    ghost Value = { List (List ℕ) };
+
+    ghost view = { λ o. o.dag.now.parents };
+
+    ghost invariant = { λ o. HasVirts (graph_of o.dag.now.parents) (numbers o.dag.now)
+        (length o.dag.now.parents) o.votes.now };
+}
+
+impl<'a> Order for VotedOrder<'a> {
+    ghost table = { λ o. o };
+
+    fn before(&self, x: u16, y: u16) -> bool {
+        matches!(word_at(self.votes, x, y), Word::Before)
+    }
+
+    fn in_past(&self, x: u16, y: u16) -> bool {
+        self.dag.in_past(x, y)
+    }
+}
+
+/// Decides anew on all carriers of the blocks.
+///
+/// # Errors
+///
+/// `Memory` where there was none; what was accepted stays.
+pub(crate) fn accept_all(
+    dag: &Dag,
+    votes: &Matrix,
+    carriers: &Carriers,
+    accepted: &mut Accepted,
+) -> Result<(), Memory>
+    requires votes { HasVirts (graph_of dag.now.parents) (numbers dag.now)
+        (length dag.now.parents) votes.now }
+    requires of { AreOf dag.now.parents carriers.now }
+    ensures right { OnOk result (IsRight dag.now.parents carriers.now accepted.new) }
+    ensures all { OnOk result (accepted.new.blocks ≡ carriers.now.blocks) }
+{
+    let order = VotedOrder { dag, votes };
+    let _flips = accepted.rebuild(&order, carriers)?;
+    Ok(())
+}
