@@ -1,10 +1,12 @@
 //! Tests of the crates below the program, by their public calls.
 //!
 //! They stand in a crate of their own because a crate with tests is proved twice. A module has the
-//! tests of the crate that it is named for; `fixtures`, `graph`, `pieces` and `rows` make what
-//! several of them stand on.
+//! tests of the crate that it is named for, and `acceptance` those of carriers and of what the engine
+//! accepts; `fixtures`, `graph`, `pieces` and `rows` make what several of them stand on.
 #![tactic(auto)]
 
+#[cfg(test)]
+mod acceptance;
 #[cfg(test)]
 mod bits;
 #[cfg(test)]
