@@ -338,3 +338,8 @@ module _ (l l' : Ledger) (s : List ℕ) where
       → ((w : ℕ) → has s w ≡ true → l'.txs w ≡ l.txs w) → IsPlain l s → is_accepted l' s id ≡ is_accepted l s id
   accepted_restricted id agrees down once txs plain =
       accepted_match (λ (k : ℕ). k) (λ k. Unit {0}) l l' s s (agreeing_same l l' s agrees down once txs plain) id
+
+  pub state_restricted : (id : ℕ) → AgreesOn s l.graph l'.graph → IsDownset l.graph s → AreDistinct s
+      → ((w : ℕ) → has s w ≡ true → l'.txs w ≡ l.txs w) → IsPlain l s → state l' s id ≡ state l s id
+  state_restricted id agrees down once txs plain =
+      state_match (λ (k : ℕ). k) (λ k. Unit {0}) l l' s s (agreeing_same l l' s agrees down once txs plain) id

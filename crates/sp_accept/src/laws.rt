@@ -38,7 +38,7 @@ pub fn renaming()
 
 /// Acceptance in a set is the same in each ledger that agrees on the set, where different
 /// transactions have different ids.
-#[tactic(auto, using(crate::proofs::Renamed::accepts_restricted, crate::proofs::Renamed::accepted_restricted))]
+#[tactic(auto, using(crate::proofs::Renamed::accepts_restricted, crate::proofs::Renamed::accepted_restricted, crate::proofs::Renamed::state_restricted))]
 pub fn restriction()
     ensures carrier { (ledger other : Ledger) (set : List ℕ) (z : ℕ) (t : Payment) →
         AgreesOn set ledger.graph other.graph → IsDownset ledger.graph set → AreDistinct set →
@@ -49,6 +49,10 @@ pub fn restriction()
         AgreesOn set ledger.graph other.graph → IsDownset ledger.graph set → AreDistinct set →
         ((w : ℕ) → IsTrue (has set w) → other.txs w ≡ ledger.txs w) → IsPlain ledger set →
         is_accepted other set id ≡ is_accepted ledger set id }
+    ensures state { (ledger other : Ledger) (set : List ℕ) (id : ℕ) →
+        AgreesOn set ledger.graph other.graph → IsDownset ledger.graph set → AreDistinct set →
+        ((w : ℕ) → IsTrue (has set w) → other.txs w ≡ ledger.txs w) → IsPlain ledger set →
+        state other set id ≡ state ledger set id }
 {}
 
 /// Flags that are right stay so, with one block more, and where the graph has one block more: the

@@ -1,6 +1,6 @@
--- Where no two transactions have one id, each block carries its own.
+-- Blocks that were added one after another carry their transactions, each as the first that has its id.
 use Rattle.std.proofs.Common.{◌≡◌, ℕ, suc, Bool, true, false, cond, eqb, ◌+◌, ◌<◌, ◌≤◌, ◌||◌, List, [], ◌∷◌, ◌++◌, length, map, get_or, Option, Some, None, refl, sym, ap, ◌∙◌, arith, length-append, subst, inl, inr}
-use Rattle.std.specs.Prelude.{All, filter, flat_map}
+use Rattle.std.specs.Prelude.{All, filter, find, flat_map}
 use Rattle.std.proofs.lemmas.Bool.{cases_lt, eqb-true, eq-eqb, ne_eqb}
 use Rattle.std.proofs.lemmas.List.{append-nil, get_or_append_left, map-append}
 use Rattle.std.proofs.lemmas.List.Folds.{list_any-append}
@@ -10,10 +10,11 @@ use Rattle.sp_tx.specs.Spending.{id_of}
 use Rattle.sp_model.specs.Graph.{has}
 use Rattle.sp_carry.specs.declared.carrier.Carrier.{Carrier}
 use Rattle.sp_carry.specs.Payment.{Payment, payment_of}
-use Rattle.sp_carry.specs.Carried.{AreLinked, ArePlain, Carried, Carries, IsCarried, carried_by, next_carrier, number_of, payments_in, tx_at, with_block, with_carrier, with_carriers, with_tx}
+use Rattle.sp_carry.specs.Carried.{AreLinked, Carried, Carries, IsCarried, carried_by, first_like, next_carrier, number_of, payments_in, tx_at, with_block, with_carrier, with_carriers, with_tx}
 use Rattle.sp_carry.proofs.Finding.{number_id, number_within}
+use Rattle.sp_carry.proofs.Firsts.{find_both, find_known, found_in, has_id, likes_named, named, named_same, payments_named}
 use Rattle.sp_carry.proofs.Linked.{counts_more, linked_more}
-use Rattle.sp_carry.proofs.Members.{IsIn, any_of_member, contains_from_in, in_append_left, in_append_right, in_from_contains, in_map_from, list_in}
+use Rattle.sp_carry.proofs.Members.{IsIn, any_of_member, contains_from_in, in_append_left, in_append_right, in_flat_map_from, in_from_contains, in_map_from, list_in}
 use Rattle.sp_carry.proofs.Soundness.{payments_same, payments_tx}
 
 abbrev flat : List (List Transaction) → List Transaction
@@ -27,18 +28,18 @@ flat_push : (blocks : List (List Transaction)) (ts : List Transaction) → flat 
 flat_push [] ts = append-nil ts
 flat_push (b ∷ bs) ts = ap (λ (l : List Transaction). b ++ l) (flat_push bs ts) ∙ append_thrice b (flat bs) ts
 
--- no two of these that have one id are different payments
-abbrev AreOne : List Transaction → Type 0
-AreOne whole = (t u : Transaction) → IsIn whole t → IsIn whole u → id_of t ≡ id_of u → payment_of t ≡ payment_of u
+-- the ids that a block carries
+abbrev ids_in : Carried → ℕ → List ℕ
+ids_in k z = map (λ (p : Payment). p.id) (payments_in k z)
 
 -- what holds while the next block's carriers are added: `seen` are all transactions so far, and `here` those of this block
 record CarriesPartly (blocks : List (List Transaction)) (seen here : List Transaction) (k : Carried) : Type 0 where
   count : k.blocks ≡ length blocks
   ids : (id : ℕ) → has (map id_of k.txs) id ≡ has (map id_of seen) id
+  found : (id : ℕ) → find (has_id id) k.txs ≡ find (has_id id) seen
   there : (n : ℕ) → n < length k.txs → IsIn seen (tx_at k n)
-  theirs : (whole : List Transaction) → AreOne whole → ((x : Transaction) → IsIn seen x → IsIn whole x) → (z : ℕ) → z < length blocks
-      → payments_in k z ≡ map payment_of (get_or blocks z [])
-  last : (whole : List Transaction) → AreOne whole → ((x : Transaction) → IsIn seen x → IsIn whole x) → payments_in k k.blocks ≡ map payment_of here
+  theirs : (z : ℕ) → z < length blocks → ids_in k z ≡ map id_of (get_or blocks z [])
+  last : ids_in k k.blocks ≡ map id_of here
 
 has_push : (ts : List Transaction) (t : Transaction) (id : ℕ) → has (map id_of (ts ++ t ∷ [])) id ≡ (has (map id_of ts) id || eqb (id_of t) id)
 has_push ts t id =
@@ -69,13 +70,11 @@ partly_more parents blocks seen here k t linked h =
       count = counts.2 ∙ h.count;
       ids = λ id. ids_at id (number_of k (id_of t)) refl ∙ sym (has_push seen t id);
       there = there_at (number_of k (id_of t));
-      theirs = λ whole one sub z lt.
-          payments_same parents k t z linked (omega (arith, h.count, lt)) ∙ h.theirs whole one (λ x x_in. sub x (in_append_left seen (t ∷ []) x x_in)) z lt;
-      last = λ whole one sub.
-          ap (payments_in (with_carrier parents k t)) counts.2
-          ∙ last_at whole one sub (number_of k (id_of t)) refl
-          ∙ ap (λ (l : List Payment). l ++ payment_of t ∷ []) (h.last whole one (λ x x_in. sub x (in_append_left seen (t ∷ []) x x_in)))
-          ∙ sym (map-append payment_of here (t ∷ []));
+      found = λ id. found_at id (number_of k (id_of t)) refl;
+      theirs = λ z lt. ap (map (λ (p : Payment). p.id)) (payments_same parents k t z linked (omega (arith, h.count, lt))) ∙ h.theirs z lt;
+      last =
+          ap (ids_in (with_carrier parents k t)) counts.2 ∙ last_at (number_of k (id_of t)) refl
+          ∙ ap (λ (l : List ℕ). l ++ id_of t ∷ []) h.last ∙ sym (map-append id_of here (t ∷ []));
     }
   where
     ids_at : (id : ℕ) (o : Option ℕ) → number_of k (id_of t) ≡ o → has (map id_of (carried_by parents k t o).txs) id ≡ (has (map id_of seen) id || eqb (id_of t) id)
@@ -110,17 +109,25 @@ partly_more parents blocks seen here k t linked h =
         ]
     there_at (Some m) n lt = in_append_left seen (t ∷ []) (tx_at k n) (h.there n lt)
 
-    last_at : (whole : List Transaction) → AreOne whole → ((x : Transaction) → IsIn (seen ++ t ∷ []) x → IsIn whole x) → (o : Option ℕ) → number_of k (id_of t) ≡ o
-        → payments_in (carried_by parents k t o) k.blocks ≡ payments_in k k.blocks ++ payment_of t ∷ []
-    last_at whole one sub None e =
-        filter_here k (λ (q : Carrier). payment_of (tx_at (with_tx k t) q.tx)) k.rows (next_carrier parents k (length k.txs) t) k.blocks refl
+    found_at : (id : ℕ) (o : Option ℕ) → number_of k (id_of t) ≡ o → find (has_id id) (carried_by parents k t o).txs ≡ find (has_id id) (seen ++ t ∷ [])
+    found_at id None e = find_both (has_id id) k.txs seen t (h.found id)
+    found_at id (Some n) e = h.found id ∙ sym (find_known seen t (tx_at k n) id (h.there n (number_within k (id_of t) n e)) (number_id k (id_of t) n e))
+
+    ids_push : (ps : List Payment) (p : Payment) → map (λ (p : Payment). p.id) (ps ++ p ∷ []) ≡ map (λ (p : Payment). p.id) ps ++ p.id ∷ []
+    ids_push ps p = map-append (λ (p : Payment). p.id) ps (p ∷ [])
+
+    last_at : (o : Option ℕ) → number_of k (id_of t) ≡ o → ids_in (carried_by parents k t o) k.blocks ≡ ids_in k k.blocks ++ id_of t ∷ []
+    last_at None e =
+        ap (map (λ (p : Payment). p.id))
+        (filter_here k (λ (q : Carrier). payment_of (tx_at (with_tx k t) q.tx)) k.rows (next_carrier parents k (length k.txs) t) k.blocks refl
         ∙ ap (λ (l : List Payment). l ++ payment_of (tx_at (with_tx k t) (length k.txs)) ∷ []) (payments_tx k t k.blocks linked)
-        ∙ ap (λ (x : Transaction). payments_in k k.blocks ++ payment_of x ∷ []) (get_or-append_seam k.txs t [] (of_parts [] []))
-    last_at whole one sub (Some n) e =
-        filter_here k (λ (q : Carrier). payment_of (tx_at k q.tx)) k.rows (next_carrier parents k n (tx_at k n)) k.blocks refl
-        ∙ ap (λ (x : Payment). payments_in k k.blocks ++ x ∷ [])
-        (one (tx_at k n) t (sub (tx_at k n) (in_append_left seen (t ∷ []) (tx_at k n) (h.there n (number_within k (id_of t) n e))))
-        (sub t (in_append_right seen (t ∷ []) t (inl refl))) (number_id k (id_of t) n e))
+        ∙ ap (λ (x : Transaction). payments_in k k.blocks ++ payment_of x ∷ []) (get_or-append_seam k.txs t [] (of_parts [] [])))
+        ∙ ids_push (payments_in k k.blocks) (payment_of t)
+    last_at (Some n) e =
+        ap (map (λ (p : Payment). p.id))
+        (filter_here k (λ (q : Carrier). payment_of (tx_at k q.tx)) k.rows (next_carrier parents k n (tx_at k n)) k.blocks refl)
+        ∙ ids_push (payments_in k k.blocks) (payment_of (tx_at k n))
+        ∙ ap (λ (i : ℕ). ids_in k k.blocks ++ i ∷ []) (number_id k (id_of t) n e)
 
 partly_all : (parents : List (List ℕ)) (blocks : List (List Transaction)) (seen here : List Transaction) (k : Carried) (ts : List Transaction) → AreLinked k
     → CarriesPartly blocks seen here k → CarriesPartly blocks (seen ++ ts) (here ++ ts) (with_carriers parents k ts)
@@ -140,9 +147,17 @@ none_here (r ∷ rs) n all =
     (ne_eqb r.block n (λ e. let lt : r.block < n = all 0 r (omega arith) in omega (arith, lt, e)))
     ∙ none_here rs n (λ i d lt. all (suc i) d (omega (arith, lt)))
 
+linked_all : (parents : List (List ℕ)) (k : Carried) (ts : List Transaction) → AreLinked k → AreLinked (with_carriers parents k ts)
+linked_all parents k [] h = h
+linked_all parents k (t ∷ ts) h = linked_all parents (with_carrier parents k t) ts (linked_more parents k t h)
+
+-- the transactions of one of the blocks are among all
+in_flat : (blocks : List (List Transaction)) (z : ℕ) → z < length blocks → (x : Transaction) → IsIn (get_or blocks z []) x → IsIn (flat blocks) x
+in_flat blocks z lt x there = in_flat_map_from (λ b. b) blocks (get_or blocks z []) x (list_in blocks z [] lt) there
+
 -- nothing is carried by no blocks
 pub none_carried : Carries [] (record { blocks = 0; txs = []; rows = [] })
-none_carried = record { count = refl; ids = λ id. refl; there = λ n lt. absurd (omega (arith, lt)); theirs = λ plain z lt. absurd (omega (arith, lt)) }
+none_carried = record { count = refl; ids = λ id. refl; found = λ id. refl; there = λ n lt. absurd (omega (arith, lt)); theirs = λ z lt. absurd (omega (arith, lt)) }
 
 -- with one block more
 pub block_carried : (parents : List (List ℕ)) (blocks : List (List Transaction)) (k : Carried) (ts : List Transaction) → IsCarried k → Carries blocks k
@@ -151,33 +166,47 @@ block_carried parents blocks k ts is h =
     record {
       count = ap (λ (n : ℕ). n + 1) after.count ∙ sym (length-append blocks (ts ∷ []));
       ids = λ id. after.ids id ∙ ap (λ (l : List Transaction). has (map id_of l) id) (sym (flat_push blocks ts));
+      found = found;
       there = λ n lt. contains_from_in (flat (blocks ++ ts ∷ [])) (tx_at (with_carriers parents k ts) n)
           (subst (λ (l : List Transaction). IsIn l (tx_at (with_carriers parents k ts) n)) (sym (flat_push blocks ts)) (after.there n lt));
-      theirs = λ plain z lt. at plain z lt;
+      theirs = λ z lt.
+          payments_named (with_carriers parents k ts) z (linked_all parents k ts is.linked)
+          ∙ ap (map (named (with_carriers parents k ts).txs)) (ids_at z lt)
+          ∙ named_same (with_carriers parents k ts).txs (flat (blocks ++ ts ∷ [])) (map id_of (get_or (blocks ++ ts ∷ []) z [])) found
+          ∙ likes_named (flat (blocks ++ ts ∷ [])) (get_or (blocks ++ ts ∷ []) z []) (in_flat (blocks ++ ts ∷ []) z lt);
     }
   where
+    kept_ids : (z : ℕ) → z < length blocks → ids_in k z ≡ map id_of (get_or blocks z [])
+    kept_ids z lt = ap (map (λ (p : Payment). p.id)) (h.theirs z lt) ∙ like_ids (get_or blocks z []) (in_flat blocks z lt)
+      where
+        like_ids : (here : List Transaction) → ((x : Transaction) → IsIn here x → IsIn (flat blocks) x)
+            → map (λ (p : Payment). p.id) (map (λ (t : Transaction). payment_of (first_like (flat blocks) t)) here) ≡ map id_of here
+        like_ids [] sub = refl
+        like_ids (t ∷ here) sub =
+            ap (λ (i : ℕ). i ∷ map (λ (p : Payment). p.id) (map (λ (t : Transaction). payment_of (first_like (flat blocks) t)) here)) (found_in (flat blocks) t (sub t (inl refl))).1
+            ∙ ap (λ (l : List ℕ). id_of t ∷ l) (like_ids here (λ x there. sub x (inr there)))
+
     before : CarriesPartly blocks (flat blocks) [] k
     before = record {
       count = h.count;
       ids = h.ids;
+      found = h.found;
       there = λ n lt. in_from_contains (flat blocks) (tx_at k n) (h.there n lt);
-      theirs = λ whole one sub. h.theirs (λ t u in_t in_u e. one t u (sub t (in_from_contains (flat blocks) t in_t)) (sub u (in_from_contains (flat blocks) u in_u)) e);
-      last = λ whole one sub. ap (map (λ (q : Carrier). payment_of (tx_at k q.tx))) (none_here k.rows k.blocks is.blocks);
+      theirs = kept_ids;
+      last = ap (λ (l : List Carrier). map (λ (p : Payment). p.id) (map (λ (q : Carrier). payment_of (tx_at k q.tx)) l)) (none_here k.rows k.blocks is.blocks);
     }
 
     after : CarriesPartly blocks (flat blocks ++ ts) ts (with_carriers parents k ts)
     after = partly_all parents blocks (flat blocks) [] k ts is.linked before
 
-    one_of : ArePlain (blocks ++ ts ∷ []) → AreOne (flat (blocks ++ ts ∷ []))
-    one_of plain t u in_t in_u e = plain t u (contains_from_in (flat (blocks ++ ts ∷ [])) t in_t) (contains_from_in (flat (blocks ++ ts ∷ [])) u in_u) e
+    found : (id : ℕ) → find (has_id id) (with_carriers parents k ts).txs ≡ find (has_id id) (flat (blocks ++ ts ∷ []))
+    found id = after.found id ∙ ap (find (has_id id)) (sym (flat_push blocks ts))
 
-    at : ArePlain (blocks ++ ts ∷ []) → (z : ℕ) → z < length (blocks ++ ts ∷ []) → payments_in (with_carriers parents k ts) z ≡ map payment_of (get_or (blocks ++ ts ∷ []) z [])
-    at plain z lt =
+    ids_at : (z : ℕ) → z < length (blocks ++ ts ∷ []) → ids_in (with_carriers parents k ts) z ≡ map id_of (get_or (blocks ++ ts ∷ []) z [])
+    ids_at z lt =
         elim (cases_lt z (length blocks)) [
-          | inl less ↦ after.theirs (flat (blocks ++ ts ∷ [])) (one_of plain) (λ x x_in. subst (λ (l : List Transaction). IsIn l x) (sym (flat_push blocks ts)) x_in) z less
-              ∙ ap (map payment_of) (sym (get_or_append_left blocks (ts ∷ []) [] z less))
+          | inl less ↦ after.theirs z less ∙ ap (map id_of) (sym (get_or_append_left blocks (ts ∷ []) [] z less))
           | inr ge ↦ (let last : length blocks ≡ z = omega (arith, lt, ge, length-append blocks (ts ∷ [])) in
-              ap (payments_in (with_carriers parents k ts)) (sym last ∙ sym after.count)
-              ∙ after.last (flat (blocks ++ ts ∷ [])) (one_of plain) (λ x x_in. subst (λ (l : List Transaction). IsIn l x) (sym (flat_push blocks ts)) x_in)
-              ∙ ap (map payment_of) (sym (get_or-append_seam blocks ts [] []) ∙ ap (λ (m : ℕ). get_or (blocks ++ ts ∷ []) m []) last))
+              ap (ids_in (with_carriers parents k ts)) (sym last ∙ sym after.count) ∙ after.last
+              ∙ ap (map id_of) (sym (get_or-append_seam blocks ts [] []) ∙ ap (λ (m : ℕ). get_or (blocks ++ ts ∷ []) m []) last))
         ]

@@ -10,6 +10,7 @@ pub mod Forgetting
 pub mod Apart
 pub mod Keeping
 pub mod Finding
+pub mod Firsts
 pub mod Outputs
 pub mod Covering
 pub mod Linked

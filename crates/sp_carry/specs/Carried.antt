@@ -1,5 +1,5 @@
 -- The transactions and carriers of the first blocks of a graph, by number.
-use Rattle.std.specs.Prelude.{◌≡◌, ℕ, suc, ◌+◌, ◌*◌, ◌≢◌, ◌<◌, ◌≤◌, ◌==◌, All, AllPairs, List, [], ◌∷◌, ◌++◌, length, map, filter, position, nat_eq, Option, Some, None, slice_index_or, cond, Contains, flat_map}
+use Rattle.std.specs.Prelude.{◌≡◌, ℕ, suc, ◌+◌, ◌*◌, ◌≢◌, ◌<◌, ◌≤◌, ◌==◌, All, AllPairs, List, [], ◌∷◌, ◌++◌, length, map, filter, position, nat_eq, Option, Some, None, slice_index_or, cond, Contains, flat_map, find, unwrap_or}
 use Rattle.sp_model.specs.Graph.{AreDistinct, has}
 use Rattle.sp_dag.specs.Numbered.{graph_of}
 use Rattle.sp_tx.specs.Parts.{Transaction, of_parts}
@@ -102,10 +102,16 @@ ArePlain blocks =
     (t u : Transaction) → Contains (flat_map (λ b. b) blocks) t → Contains (flat_map (λ b. b) blocks) u → id_of t ≡ id_of u
     → payment_of t ≡ payment_of u
 
--- The blocks with these transactions were added. An id is there where one of them has it, and where no two have one id
--- each block carries its own transactions
+-- the first of these transactions that has the id of this one; itself where none has it
+abbrev pub first_like : List Transaction → Transaction → Transaction
+first_like ts t = unwrap_or (find (λ (u : Transaction). id_of u == id_of t) ts) t
+
+-- The blocks with these transactions were added. An id is there where one of them has it, and each block carries its
+-- transactions in their order, each one as the first that has its id
 pub record Carries (blocks : List (List Transaction)) (k : Carried) : Type 0 where
   pub count : k.blocks ≡ length blocks
   pub ids : (id : ℕ) → has (map id_of k.txs) id ≡ has (map id_of (flat_map (λ b. b) blocks)) id
+  pub found : (id : ℕ) → find (λ (t : Transaction). id_of t == id) k.txs ≡ find (λ (t : Transaction). id_of t == id) (flat_map (λ b. b) blocks)
   pub there : (n : ℕ) → n < length k.txs → Contains (flat_map (λ b. b) blocks) (tx_at k n)
-  pub theirs : ArePlain blocks → (z : ℕ) → z < length blocks → payments_in k z ≡ map payment_of (slice_index_or blocks z [])
+  pub theirs : (z : ℕ) → z < length blocks
+      → payments_in k z ≡ map (λ (t : Transaction). payment_of (first_like (flat_map (λ b. b) blocks) t)) (slice_index_or blocks z [])

@@ -1,15 +1,15 @@
 //! Laws of the ledger, over the definitions alone. Each is the contract of a function that does
 //! nothing, so that the check proves it.
 
-ghost use Rattle.std.specs.Prelude.{◌≡◌, ◌<◌, ◌≤◌, ◌++◌, ◌∷◌, [], ℕ, List, length, IsTrue, IsFalse, Contains, sum_by};
+ghost use Rattle.std.specs.Prelude.{◌≡◌, ◌<◌, ◌≤◌, ◌++◌, ◌∷◌, [], ℕ, List, length, IsTrue, IsFalse, Contains, flat_map, sum_by};
 ghost use Rattle.sp_model.specs.Graph.{complete, has, AreDistinct, IsDownset, IsGraph};
 ghost use Rattle.sp_carry.specs.declared.state.TxState.TheVariants.{Accepted, Rejected, Absent};
-ghost use Rattle.sp_carry.specs.Payment.{Payment, Spent, conflicts, paid_amount};
+ghost use Rattle.sp_carry.specs.Payment.{Payment, Spent, conflicts, paid_amount, payment_of};
 ghost use Rattle.sp_carry.specs.Ledger.{Ledger, accepts, accepts_by, accepted_carriers, is_accepted, HasNoTwins, IsPlain, NamesOnce};
 ghost use Rattle.sp_carry.specs.Money.{balance};
 ghost use Rattle.sp_tx.specs.Parts.{Transaction};
 ghost use Rattle.sp_dag.specs.Numbered.{AreInOrder};
-ghost use Rattle.sp_carry.specs.Carried.{nothing, with_block, AreSound, Carried, Carries, IsCarried};
+ghost use Rattle.sp_carry.specs.Carried.{first_like, nothing, with_block, ArePlain, AreSound, Carried, Carries, IsCarried};
 ghost use Rattle.sp_carry.specs.Examples as example;
 ghost use Rattle.sp_carry.specs.Examples.{state_in, balance_in};
 
@@ -60,14 +60,18 @@ pub fn marks_are_right()
 {}
 
 /// Carriers of blocks that were added one after another carry what the blocks do: an id is there
-/// just where a block has it; and where transactions of the blocks that have one id are one payment,
-/// each block carries its own transactions, in their order.
-#[tactic(auto, using(crate::proofs::Carrying::none_carried, crate::proofs::Carrying::block_carried))]
+/// just where a block has it, and each block carries its transactions in their order, each one as
+/// the first of all that has its id. Where transactions of the blocks that have one id are one
+/// payment, that is itself.
+#[tactic(auto, using(crate::proofs::Carrying::none_carried, crate::proofs::Carrying::block_carried, crate::proofs::Firsts::first_is_own))]
 pub fn blocks_are_carried()
     ensures none { Carries [] nothing }
     ensures block { (parents : List (List ℕ)) (blocks : List (List Transaction)) (k : Carried)
         (txs : List Transaction) → IsCarried k → Carries blocks k →
         Carries (blocks ++ txs ∷ []) (with_block parents k txs) }
+    ensures own { (blocks : List (List Transaction)) (t : Transaction) → ArePlain blocks →
+        Contains (flat_map (λ b. b) blocks) t →
+        payment_of (first_like (flat_map (λ b. b) blocks) t) ≡ payment_of t }
 {}
 
 /// The definitions computed on small ledgers: states and balances that were worked out by hand.

@@ -3,6 +3,7 @@ pub mod SpelledBlocks
 pub mod Presence
 pub mod NumberedBlocks
 pub mod Counts
+mod ByIds
 pub mod CarriedBlocks
 pub mod VotedBlocks
 pub mod WordsByNumbers

@@ -1,5 +1,5 @@
 -- The state of a transaction is that of its number: the ledger of the kept blocks is that of the numbered ones under their ids.
-use Rattle.std.proofs.Common.{◌≡◌, ◌<◌, ℕ, zero, suc, Bool, true, false, List, [], ◌∷◌, length, map, get_or, refl, sym, ap, subst, ◌∙◌, eqb, Option, Some, None, arith}
+use Rattle.std.proofs.Common.{◌≡◌, ◌<◌, ℕ, zero, suc, Bool, true, false, List, [], ◌∷◌, ◌++◌, length, map, get_or, refl, sym, ap, subst, ◌∙◌, eqb, Option, Some, None, arith}
 use Rattle.std.specs.Prelude.{slice_get, flat_map, IsFalse, ◌↔◌}
 use Rattle.std.specs.List.{range_with_len}
 use Rattle.std.proofs.Math.ListN.{length-map}
@@ -16,18 +16,20 @@ use Rattle.sp_carry.specs.declared.state.TxState.{TxState}
 use Rattle.sp_carry.specs.declared.state.TxState.TheVariants.{Absent}
 use Rattle.sp_carry.specs.Payment.{Payment, payment_of}
 use Rattle.sp_carry.specs.Ledger.{carried, is_accepted, is_carried, IsPlain, state}
-use Rattle.sp_carry.specs.Carried.{ArePlain, Carried, ledger_of as numbered_ledger, number_of, tx_at}
+use Rattle.sp_carry.specs.Carried.{Carried, first_like, ledger_of as numbered_ledger, number_of, tx_at}
 use Rattle.sp_carry.proofs.Conflicts.{in_from_has}
 use Rattle.sp_carry.proofs.Finding.{id_at, number_id, number_within}
 use Rattle.sp_carry.proofs.Grants.{carried_in}
 use Rattle.sp_carry.proofs.Keeping.{none_found}
-use Rattle.sp_carry.proofs.Members.{any_of_member, bool_same, contains_from_in, in_flat_map, in_flat_map_from, in_from_contains, in_map, in_map_from, IsIn, list_in, member_of_any}
+use Rattle.sp_carry.proofs.Members.{any_of_member, bool_same, in_flat_map, in_flat_map_from, in_map, in_map_from, IsIn, list_in, member_of_any}
 use Rattle.sp_accept.specs.Acceptance.{Acceptance, first_blocks, is_set}
 use Rattle.sp_accept.specs.States.{state_by_number, state_of_flag, state_of_number}
 use Rattle.sp_accept.proofs.Renamed.{accepted_renamed, state_renamed}
 use Rattle.sp_accept.proofs.States.{numbered_plain, states}
 use Rattle.sp_engine.specs.Engine.{IsAccepting, IsEngine, numbers}
-use Rattle.sp_engine.specs.Transactions.{each_once, ledger_of, tx_ids, tx_ids_in, txs_of}
+use Rattle.sp_engine.specs.Presence.{order_of}
+use Rattle.sp_engine.specs.Transactions.{each_once, ledger_by_id, ledger_of, state_of, tx_ids, tx_ids_in, txs_in, txs_of}
+use Rattle.sp_engine.proofs.ByIds.{acceptance_agrees, states_agree}
 use Rattle.sp_engine.proofs.CarriedBlocks.{are_of, carried_count, has_flipped}
 use Rattle.sp_engine.proofs.Counts.{AreDistinct-present}
 use Rattle.sp_engine.proofs.WordsByNumbers.{AreRenamed-ids, IsRenamed-ids, number_below}
@@ -39,6 +41,10 @@ get_or-map : {A : Type 0} (f : ℕ → A) (xs : List ℕ) (n : ℕ) (d : A) → 
 get_or-map f [] n d lt = absurd (omega (arith, lt))
 get_or-map f (x ∷ xs) zero d lt = refl
 get_or-map f (x ∷ xs) (suc n) d lt = get_or-map f xs n d (omega (arith, lt))
+
+flat_of_map : (f : ℕ → List Transaction) (xs : List ℕ) → flat_map (λ b. b) (map f xs) ≡ flat_map f xs
+flat_of_map f [] = refl
+flat_of_map f (x ∷ xs) = ap (λ (l : List Transaction). f x ++ l) (flat_of_map f xs)
 
 module _ {bits genesis : ℕ} {kept : List ReadBlock} {blocks : Numbered} {virts : Virts} {k : Carried} {a : Acceptance} (e : IsEngine bits kept genesis blocks virts) (h : IsAccepting kept blocks k a) where
   abbrev lists : List (List Transaction)
@@ -62,12 +68,6 @@ module _ {bits genesis : ℕ} {kept : List ReadBlock} {blocks : Numbered} {virts
       let t : (t : Transaction) × IsIn (txs_of kept z.0) t × (payment_of t ≡ p) = in_map payment_of (txs_of kept z.0) p z.2 in
       let numbered : IsIn blocks.ids z.0 = in_from_has blocks.ids z.0 (e.same z.0 ∙ has_from_in (present kept) z.0 z.1) in
       (t.0, in_flat_map_from (λ b. b) lists (txs_of kept z.0) t.0 (in_map_from (txs_of kept) blocks.ids z.0 numbered) t.1, t.2)
-
-  plain_lists : IsPlain (ledger_of kept) (present kept) → ArePlain lists
-  plain_lists plain t u in_t in_u same =
-      plain (payment_of t) (payment_of u)
-      (contains_from_in (carried (ledger_of kept) (present kept)) (payment_of t) (flat_carried t (in_from_contains flat t in_t)))
-      (contains_from_in (carried (ledger_of kept) (present kept)) (payment_of u) (flat_carried u (in_from_contains flat u in_u))) same
 
   -- an id is carried where a number has it
   carried_is : (id : ℕ) → is_carried (ledger_of kept) (present kept) id ≡ has (map id_of k.txs) id
@@ -122,12 +122,15 @@ module _ {bits genesis : ℕ} {kept : List ReadBlock} {blocks : Numbered} {virts
   number_small : (w : ℕ) → has (numbers blocks) w ≡ true → w < length blocks.parents
   number_small w there = number_below blocks w there
 
-  txs_are : IsPlain (ledger_of kept) (present kept) → (w : ℕ) → has (numbers blocks) w ≡ true
-      → (ledger_of kept).txs (get_or blocks.ids w 0) ≡ (numbered_ledger blocks.parents k).txs w
-  txs_are plain w there =
+  all_txs : flat ≡ txs_in kept (order_of kept)
+  all_txs = flat_of_map (txs_of kept) blocks.ids ∙ ap (txs_in kept) e.order
+
+  txs_are : (w : ℕ) → has (numbers blocks) w ≡ true → (ledger_by_id kept).txs (get_or blocks.ids w 0) ≡ (numbered_ledger blocks.parents k).txs w
+  txs_are w there =
       let small : w < length blocks.ids = (let s : w < length blocks.parents = number_small w there in omega (arith, s, count)) in
-      sym (h.carriers.theirs.theirs (plain_lists plain) w (omega (arith, small, length-map blocks.ids (txs_of kept)))
-      ∙ ap (map payment_of) (get_or-map (txs_of kept) blocks.ids w [] small))
+      sym (h.carriers.theirs.theirs w (omega (arith, small, length-map blocks.ids (txs_of kept)))
+      ∙ ap (map (λ (t : Transaction). payment_of (first_like flat t))) (get_or-map (txs_of kept) blocks.ids w [] small)
+      ∙ ap (λ (all : List Transaction). map (λ (t : Transaction). payment_of (first_like all t)) (txs_of kept (get_or blocks.ids w 0))) all_txs)
 
   down : IsDownset (numbered_graph blocks.parents) (numbers blocks)
   down = subst (λ (l : List ℕ). IsDownset (numbered_graph blocks.parents) l) (keys_are_numbers blocks.parents) (downset_numbered blocks.parents e.in_order.order)
@@ -135,13 +138,17 @@ module _ {bits genesis : ℕ} {kept : List ReadBlock} {blocks : Numbered} {virts
   once : AreDistinct (numbers blocks)
   once = subst (λ (l : List ℕ). AreDistinct l) (keys_are_numbers blocks.parents) (IsGraph_numbered blocks e.in_order).distinct
 
-  pub state_is : (id : ℕ) (r : TxState) → r ≡ state_by_number k a.txs id → IsPlain (ledger_of kept) (present kept) → r ≡ state (ledger_of kept) (present kept) id
-  state_is id r is plain =
+  pub state_is : (id : ℕ) (r : TxState) → r ≡ state_by_number k a.txs id → r ≡ state_of kept id
+  unfolding state_of
+  state_is id r is =
       is ∙ sym (states blocks.parents k a h.carriers.carried (are_of kept blocks k e.in_order h.carriers) h.right h.all id)
       ∙ ap (λ (s : List ℕ). state (numbered_ledger blocks.parents k) s id) set_is
-      ∙ sym (state_renamed (λ n. get_or blocks.ids n 0) (numbered_ledger blocks.parents k) (ledger_of kept) (numbers blocks) (present kept) id
+      ∙ sym (state_renamed (λ n. get_or blocks.ids n 0) (numbered_ledger blocks.parents k) (ledger_by_id kept) (numbers blocks) (present kept) id
       (IsRenamed-ids kept blocks e.all_kept e.in_order e.numbered) down (AreRenamed-ids kept blocks e.all_kept e.in_order e.numbered e.same)
-      once (AreDistinct-present kept e.all_kept.apart) (txs_are plain) (numbered_plain blocks.parents k (numbers blocks) h.carriers.carried))
+      once (AreDistinct-present kept e.all_kept.apart) txs_are (numbered_plain blocks.parents k (numbers blocks) h.carriers.carried))
+
+  pub plain_state_is : (id : ℕ) (r : TxState) → r ≡ state_by_number k a.txs id → IsPlain (ledger_of kept) (present kept) → r ≡ state (ledger_of kept) (present kept) id
+  plain_state_is id r is plain = state_is id r is ∙ states_agree kept e.all_kept.apart plain id
 
   -- ---- transactions in order
 
@@ -160,11 +167,14 @@ module _ {bits genesis : ℕ} {kept : List ReadBlock} {blocks : Numbered} {virts
   pub id_of_number : (i : ℕ) → i < length k.txs → slice_get (tx_ids kept) i ≡ Some (id_of (tx_at k i))
   id_of_number i lt = ap (λ (l : List ℕ). slice_get l i) ids_are ∙ id_at k.txs i lt
 
-  pub accepted_is : (i : ℕ) → i < length k.txs → IsPlain (ledger_of kept) (present kept)
-      → is_set a.txs i ≡ is_accepted (ledger_of kept) (present kept) (id_of (tx_at k i))
-  accepted_is i lt plain =
+  pub accepted_is : (i : ℕ) → i < length k.txs → is_set a.txs i ≡ is_accepted (ledger_by_id kept) (present kept) (id_of (tx_at k i))
+  accepted_is i lt =
       h.right.txs i lt
       ∙ ap (λ (s : List ℕ). is_accepted (numbered_ledger blocks.parents k) s (id_of (tx_at k i))) set_is
-      ∙ sym (accepted_renamed (λ n. get_or blocks.ids n 0) (numbered_ledger blocks.parents k) (ledger_of kept) (numbers blocks) (present kept) (id_of (tx_at k i))
+      ∙ sym (accepted_renamed (λ n. get_or blocks.ids n 0) (numbered_ledger blocks.parents k) (ledger_by_id kept) (numbers blocks) (present kept) (id_of (tx_at k i))
       (IsRenamed-ids kept blocks e.all_kept e.in_order e.numbered) down (AreRenamed-ids kept blocks e.all_kept e.in_order e.numbered e.same)
-      once (AreDistinct-present kept e.all_kept.apart) (txs_are plain) (numbered_plain blocks.parents k (numbers blocks) h.carriers.carried))
+      once (AreDistinct-present kept e.all_kept.apart) txs_are (numbered_plain blocks.parents k (numbers blocks) h.carriers.carried))
+
+  pub plain_accepted_is : (i : ℕ) → i < length k.txs → IsPlain (ledger_of kept) (present kept)
+      → is_set a.txs i ≡ is_accepted (ledger_of kept) (present kept) (id_of (tx_at k i))
+  plain_accepted_is i lt plain = accepted_is i lt ∙ acceptance_agrees kept e.all_kept.apart plain (id_of (tx_at k i))

@@ -4,8 +4,10 @@ use Rattle.sp_tx.specs.Parts.{Transaction}
 use Rattle.sp_tx.specs.Spending.{id_of}
 use Rattle.sp_block.specs.Block.{ReadBlock}
 use Rattle.sp_model.specs.Graph.{has}
-use Rattle.sp_pool.specs.Kept.{graph_of}
-use Rattle.sp_carry.specs.Ledger.{Ledger}
+use Rattle.sp_pool.specs.Kept.{graph_of, present}
+use Rattle.sp_carry.specs.declared.state.TxState.{TxState}
+use Rattle.sp_carry.specs.Carried.{first_like}
+use Rattle.sp_carry.specs.Ledger.{Ledger, state}
 use Rattle.sp_carry.specs.Payment.{payment_of}
 use Rattle.sp_engine.specs.Presence.{order_of}
 
@@ -20,6 +22,19 @@ txs_of kept id = txs_or_none (find (λ (block : ReadBlock). block.id == id) kept
 -- the graph of the kept blocks, and the transactions of each
 abbrev pub ledger_of : List ReadBlock → Ledger
 ledger_of kept = record { graph = graph_of kept; txs = λ id. map payment_of (txs_of kept id) }
+
+-- the transactions of these blocks, in their order, and then in that of the places in a block
+abbrev pub txs_in : List ReadBlock → List ℕ → List Transaction
+txs_in kept blocks = flat_map (txs_of kept) blocks
+
+-- The same ledger, where a transaction stands for the first one of its id: in order of presence, and then of place. It
+-- differs from the other one only where two transactions of the present blocks have one id
+abbrev pub ledger_by_id : List ReadBlock → Ledger
+ledger_by_id kept = record { graph = graph_of kept; txs = λ id. map (λ t. payment_of (first_like (txs_in kept (order_of kept)) t)) (txs_of kept id) }
+
+-- what the present blocks say of the transaction of an id
+unfoldable pub state_of : List ReadBlock → ℕ → TxState
+state_of kept id = state (ledger_by_id kept) (present kept) id
 
 -- the ids with one more, if it isn't one of them
 abbrev pub with_id : List ℕ → ℕ → List ℕ

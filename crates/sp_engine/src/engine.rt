@@ -11,7 +11,7 @@ ghost use Rattle.sp_pool.specs.Kept.{AreKept, graph_of, present, standing_of};
 ghost use Rattle.sp_pool.specs.declared.answers.Standing.{Standing};
 ghost use Rattle.sp_engine.specs.Arrivals.{answer_of, joined, kept_after};
 ghost use Rattle.sp_engine.specs.Presence.{order_of};
-ghost use Rattle.sp_engine.specs.Transactions.{ledger_of, tx_ids};
+ghost use Rattle.sp_engine.specs.Transactions.{ledger_by_id, ledger_of, state_of, tx_ids};
 ghost use Rattle.sp_carry.specs.declared.state.TxState.{TxState};
 ghost use Rattle.sp_carry.specs.Ledger.{is_accepted, is_carried, state, IsPlain};
 
@@ -196,10 +196,12 @@ impl Engine {
     /// What the present blocks say of a transaction: accepted, rejected, or carried by none of them.
     /// It stands ready, so it takes about the time of a look-up by hash, and no memory.
     ///
-    /// Whether it is accepted is said where no two different transactions of the present blocks have
-    /// one id, which would take two inputs of one SHA-256; whether a block carries it, always.
+    /// The transaction of an id is the first one that has it, in order of presence and then of place.
+    /// Where no two different transactions of the present blocks have one id, which would take two
+    /// inputs of one SHA-256, each is its own.
     pub fn tx_state(&self, id: &TxId) -> TxState
         requires { self.now.broken ≡ false }
+        ensures value { result ≡ state_of self.now.kept id.now }
         ensures absent { (result ≡ TxState.Absent) ↔
             IsFalse (is_carried (ledger_of self.now.kept) (present self.now.kept) id.now) }
         ensures state { IsPlain (ledger_of self.now.kept) (present self.now.kept) →
@@ -234,12 +236,13 @@ impl Engine {
     /// numbered from 0 in the order in which their blocks became present, and in a block in that of
     /// their places. It takes a bounded number of steps.
     ///
-    /// Whether it is accepted is said where no two different transactions of the present blocks have
-    /// one id.
+    /// The transaction of an id is the first one that has it, as in `tx_state`.
     pub fn tx_at(&self, i: u32) -> (TxId, bool)
         requires whole { self.now.broken ≡ false }
         requires within { i < length (tx_ids self.now.kept) }
         ensures id { slice_get (tx_ids self.now.kept) i ≡ Some result.0 }
+        ensures value { result.1 ≡
+            is_accepted (ledger_by_id self.now.kept) (present self.now.kept) result.0 }
         ensures accepted { IsPlain (ledger_of self.now.kept) (present self.now.kept) →
             result.1 ≡ is_accepted (ledger_of self.now.kept) (present self.now.kept) result.0 }
     {

@@ -1,7 +1,7 @@
 use Rattle.std.proofs.Common.{◌∙◌, sym, ap}
 use Rattle.sp_accept.specs.States.{state_of_flag, state_of_number}
 use Rattle.sp_engine.proofs.Facts.{accepting_of, engine_of}
-use Rattle.sp_engine.proofs.StatesByNumbers.{absent_is, state_is}
+use Rattle.sp_engine.proofs.StatesByNumbers.{absent_is, plain_state_is, state_is}
 use Rattle.sp_engine.proofs.engine.Engine.tx_state.Goals as goal
 
 pub returns-in-None-clause-absent : goal.returns-in-None-clause-absent
@@ -9,9 +9,14 @@ returns-in-None-clause-absent c =
     absent_is (engine_of c.self.view_is c.self.invariant c.requires) (accepting_of c.self.view_is c.self.invariant c.requires) c.args.id.now _
     (ap (state_of_number c.self.inside.accepted.txs) (sym c.in-None.is ∙ c.tx_of.ensures.value))
 
+pub returns-in-None-clause-value : goal.returns-in-None-clause-value
+returns-in-None-clause-value c =
+    state_is (engine_of c.self.view_is c.self.invariant c.requires) (accepting_of c.self.view_is c.self.invariant c.requires) c.args.id.now _
+    (ap (state_of_number c.self.inside.accepted.txs) (sym c.in-None.is ∙ c.tx_of.ensures.value))
+
 pub returns-in-None-clause-state : goal.returns-in-None-clause-state
 returns-in-None-clause-state c =
-    state_is (engine_of c.self.view_is c.self.invariant c.requires) (accepting_of c.self.view_is c.self.invariant c.requires) c.args.id.now _
+    plain_state_is (engine_of c.self.view_is c.self.invariant c.requires) (accepting_of c.self.view_is c.self.invariant c.requires) c.args.id.now _
     (ap (state_of_number c.self.inside.accepted.txs) (sym c.in-None.is ∙ c.tx_of.ensures.value))
 
 pub returns-then-is_accepted-clause-absent : goal.returns-then-is_accepted-clause-absent
@@ -19,9 +24,14 @@ returns-then-is_accepted-clause-absent c =
     absent_is (engine_of c.self.view_is c.self.invariant c.requires) (accepting_of c.self.view_is c.self.invariant c.requires) c.args.id.now _
     (ap state_of_flag (sym c.if-is_accepted.true ∙ c.is_accepted.ensures) ∙ ap (state_of_number c.self.inside.accepted.txs) (sym c.in-Some.is ∙ c.tx_of.ensures.value))
 
+pub returns-then-is_accepted-clause-value : goal.returns-then-is_accepted-clause-value
+returns-then-is_accepted-clause-value c =
+    state_is (engine_of c.self.view_is c.self.invariant c.requires) (accepting_of c.self.view_is c.self.invariant c.requires) c.args.id.now _
+    (ap state_of_flag (sym c.if-is_accepted.true ∙ c.is_accepted.ensures) ∙ ap (state_of_number c.self.inside.accepted.txs) (sym c.in-Some.is ∙ c.tx_of.ensures.value))
+
 pub returns-then-is_accepted-clause-state : goal.returns-then-is_accepted-clause-state
 returns-then-is_accepted-clause-state c =
-    state_is (engine_of c.self.view_is c.self.invariant c.requires) (accepting_of c.self.view_is c.self.invariant c.requires) c.args.id.now _
+    plain_state_is (engine_of c.self.view_is c.self.invariant c.requires) (accepting_of c.self.view_is c.self.invariant c.requires) c.args.id.now _
     (ap state_of_flag (sym c.if-is_accepted.true ∙ c.is_accepted.ensures) ∙ ap (state_of_number c.self.inside.accepted.txs) (sym c.in-Some.is ∙ c.tx_of.ensures.value))
 
 pub returns-else-is_accepted-clause-absent : goal.returns-else-is_accepted-clause-absent
@@ -29,7 +39,12 @@ returns-else-is_accepted-clause-absent c =
     absent_is (engine_of c.self.view_is c.self.invariant c.requires) (accepting_of c.self.view_is c.self.invariant c.requires) c.args.id.now _
     (ap state_of_flag (sym c.if-is_accepted.false ∙ c.is_accepted.ensures) ∙ ap (state_of_number c.self.inside.accepted.txs) (sym c.in-Some.is ∙ c.tx_of.ensures.value))
 
+pub returns-else-is_accepted-clause-value : goal.returns-else-is_accepted-clause-value
+returns-else-is_accepted-clause-value c =
+    state_is (engine_of c.self.view_is c.self.invariant c.requires) (accepting_of c.self.view_is c.self.invariant c.requires) c.args.id.now _
+    (ap state_of_flag (sym c.if-is_accepted.false ∙ c.is_accepted.ensures) ∙ ap (state_of_number c.self.inside.accepted.txs) (sym c.in-Some.is ∙ c.tx_of.ensures.value))
+
 pub returns-else-is_accepted-clause-state : goal.returns-else-is_accepted-clause-state
 returns-else-is_accepted-clause-state c =
-    state_is (engine_of c.self.view_is c.self.invariant c.requires) (accepting_of c.self.view_is c.self.invariant c.requires) c.args.id.now _
+    plain_state_is (engine_of c.self.view_is c.self.invariant c.requires) (accepting_of c.self.view_is c.self.invariant c.requires) c.args.id.now _
     (ap state_of_flag (sym c.if-is_accepted.false ∙ c.is_accepted.ensures) ∙ ap (state_of_number c.self.inside.accepted.txs) (sym c.in-Some.is ∙ c.tx_of.ensures.value))
