@@ -185,6 +185,7 @@ behind_open Dead h = absurd (cc h)
 pub tells : (m : Message) → (m ≡ variants.End → ⊥) → (s : Said) × (said_by m ≡ Some s)
 tells (variants.Block bytes) h = (_, refl)
 tells (variants.Vote x y) h = (_, refl)
+tells (variants.Tx tx) h = (_, refl)
 tells variants.End h = absurd (h refl)
 
 -- ---- a source that tells its bytes

@@ -12,11 +12,11 @@ use Rattle.sp_form.proofs.Places.{placed_passes}
 use Rattle.sp_ids.specs.Digits.{length-bytes_of, number_of_bytes}
 use Rattle.sp_ids.specs.Key.{bytes_of, number_of}
 use Rattle.sp_feed.specs.declared.kind.Kind.{Kind}
-use Rattle.sp_feed.specs.declared.kind.Kind.TheVariants.{Block, Vote, End}
+use Rattle.sp_feed.specs.declared.kind.Kind.TheVariants.{Block, Vote, Tx, End}
 use Rattle.sp_feed.specs.Feed.{after_frame, feed, one_more, rest_of, Whole, with_head}
 use Rattle.sp_feed.specs.Format.{broken, cut, Flaw, frame_form, genesis_form, Head, head_form, head_of, length_form, name}
 use Rattle.sp_feed.specs.Genesis.{is_genesis}
-use Rattle.sp_feed.specs.Kinds.{allows, kind_of, letter, Said, said, SaysBlock, SaysVote}
+use Rattle.sp_feed.specs.Kinds.{allows, kind_of, letter, Said, said, SaysBlock, SaysVote, SaysTx}
 use Rattle.sp_feed.specs.Spelling.{AllFit, Fits, framed, frames_of, spelled, written, WrittenIsRead}
 use Rattle.sp_feed.proofs.GenesisBytes.{genesis_spelled}
 use Rattle.sp_feed.proofs.Reading.{judged-append, met}
@@ -48,11 +48,13 @@ body_read kind at payload more h e =
 letter_met : (kind : Kind) → first_broken (rule (is_some (kind_of (letter kind))) broken ∷ []) ≡ None
 letter_met Block = refl
 letter_met Vote = refl
+letter_met Tx = refl
 letter_met End = refl
 
 letter_back : (kind : Kind) → unwrap_or (kind_of (letter kind)) End ≡ kind
 letter_back Block = refl
 letter_back Vote = refl
+letter_back Tx = refl
 letter_back End = refl
 
 frame_read : (kind : Kind) (at : ℕ) (payload more : List ℕ) → length payload < 2 ^ 32 → allows kind (length payload) ≡ true → placed frame_form (record { at = at; bytes = framed kind payload ++ more }) ≡ Got (said kind payload) (record { at = at + 1 + 4 + length payload; bytes = more })
@@ -81,6 +83,12 @@ spelled_read (SaysVote x y) at more h =
     frame_read Vote at payload more (omega arith) (eq-eqb (length payload) 64 long)
     ∙ ap (λ m. Got m (record { at = at + 1 + 4 + length payload; bytes = more })) (vote_read x y h.0 h.1)
     ∙ ap (λ k. Got (Some (SaysVote x y)) (record { at = k; bytes = more })) (omega arith)
+spelled_read (SaysTx tx) at more h =
+    let payload = bytes_of tx in
+    let long : length payload ≡ 32 = length-bytes_of tx in
+    frame_read Tx at payload more (omega (arith, long)) (eq-eqb (length payload) 32 long)
+    ∙ ap (λ n. Got (Some (SaysTx n)) (record { at = at + 1 + 4 + length payload; bytes = more })) (number_of_bytes tx h)
+    ∙ ap (λ k. Got (Some (SaysTx tx)) (record { at = k; bytes = more })) (omega arith)
 
 end_read : (at : ℕ) (more : List ℕ) → placed frame_form (record { at = at; bytes = framed End [] ++ more }) ≡ Got None (record { at = at + length (framed End []); bytes = more })
 end_read at more = frame_read End at [] more (omega arith) refl ∙ ap (λ k. Got None (record { at = k; bytes = more })) (omega arith)

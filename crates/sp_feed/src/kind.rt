@@ -8,6 +8,7 @@ ghost use Rattle.std.specs.Prelude.{◌≡◌, ◌≤◌, IsTrue};
 pub(crate) enum Kind {
     Block,
     Vote,
+    Tx,
     End,
 }
 
@@ -21,6 +22,7 @@ impl Kind {
         match letter {
             b'B' => Some(Kind::Block),
             b'V' => Some(Kind::Vote),
+            b'T' => Some(Kind::Tx),
             b'E' => Some(Kind::End),
             _ => None,
         }
@@ -34,6 +36,7 @@ impl Kind {
         match self {
             Kind::Block => length <= 65_537,
             Kind::Vote => length == 64,
+            Kind::Tx => length == 32,
             Kind::End => length == 0,
         }
     }

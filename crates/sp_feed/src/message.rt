@@ -1,6 +1,6 @@
 //! What a frame says.
 
-use sp_ids::BlockId;
+use sp_ids::{BlockId, TxId};
 
 /// A message of a feed. A block's bytes are lent from the reader's buffer, and may spell no block.
 ///
@@ -11,6 +11,7 @@ use sp_ids::BlockId;
 /// |---|---|---|---|
 /// | `B` | 0 to 65,537 | the bytes of a block | `Block` |
 /// | `V` | 64 | two block ids, 32 bytes each | `Vote` |
+/// | `T` | 32 | a transaction's id | `Tx` |
 /// | `E` | 0 | | `End` |
 #[derive(Clone, Copy, Debug, PartialEq, Eq)]
 pub enum Message<'a> {
@@ -18,6 +19,8 @@ pub enum Message<'a> {
     Block(&'a [u8]),
     /// The order of two blocks is asked for, the first of them first.
     Vote(BlockId, BlockId),
+    /// The state of a transaction is asked for.
+    Tx(TxId),
     /// There are no more messages.
     End,
 }

@@ -14,7 +14,7 @@ use crate::kind::Kind;
 use crate::message::Message;
 use crate::phase::Phase;
 use sp_form::array_of;
-use sp_ids::{BlockId, Memory};
+use sp_ids::{BlockId, Memory, TxId};
 use sp_io::Source;
 use std::alloc::Global;
 use std::marker::Model;
@@ -169,6 +169,7 @@ impl FeedReader {
         match self.kind {
             Kind::Block => Message::Block(payload),
             Kind::Vote => vote_of(payload),
+            Kind::Tx => Message::Tx(TxId::from_bytes(array_of(payload))),
             Kind::End => Message::End,
         }
     }
