@@ -22,25 +22,47 @@ def meets_work(block):
     return int.from_bytes(block_id(block), "big") < 2 ** (256 - BITS)
 
 
-def spelled(salt, nonce, parents):
-    """The bytes of a block without transactions, its parents in the order given."""
+def spelled(salt, nonce, parents, txs=()):
+    """The bytes of a block with these transactions, its parents in the order given."""
     version = b"\x01"
-    count_of_txs = (0).to_bytes(2, "little")
     return (
         version
         + salt.to_bytes(8, "little")
         + nonce.to_bytes(8, "little")
         + bytes([len(parents)])
         + b"".join(parents)
-        + count_of_txs
+        + len(txs).to_bytes(2, "little")
+        + b"".join(txs)
     )
 
 
-def block(salt, *parents, works=True):
+def block(salt, *parents, txs=(), works=True):
     """A block on these blocks, with the least nonce that meets the work, or that misses it."""
     ids = sorted(block_id(parent) for parent in parents)
-    tries = (spelled(salt, nonce, ids) for nonce in itertools.count())
+    tries = (spelled(salt, nonce, ids, txs) for nonce in itertools.count())
     return next(made for made in tries if meets_work(made) == works)
+
+
+def lock(word):
+    """The lock that a word opens."""
+    return hashlib.sha256(word).digest()
+
+
+def tx_id(tx):
+    return hashlib.sha256(tx).digest()
+
+
+def pay(sources, amount, owner):
+    """A transaction that spends the first output of each source, given with the word that opens
+    it, and has one output, which the owner's word opens."""
+    spent = sorted((tx_id(source), word) for source, word in sources)
+    return (
+        bytes([len(spent)])
+        + b"".join(source + b"\x00" + bytes([len(word)]) + word for source, word in spent)
+        + b"\x01"
+        + amount.to_bytes(8, "little")
+        + lock(owner)
+    )
 
 
 def frame(kind, payload=b""):
@@ -53,6 +75,10 @@ def send(block):
 
 def vote(x, y):
     return frame(b"V", block_id(x) + block_id(y))
+
+
+def ask(tx):
+    return frame(b"T", tx_id(tx))
 
 
 G = spelled(0, 0, [])  # genesis, which isn't judged for work
@@ -92,6 +118,35 @@ def refused():
     )
 
 
+def spends():
+    """A grant that is spent twice side by side, and a spend of one of these payments. A block on one
+    side decides between them, and two on the other side turn it round."""
+    grant = pay([], 100, b"alice")
+    to_bob = pay([(grant, b"alice")], 100, b"bob")
+    to_carol = pay([(grant, b"alice")], 100, b"carol")
+    to_dave = pay([(to_bob, b"bob")], 100, b"dave")
+    genesis = spelled(0, 0, [], [grant])
+    a, b = block(1, genesis, txs=[to_bob]), block(2, genesis, txs=[to_carol])
+    c = block(3, a, txs=[to_dave])
+    d, e = block(4, b), block(5, b)
+    all_of_them = b"".join(map(ask, [grant, to_bob, to_carol, to_dave]))
+    return (
+        b"SPCTRF01"
+        + bytes([BITS])
+        + send(genesis)
+        + all_of_them
+        + send(a)
+        + send(b)
+        + all_of_them
+        + send(c)
+        + all_of_them
+        + send(d)
+        + send(e)
+        + all_of_them
+        + END
+    )
+
+
 def cut():
     """A feed that ends within its last block, one byte early."""
     a, b = block(1, G), block(2, G)
@@ -120,7 +175,10 @@ def full():
     return HEAD + b"".join(map(send, blocks)) + send(blocks[0]) + END
 
 
-FEEDS = {feed.__name__: feed for feed in (first, waiting, refused, cut, malformed, cycle, full)}
+FEEDS = {
+    feed.__name__: feed
+    for feed in (first, waiting, refused, spends, cut, malformed, cycle, full)
+}
 
 
 def main(words):

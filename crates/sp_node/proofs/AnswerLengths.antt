@@ -27,13 +27,16 @@ use Rattle.sp_pool.specs.declared.answers.Standing.{Standing}
 use Rattle.sp_pool.specs.declared.answers.Standing.TheVariants as standing
 use Rattle.sp_pool.proofs.Parents.{keys-graph_of}
 use Rattle.sp_pool.proofs.Standings.{from_fresh}
+use Rattle.sp_carry.specs.declared.state.TxState.{TxState}
+use Rattle.sp_carry.specs.declared.state.TxState.TheVariants as tx_is
 use Rattle.sp_engine.specs.Arrivals.{answer_by, answer_of, answer_to, joined, valid_in}
 use Rattle.sp_engine.specs.declared.answer.Answer.TheVariants.{Kept, Held}
 use Rattle.sp_engine.specs.declared.answer.Refusal.{Refusal}
 use Rattle.sp_engine.specs.declared.answer.Refusal.TheVariants.{Spelling, Work}
-use Rattle.sp_report.specs.Lines.{answer_text, full_text, hex_label, kept_text, known_text, refused_text, vote_text, waiting_text, word_text}
+use Rattle.sp_engine.specs.Transactions.{state_of}
+use Rattle.sp_report.specs.Lines.{answer_text, full_text, hex_label, kept_text, known_text, refused_text, state_text, tx_text, vote_text, waiting_text, word_text}
 use Rattle.sp_report.specs.Reasons.{block_reason, reason, tx_reason}
-use Rattle.sp_feed.specs.Kinds.{SaysBlock, SaysVote}
+use Rattle.sp_feed.specs.Kinds.{SaysBlock, SaysVote, SaysTx}
 use Rattle.sp_node.specs.Answers.{line_of}
 use Rattle.sp_node.specs.Messages.{AnswersAreLines, IsLine}
 
@@ -108,6 +111,11 @@ short_word word_is.Tie = omega arith
 short_word word_is.Same = omega arith
 short_word word_is.Absent = omega arith
 
+short_state : (s : TxState) → length (state_text s) ≤ 8
+short_state tx_is.Accepted = omega arith
+short_state tx_is.Rejected = omega arith
+short_state tx_is.Absent = omega arith
+
 -- ---- lines
 
 is_line : (front : List ℕ) → length front ≤ 191 → IsLine (front ++ 10 ∷ [])
@@ -162,6 +170,14 @@ vote_is_line x y w =
     let all : length (codes "vote " ++ hex_label x ++ 32 ∷ [] ++ hex_label y ++ 32 ∷ [] ++ word_text w) ≤ 141 = longer (codes "vote " ++ hex_label x ++ 32 ∷ [] ++ hex_label y ++ 32 ∷ []) (word_text w) 135 6 spaces (short_word w) in
     is_line (codes "vote " ++ hex_label x ++ 32 ∷ [] ++ hex_label y ++ 32 ∷ [] ++ word_text w) (omega (arith, all))
 
+tx_is_line : (id : ℕ) (s : TxState) → IsLine (tx_text (hex_label id) s)
+unfolding tx_text
+tx_is_line id s =
+    let named : length (codes "tx " ++ hex_label id) ≤ 67 = longer (codes "tx ") (hex_label id) 3 64 (omega arith) (label_fits id) in
+    let space : length (codes "tx " ++ hex_label id ++ 32 ∷ []) ≤ 68 = longer (codes "tx " ++ hex_label id) (32 ∷ []) 67 1 named (omega arith) in
+    let all : length (codes "tx " ++ hex_label id ++ 32 ∷ [] ++ state_text s) ≤ 76 = longer (codes "tx " ++ hex_label id ++ 32 ∷ []) (state_text s) 68 8 space (short_state s) in
+    is_line (codes "tx " ++ hex_label id ++ 32 ∷ [] ++ state_text s) (omega (arith, all))
+
 -- ---- answers
 
 module _ (kept : List ReadBlock) where
@@ -189,3 +205,4 @@ pub answers_are_lines : AnswersAreLines
 unfolding line_of answer_of
 answers_are_lines bits kept (SaysBlock bytes) = judged_is_line kept (valid_in bits bytes)
 answers_are_lines bits kept (SaysVote x y) = vote_is_line x y (word (graph_of kept) (present kept) x y)
+answers_are_lines bits kept (SaysTx id) = tx_is_line id (state_of kept id)

@@ -5,7 +5,7 @@ use Rattle.std.proofs.lemmas.List.{append-nil}
 use Rattle.std.proofs.lemmas.List.Sums.{fold_push}
 use Rattle.sp_block.specs.Block.{ReadBlock}
 use Rattle.sp_engine.specs.Arrivals.{kept_after, kept_by_all}
-use Rattle.sp_feed.specs.Kinds.{Said, SaysBlock, SaysVote}
+use Rattle.sp_feed.specs.Kinds.{Said, SaysBlock, SaysVote, SaysTx}
 use Rattle.sp_node.specs.Answers.{answers, arrivals_of, kept_then, line}
 use Rattle.sp_node.specs.Messages.{AnswersInTurn, KeptByMessages}
 
@@ -17,6 +17,7 @@ kept_by_all-push bits genesis arrivals bytes = fold_push (kept_after bits) (gene
 pub kept_then_by_all : (bits : ℕ) (genesis : ReadBlock) (arrivals : List (List ℕ)) (m : Said) → kept_then bits (kept_by_all bits genesis arrivals) m ≡ kept_by_all bits genesis (arrivals ++ arrivals_of m)
 kept_then_by_all bits genesis arrivals (SaysBlock bytes) = sym (kept_by_all-push bits genesis arrivals bytes)
 kept_then_by_all bits genesis arrivals (SaysVote x y) = ap (kept_by_all bits genesis) (sym (append-nil arrivals))
+kept_then_by_all bits genesis arrivals (SaysTx id) = ap (kept_by_all bits genesis) (sym (append-nil arrivals))
 
 -- many messages more
 pub kept_by_messages : (bits : ℕ) (genesis : ReadBlock) (arrivals : List (List ℕ)) (messages : List Said) → fold (kept_then bits) (kept_by_all bits genesis arrivals) messages ≡ kept_by_all bits genesis (arrivals ++ flat_map arrivals_of messages)

@@ -3,15 +3,16 @@
 ghost use Rattle.std.specs.Prelude.{◌≡◌, ◌≢◌, ◌≤◌, ◌∷◌, [], ℕ, false, true, Err, is_err, IfErr, IfOk, IfSome, IsSome, OnErr, OnOk, Some};
 ghost use Rattle.std.specs.Io.KnownBytes.{Appends};
 ghost use Rattle.sp_io.specs.Whole.{AppendsFront};
-ghost use Rattle.sp_feed.specs.Kinds.{SaysBlock, SaysVote};
+ghost use Rattle.sp_feed.specs.Kinds.{SaysBlock, SaysVote, SaysTx};
 ghost use Rattle.sp_feed.specs.Messages.{said_by};
 ghost use Rattle.sp_node.specs.Answers.{kept_then, line_of};
+ghost use Rattle.sp_report.specs.Asks.{ask_text};
 ghost use Rattle.sp_node.specs.Node.{HasNodeCause};
 
 use crate::fault::NodeFault;
 use sp_engine::Engine;
 use sp_feed::{FeedHead, Message};
-use sp_ids::{BlockId, Memory};
+use sp_ids::Memory;
 use sp_io::Sink;
 use sp_report::{Ask, Naming, answer_line, ask_line};
 use std::alloc::Global;
@@ -56,12 +57,13 @@ impl Node {
     }
 
     /// Answers a message that isn't the end: writes the line of what became of the block, or of
-    /// what the present blocks say of two blocks.
+    /// what the present blocks say of two blocks or of a transaction. A question takes no memory.
     ///
     /// # Errors
     ///
     /// `WriteFault` where the sink failed; a block is kept all the same. `Memory` where there was
     /// none for a block; nothing was written. The node is stopped from then on.
+    #[tactic(auto, unfolding(crate::specs::Answers::line_of))]
     pub fn message<K: Sink>(
         &mut self,
         message: &Message<'_>,
@@ -92,13 +94,16 @@ impl Node {
         ensures quiet { result ≢ Err NodeFault.WriteFault → K.faults sink.new ≡ K.faults sink.old }
         ensures vote { (x y : ℕ) → said_by message.now ≡ Some (SaysVote x y)
             → result ≢ Err NodeFault.Memory }
+        ensures tx { (id : ℕ) → said_by message.now ≡ Some (SaysTx id)
+            → result ≢ Err NodeFault.Memory }
         ensures later { K.faults sink.old ≤ K.faults sink.new }
 
         ensures stopped { self.new.stopped ≡ is_err result }
     {
         match message {
             Message::Block(bytes) => self.arrive(bytes, naming, sink),
-            Message::Vote(x, y) => self.ask(x, y, naming, sink),
+            Message::Vote(x, y) => self.ask(&Ask::Vote(*x, *y), naming, sink),
+            Message::Tx(id) => self.ask(&Ask::Tx(*id), naming, sink),
             Message::End => unreachable!(),
         }
     }
@@ -150,30 +155,27 @@ impl Node {
         Ok(())
     }
 
-    // Writes what the present blocks say of two blocks.
-    #[tactic(auto, unfolding(crate::specs::Answers::line_of))]
+    // Writes what the present blocks say of what is asked.
     fn ask<K: Sink>(
         &mut self,
-        x: &BlockId,
-        y: &BlockId,
+        ask: &Ask,
         naming: &Naming,
         sink: &mut K,
     ) -> Result<(), NodeFault>
         requires { self.old.stopped ≡ false }
-        ensures ok { OnOk result (Appends (K.taken sink.old) (K.taken sink.new)
-            (line_of self.old.bits self.old.kept (SaysVote x.now y.now))) }
+        ensures ok { OnOk result
+            (Appends (K.taken sink.old) (K.taken sink.new) (ask_text self.old.kept ask.now)) }
         ensures kept { self.new.kept ≡ self.old.kept }
         ensures bits { self.new.bits ≡ self.old.bits }
-        ensures err { OnErr result (AppendsFront (K.taken sink.old) (K.taken sink.new)
-            (line_of self.old.bits self.old.kept (SaysVote x.now y.now))) }
+        ensures err { OnErr result
+            (AppendsFront (K.taken sink.old) (K.taken sink.new) (ask_text self.old.kept ask.now)) }
         ensures never { result ≢ Err NodeFault.Memory }
         ensures cause { IfErr result (HasNodeCause (K.faults sink.old) (K.faults sink.new)) }
         ensures quiet { result ≢ Err NodeFault.WriteFault → K.faults sink.new ≡ K.faults sink.old }
         ensures later { K.faults sink.old ≤ K.faults sink.new }
         ensures stopped { self.new.stopped ≡ is_err result }
     {
-        let ask = Ask::Vote(*x, *y);
-        match ask_line(&self.engine, &ask, naming, sink) {
+        match ask_line(&self.engine, ask, naming, sink) {
             Ok(()) => Ok(()),
             Err(_) => {
                 self.stopped = true;

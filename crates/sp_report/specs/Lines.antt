@@ -5,6 +5,8 @@ use Rattle.hex.specs.Hex.{encode_lower}
 use Rattle.sp_ids.specs.Key.{bytes_of}
 use Rattle.sp_model.specs.declared.word.Word.{Word}
 use Rattle.sp_model.specs.declared.word.Word.TheVariants as word_is
+use Rattle.sp_carry.specs.declared.state.TxState.{TxState}
+use Rattle.sp_carry.specs.declared.state.TxState.TheVariants as tx_is
 use Rattle.sp_engine.specs.declared.answer.Answer.{Answer}
 use Rattle.sp_engine.specs.declared.answer.Answer.TheVariants.{Kept, Held, Known, Refused, Full}
 use Rattle.sp_engine.specs.declared.answer.Refusal.{Refusal}
@@ -53,6 +55,16 @@ word_text word_is.Absent = codes "absent"
 -- what is said of two blocks, the first and the second one asked for
 unfoldable pub vote_text : List ℕ → List ℕ → Word → List ℕ
 vote_text x y word = codes "vote " ++ x ++ 32 ∷ [] ++ y ++ 32 ∷ [] ++ word_text word ++ 10 ∷ []
+
+-- the word for the state of a transaction
+abbrev pub state_text : TxState → List ℕ
+state_text tx_is.Accepted = codes "accepted"
+state_text tx_is.Rejected = codes "rejected"
+state_text tx_is.Absent = codes "absent"
+
+-- what is said of a transaction
+unfoldable pub tx_text : List ℕ → TxState → List ℕ
+tx_text label state = codes "tx " ++ label ++ 32 ∷ [] ++ state_text state ++ 10 ∷ []
 
 -- a feed that breaks its rules at a place
 unfoldable pub malformed_text : ℕ → List ℕ

@@ -1,10 +1,12 @@
 //! What is asked of the engine. It stands apart from the lines because the definitions cite it.
 
-use sp_ids::BlockId;
+use sp_ids::{BlockId, TxId};
 
 /// What is asked of the present blocks.
 #[derive(Clone, Copy, Debug, PartialEq, Eq)]
 pub enum Ask {
     /// The order of two blocks, the first of them first.
     Vote(BlockId, BlockId),
+    /// The state of a transaction.
+    Tx(TxId),
 }

@@ -8,8 +8,8 @@ ghost use Rattle.sp_report.specs.Asks.{ask_text};
 
 use crate::ask::Ask;
 use crate::line::Line;
-use crate::lines::vote_line;
-use crate::naming::{Naming, label};
+use crate::lines::{tx_line, vote_line};
+use crate::naming::{Naming, label, tx_label};
 use sp_engine::Engine;
 use sp_io::{Failed, Sink, write_whole};
 
@@ -23,6 +23,7 @@ fn line_of(engine: &Engine, ask: &Ask, naming: &Naming) -> Line
             let word = engine.vote(x, y);
             vote_line(&label(naming, x), &label(naming, y), word)
         }
+        Ask::Tx(id) => tx_line(&tx_label(naming, id), engine.tx_state(id)),
     }
 }
 

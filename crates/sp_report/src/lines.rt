@@ -2,12 +2,12 @@
 //! ways elsewhere.
 
 ghost use Rattle.std.specs.Prelude.{◌≡◌, ◌≤◌, length};
-ghost use Rattle.sp_report.specs.Lines.{full_text, kept_text, known_text, refused_text, vote_text, waiting_text};
+ghost use Rattle.sp_report.specs.Lines.{full_text, kept_text, known_text, refused_text, tx_text, vote_text, waiting_text};
 ghost use Rattle.sp_report.specs.Lines as meant;
 
 use crate::line::Line;
 use crate::reasons::reason;
-use sp_engine::Refusal;
+use sp_engine::{Refusal, TxState};
 use sp_model::Word;
 
 /// The line of a block that is kept and present, and of the number of blocks that became present
@@ -102,6 +102,33 @@ pub fn vote_line(x: &[u8], y: &[u8], word: Word) -> Line
     line.push_bytes(y);
     line.push_byte(b' ');
     line.push_bytes(word_text(word));
+    line.push_byte(b'\n');
+    line
+}
+
+// The word for the state of a transaction.
+fn state_text(state: TxState) -> &'static [u8]
+    ensures word { result.now ≡ meant.state_text state }
+    ensures short { length result.now ≤ 8 }
+{
+    match state {
+        TxState::Accepted => b"accepted",
+        TxState::Rejected => b"rejected",
+        TxState::Absent => b"absent",
+    }
+}
+
+/// The line of what is said of a transaction.
+#[tactic(auto, unfolding(crate::specs::Lines::tx_text))]
+pub fn tx_line(label: &[u8], state: TxState) -> Line
+    requires { length label.now ≤ 64 }
+    ensures { result ≡ tx_text label.now state }
+{
+    let mut line = Line::new();
+    line.push_bytes(b"tx ");
+    line.push_bytes(label);
+    line.push_byte(b' ');
+    line.push_bytes(state_text(state));
     line.push_byte(b'\n');
     line
 }

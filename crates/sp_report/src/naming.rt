@@ -1,11 +1,11 @@
-//! What stands in a line for a block.
+//! What stands in a line for a block or a transaction.
 
 ghost use Rattle.std.specs.Prelude.{◌≡◌, length};
 ghost use Rattle.sp_report.specs.Lines.{hex_label};
 
-use sp_ids::BlockId;
+use sp_ids::{BlockId, TxId};
 
-/// How the lines name blocks.
+/// How the lines name blocks and transactions.
 #[derive(Clone, Copy, Debug, PartialEq, Eq)]
 pub enum Naming {
     /// By the id, in 64 lower case hexadecimal digits.
@@ -22,6 +22,20 @@ pub(crate) fn label(naming: &Naming, id: &BlockId) -> [u8; 64]
             let mut label = [0; 64];
             id.to_hex(&mut label);
             label
+        }
+    }
+}
+
+// What stands in a line for the transaction of this id.
+#[tactic(auto, unfolding(crate::specs::Lines::hex_label))]
+pub(crate) fn tx_label(naming: &Naming, id: &TxId) -> [u8; 64]
+    ensures { result ≡ hex_label id.now }
+{
+    match naming {
+        Naming::Hex => {
+            let mut text = [0; 64];
+            id.to_hex(&mut text);
+            text
         }
     }
 }
