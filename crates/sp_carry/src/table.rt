@@ -104,12 +104,13 @@ impl Table {
         ensures ok { OnOk result (Keeps self.new (with_row (with_tx (carried_of self.old) tx.now) row)) }
         ensures err { OnErr result (Keeps self.new (carried_of self.old)) }
     {
-        let copy = copied(alloc, tx)?;
-        let list = Numbers::one(alloc, self.rows.len() as u32)?;
+        let number = self.rows.len() as u32;
         self.txs.reserve(1)?;
         self.by_tx.reserve(1)?;
         self.rows.reserve(1)?;
         self.ids.reserve(1)?;
+        let copy = copied(alloc, tx)?;
+        let list = Numbers::one(alloc, number)?;
         self.spenders.add(alloc, tx.inputs.as_slice(), row.tx)?;
         self.txs.push_reserved(copy);
         self.by_tx.push_reserved(list);

@@ -16,7 +16,7 @@ add-requires-clause-apart c = rw c.as_slice.ensures (inputs_apart _ c.tx.invaria
 
 pub returns-clause-ok : goal.returns-clause-ok
 returns-clause-ok c =
-    keeps_new c.args.self.now _ (carried_of c.args.self.now) c.args.tx.now c.args.row c.args.id c.len.result c.requires.kept refl
+    keeps_new c.args.self.now _ (carried_of c.args.self.now) c.args.tx.now c.args.row c.args.id c.len-number.result c.requires.kept refl
     (c.push_reserved.ensures.items
     ∙ ap (λ (xs : List Transaction). xs ++ c.in_ok-copy.copy ∷ []) c.in_ok-reserve.ensures.items
     ∙ ap (λ (x : Transaction). c.args.self.now.txs.items ++ x ∷ []) c.in_ok-copy.ensures)
@@ -28,4 +28,4 @@ returns-clause-ok c =
     ∙ ap (λ (xs : List (List ℕ)). xs ++ c.in_ok-list.list ∷ []) c.in_ok-reserve-2.ensures.items
     ∙ ap (λ (x : List ℕ). c.args.self.now.by_tx.items ++ x ∷ []) c.in_ok-list.ensures)
     (rw (c.as_slice.ensures ∙ ap (λ (t : Transaction). t.inputs) c.tx.view_is) at c.in_ok-add.ensures.ok)
-    c.requires.last (omega (arith, c.len.ensures, c.args.self.now.rows.ok)) c.requires.none
+    c.requires.last (omega (arith, c.len-number.ensures, c.args.self.now.rows.ok)) c.requires.none
