@@ -19,7 +19,7 @@ use Rattle.sp_feed.specs.declared.fault.FeedFault.{FeedFault}
 use Rattle.sp_feed.specs.declared.fault.FeedFault.TheVariants as faults
 use Rattle.sp_feed.specs.declared.fault.HeadFault.{HeadFault}
 use Rattle.sp_feed.specs.declared.fault.HeadFault.TheVariants as heads
-use Rattle.sp_feed.proofs.WholeFeeds.{all_end, all_memory, fault_onto, needs_next, onto, SoFar, so_far_head, so_far_more}
+use Rattle.sp_feed.proofs.WholeFeeds.{all_end, all_memory, fault_onto, needs_next, onto, so_far_head, so_far_more}
 use Rattle.sp_feed.proofs.Joining.{split_front, took_then}
 use Rattle.sp_io.specs.Whole.{AppendsAtLeast, AppendsFront, Wrote}
 use Rattle.sp_io.proofs.Writing.{appends_then, at_least, at_least_then, wrote_none, wrote_stops}
@@ -29,7 +29,7 @@ use Rattle.sp_node.specs.Node.{HasNodeCause}
 use Rattle.sp_node.specs.Answers.{answers, arrivals_of, kept_then, line, line_of}
 use Rattle.sp_node.proofs.AnswerLists.{answers-append, answers-push, kept_then_by_all}
 use Rattle.spectre.specs.Replay.{fed, feed_limit, lines_by, lines_under, message_lines, replied}
-use Rattle.spectre.specs.Replaying.{HasWriteCause, Replies, SaysReply}
+use Rattle.spectre.specs.Replaying.{Answering, HasWriteCause, Replies, SaysReply}
 use Rattle.spectre.specs.Taken.{AreAnswered, AreNeeded}
 use Rattle.spectre.specs.declared.replay.ReplayFault.TheVariants.{Feed, Memory, WriteFault}
 use Rattle.spectre.specs.Heads.{as_replay, of_node}
@@ -42,16 +42,6 @@ genesis_in g block kind =
 appends_none : (a : Option (List ℕ)) → Appends a a []
 appends_none None = tt
 appends_none (Some ws) = sym (append-nil ws)
-
--- the messages so far were answered, over the genesis block of the head
-pub record Answering (start now : Moment) (old new : Option (List ℕ)) (bits : ℕ) (kept : List ReadBlock) : Type 0 where
-  pub genesis : ReadBlock
-  pub spelled : block_in true genesis.bytes ≡ Ok genesis
-  pub messages : List Said
-  pub so_far : SoFar feed_limit start now (head_of bits genesis.bytes) [] messages
-  pub kept_is : kept ≡ kept_by_all bits genesis (flat_map arrivals_of messages)
-  pub wrote : Appends old new (answers genesis bits [] messages)
-  pub answered : AreAnswered old new so_far.given
 
 lines_are : (genesis : ReadBlock) (bits : ℕ) (messages : List Said) → block_in true genesis.bytes ≡ Ok genesis → lines_under (Some (head_of bits genesis.bytes)) messages ≡ answers genesis bits [] messages
 lines_are genesis bits messages spelled = ap (λ r. lines_by r bits messages) spelled

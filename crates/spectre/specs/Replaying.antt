@@ -1,11 +1,19 @@
 -- How the answering of a feed's messages can end.
-use Rattle.std.specs.Prelude.{◌≡◌, ℕ, List, ◌++◌, Option, Result, Ok, Err}
+use Rattle.std.specs.Prelude.{◌≡◌, ℕ, true, List, [], ◌++◌, Option, Result, Ok, Err}
+use Rattle.std.specs.List.{flat_map}
 use Rattle.std.specs.Io.KnownBytes.{Appends, IsAtEnd}
 use Rattle.sp_io.specs.Causes.{Rose}
 use Rattle.sp_io.specs.Whole.{AppendsFront}
+use Rattle.sp_block.specs.Block.{ReadBlock}
+use Rattle.sp_engine.specs.Arrivals.{kept_by_all}
+use Rattle.sp_engine.specs.Blocks.{block_in}
 use Rattle.sp_feed.specs.Feed.{End, Malformed, TooLong, Truncated, Whole}
+use Rattle.sp_feed.specs.Format.{head_of}
+use Rattle.sp_feed.specs.Kinds.{Said}
 use Rattle.sp_feed.specs.Reads.{Moment, Took}
 use Rattle.sp_feed.specs.declared.fault.FeedFault.TheVariants as faults
+use Rattle.sp_feed.proofs.WholeFeeds.{SoFar}
+use Rattle.sp_node.specs.Answers.{answers, arrivals_of}
 use Rattle.spectre.specs.Replay.{fed, feed_limit, replied}
 use Rattle.spectre.specs.Taken.{AreAnswered, AreNeeded}
 use Rattle.spectre.specs.declared.replay.ReplayFault.{ReplayFault}
@@ -35,6 +43,16 @@ pub record Replies (start now : Moment) (old new : Option (List ℕ)) (result : 
   pub needed : AreNeeded given
   pub answered : AreAnswered old new given
   pub says : SaysReply start now old new given result
+
+-- the messages so far were answered, over the genesis block of the head
+pub record Answering (start now : Moment) (old new : Option (List ℕ)) (bits : ℕ) (kept : List ReadBlock) : Type 0 where
+  pub genesis : ReadBlock
+  pub spelled : block_in true genesis.bytes ≡ Ok genesis
+  pub messages : List Said
+  pub so_far : SoFar feed_limit start now (head_of bits genesis.bytes) [] messages
+  pub kept_is : kept ≡ kept_by_all bits genesis (flat_map arrivals_of messages)
+  pub wrote : Appends old new (answers genesis bits [] messages)
+  pub answered : AreAnswered old new so_far.given
 
 -- the sink's count rose at a failed write
 abbrev pub HasWriteCause : ℕ → ℕ → ReplayFault → Type 0

@@ -1,17 +1,18 @@
 //! The answering of a feed: message by message up to its end or its first fault, each line written
 //! before a byte of the next message is taken.
 
-ghost use Rattle.std.specs.Prelude.{◌≡◌, ◌≢◌, ◌∷◌, [], ℕ, true, drop, Err, IfErr, IfOk, IfSome, List, Ok, Some};
+ghost use Rattle.std.specs.Prelude.{◌≡◌, ◌≢◌, ◌∷◌, [], ℕ, true, false, drop, Err, IfErr, IfOk, IfSome, IsTrue, List, None, Ok, Option, Some};
 ghost use Rattle.std.specs.Io.KnownBytes.{Appends, Consumes};
 ghost use Rattle.sp_io.specs.Causes.{Rose};
 ghost use Rattle.sp_io.specs.Whole.{AppendsFront};
 ghost use Rattle.sp_engine.specs.Blocks.{block_in};
-ghost use Rattle.sp_feed.specs.Reads.{moment};
+ghost use Rattle.sp_feed.specs.Reader.{Behind, is_open};
+ghost use Rattle.sp_feed.specs.Reads.{Moment, moment};
 ghost use Rattle.sp_node.specs.Node.{state};
 ghost use Rattle.spectre.specs.Ends.{Replays};
 ghost use Rattle.spectre.specs.Faults.{EndsMalformed, EndsTooLong, EndsTruncated, EndsWhole, feed_fault_text, rest_behind, status_of};
 ghost use Rattle.spectre.specs.Replay.{fed, feed_limit, replayed, replied};
-ghost use Rattle.spectre.specs.Replaying.{HasWriteCause, Replies};
+ghost use Rattle.spectre.specs.Replaying.{Answering, HasWriteCause, Replies};
 ghost use Rattle.spectre.specs.Taken.{TakesFeed};
 
 use crate::status::Status;
@@ -94,6 +95,39 @@ fn node_of(alloc: Global, head: FeedHead) -> Result<Node, Refused>
     Node::plain(alloc, FeedHead { bits, genesis })
 }
 
+/// Answers each message behind the head. It owns neither the reader nor the node, so that its proof
+/// has no drop in it.
+fn answer_rest<S: Source, K: Sink>(
+    reader: &mut FeedReader,
+    node: &mut Node,
+    source: &mut S,
+    sink: &mut K,
+) -> Result<(), ReplayFault>
+    requires limit { reader.old.limit ≡ feed_limit }
+    requires opened { IsTrue (is_open reader.old.stage) }
+    requires unended { reader.old.stage ≢ Behind None }
+    requires live { node.old.stopped ≡ false }
+    ensures replies { (start : Moment) (old : Option (List ℕ)) → Answering start
+        (moment (S.left source.old) (S.faults source.old) reader.old.taken)
+        old (K.taken sink.old) node.old.bits node.old.kept → Replies start
+        (moment (S.left source.new) (S.faults source.new) reader.new.taken)
+        old (K.taken sink.new) result }
+    ensures cause { IfErr result (HasWriteCause (K.faults sink.old) (K.faults sink.new)) }
+    ensures read_quiet { result ≢ Err (ReplayFault.Feed FeedFault.ReadFault)
+        → S.faults source.new ≡ S.faults source.old }
+    ensures write_quiet { result ≢ Err ReplayFault.WriteFault
+        → K.faults sink.new ≡ K.faults sink.old }
+{
+    'messages: loop {
+        reader.next(source)?;
+        let message = reader.message();
+        match message {
+            Message::End => return Ok(()),
+            _ => node.message(&message, &Naming::Hex, sink)?,
+        }
+    }
+}
+
 /// Answers each message of a feed.
 fn answer_messages<S: Source, K: Sink>(
     alloc: Global,
@@ -113,14 +147,7 @@ fn answer_messages<S: Source, K: Sink>(
     let mut reader = FeedReader::new(alloc)?;
     let head = reader.head(source)?;
     let mut node = node_of(alloc, head)?;
-    'messages: loop {
-        reader.next(source)?;
-        let message = reader.message();
-        match message {
-            Message::End => return Ok(()),
-            _ => node.message(&message, &Naming::Hex, sink)?,
-        }
-    }
+    answer_rest(&mut reader, &mut node, source, sink)
 }
 
 /// The line of a feed's fault; none where a read failed.

@@ -1,14 +1,8 @@
-use Rattle.std.proofs.Common.{◌≡◌, ◌∙◌, None, Some, Err, IfSome, Option, refl, ap, sym, subst, arith}
-use Rattle.std.specs.Io.KnownBytes.{Appends}
+use Rattle.std.proofs.Common.{◌∙◌, Err, ap, arith, refl}
 use Rattle.std.proofs.lemmas.Result.{err_from_is_err_and}
-use Rattle.sp_io.specs.Whole.{AppendsFront}
-use Rattle.sp_feed.specs.Kinds.{Said}
-use Rattle.sp_feed.specs.Reader.{last_of}
 use Rattle.sp_feed.specs.Reads.{moment}
-use Rattle.sp_feed.proofs.WholeFeeds.{behind_open, from_limit, from_start, not_behind, opened, tells}
-use Rattle.sp_node.specs.Answers.{kept_then, line_of}
-use Rattle.spectre.specs.declared.replay.ReplayFault.TheVariants.{Feed}
-use Rattle.spectre.proofs.Replies.{at_end, at_fault, at_head, head_fault, not_answered, nothing_behind_head, nothing_read, one_more, quiet_head, quiet_next, quiet_node, stop_cause}
+use Rattle.sp_feed.proofs.WholeFeeds.{from_start, not_behind, opened}
+use Rattle.spectre.proofs.Replies.{at_head, head_fault, nothing_behind_head, nothing_read, quiet_head}
 use Rattle.spectre.proofs.replay.answer_messages.Goals as goal
 
 pub returns-in_err-reader-clause-replies : goal.returns-in_err-reader-clause-replies
@@ -22,81 +16,35 @@ returns-in_err-head-clause-replies g c =
     let p = err_from_is_err_and c.from_residual-in_err-head.result c.from_residual-in_err-head.ensures.1 in
     rw (p.1, p.2) (c.head.new.self.taken, head_fault (g.K.Sink.taken c.args.sink.now) _ (from_start (ap (λ r. r.limit) c.in_ok-reader.ensures) (ap (λ r. r.taken) c.in_ok-reader.ensures) c.in_err-head.ensures.gives))
 
+pub returns-in_err-head-clause-read_quiet : goal.returns-in_err-head-clause-read_quiet
+returns-in_err-head-clause-read_quiet g c =
+    let p = err_from_is_err_and c.from_residual-in_err-head.result c.from_residual-in_err-head.ensures.1 in
+    rw (p.1, p.2) (λ other. quiet_head _ _ _ c.in_err-head.ensures.quiet (λ h. other (ap (λ t. Err t) h)))
+
 pub returns-in_err-node-clause-replies : goal.returns-in_err-node-clause-replies
 returns-in_err-node-clause-replies g c =
     let p = err_from_is_err_and c.from_residual-in_err-node.result c.from_residual-in_err-node.ensures.1 in
     let gives = from_start (ap (λ r. r.limit) c.in_ok-reader.ensures) (ap (λ r. r.taken) c.in_ok-reader.ensures) c.in_ok-head.ensures.gives in
     rw (p.1, p.2) (c.head.new.self.taken, nothing_behind_head (g.K.Sink.taken c.args.sink.now) gives)
 
-pub messages-init : goal.messages-init
-messages-init g c = record {
-  limit = c.in_ok-head.ensures.limit ∙ ap (λ r. r.limit) c.in_ok-reader.ensures;
-  opened = opened _ c.in_ok-head.ensures.ok;
-  unended = not_behind _ c.in_ok-head.ensures.ok;
-  live = ap (λ n. n.stopped) c.in_ok-node.ensures.node;
-  answering = at_head (g.K.Sink.taken c.args.sink.now) refl (from_start (ap (λ r. r.limit) c.in_ok-reader.ensures) (ap (λ r. r.taken) c.in_ok-reader.ensures) c.in_ok-head.ensures.gives)
-      c.in_ok-node.ensures.genesis (ap (λ n. n.bits) c.in_ok-node.ensures.node) (ap (λ n. n.kept) c.in_ok-node.ensures.node);
-  read_quiet = c.in_ok-head.ensures.quiet;
-  write_quiet = refl;
-}
+pub answer_rest-requires-clause-limit : goal.answer_rest-requires-clause-limit
+answer_rest-requires-clause-limit g c = c.in_ok-head.ensures.limit ∙ ap (λ r. r.limit) c.in_ok-reader.ensures
 
-pub returns-in_err-next-clause-replies : goal.returns-in_err-next-clause-replies
-returns-in_err-next-clause-replies g c =
-    let p = err_from_is_err_and c.from_residual-in_err-next.result c.from_residual-in_err-next.ensures.1 in
-    rw (p.1, p.2) (c.next.new.self.taken, at_fault c.messages.invariant.answering (from_limit c.messages.invariant.limit (c.in_err-next.ensures.gives c.messages.invariant.unended)))
+pub answer_rest-requires-clause-opened : goal.answer_rest-requires-clause-opened
+answer_rest-requires-clause-opened g c = opened _ c.in_ok-head.ensures.ok
 
-pub returns-in_err-head-clause-read_quiet : goal.returns-in_err-head-clause-read_quiet
-returns-in_err-head-clause-read_quiet g c =
-    let p = err_from_is_err_and c.from_residual-in_err-head.result c.from_residual-in_err-head.ensures.1 in
-    rw (p.1, p.2) (λ other. quiet_head _ _ _ c.in_err-head.ensures.quiet (λ h. other (ap (λ t. Err t) h)))
+pub answer_rest-requires-clause-unended : goal.answer_rest-requires-clause-unended
+answer_rest-requires-clause-unended g c = not_behind _ c.in_ok-head.ensures.ok
 
-pub returns-in_err-next-clause-read_quiet : goal.returns-in_err-next-clause-read_quiet
-returns-in_err-next-clause-read_quiet g c =
-    let p = err_from_is_err_and c.from_residual-in_err-next.result c.from_residual-in_err-next.ensures.1 in
-    rw (p.1, p.2) (λ other. quiet_next _ _ _ c.in_err-next.ensures.quiet (λ h. other (ap (λ t. Err (Feed t)) h)) ∙ c.messages.invariant.read_quiet)
+pub answer_rest-requires-clause-live : goal.answer_rest-requires-clause-live
+answer_rest-requires-clause-live g c = ap (λ n. n.stopped) c.in_ok-node.ensures.node
 
-pub returns-in_err-next-clause-cause : goal.returns-in_err-next-clause-cause
-returns-in_err-next-clause-cause g c =
-    let p = err_from_is_err_and c.from_residual-in_err-next.result c.from_residual-in_err-next.ensures.1 in
-    rw (p.1, p.2) tt
+pub returns-clause-replies : goal.returns-clause-replies
+returns-clause-replies g c =
+    let start = moment (g.S.Source.left c.args.source.now) (g.S.Source.faults c.args.source.now) 0 in
+    let gives = from_start (ap (λ r. r.limit) c.in_ok-reader.ensures) (ap (λ r. r.taken) c.in_ok-reader.ensures) c.in_ok-head.ensures.gives in
+    let old = g.K.Sink.taken c.args.sink.now in
+    (c.answer_rest.new.reader.taken, c.answer_rest.ensures.replies start old (at_head old refl gives c.in_ok-node.ensures.genesis (ap (λ n. n.bits) c.in_ok-node.ensures.node) (ap (λ n. n.kept) c.in_ok-node.ensures.node)))
 
-pub returns-in-End-clause-replies : goal.returns-in-End-clause-replies
-returns-in-End-clause-replies g c =
-    (c.next.new.self.taken, at_end c.messages.invariant.answering (from_limit c.messages.invariant.limit (c.in_ok-next.ensures.gives c.messages.invariant.unended)) (sym c.in-End.ensures))
-
-pub messages-preserved : goal.messages-preserved
-messages-preserved g c =
-    let s = tells c.message-message.result c.in_default.not-End in
-    let is : last_of c.next.new.self.stage ≡ Some s.0 = sym c.message-message.ensures ∙ s.1 in
-    let bits = c.messages.node.bits in
-    let kept = c.messages.node.kept in
-    record {
-      limit = c.in_ok-next.ensures.limit ∙ c.messages.invariant.limit;
-      opened = behind_open _ c.in_ok-next.ensures.ok;
-      unended = λ e. let no : None ≡ Some s.0 = sym (ap last_of e) ∙ is in cc;
-      live = c.in_ok-message-in_default.ensures.stopped;
-      answering = one_more s.0 c.messages.invariant.answering (from_limit c.messages.invariant.limit (c.in_ok-next.ensures.gives c.messages.invariant.unended)) is
-          (subst (λ (o : Option Said). IfSome o (λ said. Appends (g.K.Sink.taken c.messages.sink) (g.K.Sink.taken c.message.new.sink) (line_of bits kept said))) s.1 c.in_ok-message-in_default.ensures.ok)
-          (subst (λ (o : Option Said). IfSome o (λ said. c.message.new.self.kept ≡ kept_then bits kept said)) s.1 c.in_ok-message-in_default.ensures.kept)
-          c.in_ok-message-in_default.ensures.bits;
-      read_quiet = c.in_ok-next.ensures.quiet ∙ c.messages.invariant.read_quiet;
-      write_quiet = c.in_ok-message-in_default.ensures.quiet (λ h. cc) ∙ c.messages.invariant.write_quiet;
-    }
-
-pub returns-in_err-message-in_default : goal.returns-in_err-message-in_default
-returns-in_err-message-in_default g c =
-    let p = err_from_is_err_and c.from_residual-in_err-message-in_default.result c.from_residual-in_err-message-in_default.ensures.1 in
-    let s = tells c.message-message.result c.in_default.not-End in
-    let is : last_of c.next.new.self.stage ≡ Some s.0 = sym c.message-message.ensures ∙ s.1 in
-    let bits = c.messages.node.bits in
-    let kept = c.messages.node.kept in
-    let front = subst (λ (o : Option Said). IfSome o (λ said. AppendsFront (g.K.Sink.taken c.messages.sink) (g.K.Sink.taken c.message.new.sink) (line_of bits kept said))) s.1 c.in_err-message-in_default.ensures.err in
-    rw (p.1, p.2) (record {
-      replies = (
-        c.next.new.self.taken,
-        not_answered _ s.0 c.messages.invariant.answering (from_limit c.messages.invariant.limit (c.in_ok-next.ensures.gives c.messages.invariant.unended)) is front,
-      );
-      cause = stop_cause _ (g.K.Sink.faults c.args.sink.now) (g.K.Sink.faults c.messages.sink) (g.K.Sink.faults c.message.new.sink) c.messages.invariant.write_quiet c.in_err-message-in_default.ensures.cause;
-      read_quiet = λ _. c.in_ok-next.ensures.quiet ∙ c.messages.invariant.read_quiet;
-      write_quiet = λ other. quiet_node _ _ _ (λ k. c.in_err-message-in_default.ensures.quiet (λ h. k cc)) (λ h. other (ap (λ t. Err t) h)) ∙ c.messages.invariant.write_quiet;
-    })
+pub returns-clause-read_quiet : goal.returns-clause-read_quiet
+returns-clause-read_quiet g c = λ other. c.answer_rest.ensures.read_quiet other ∙ c.in_ok-head.ensures.quiet

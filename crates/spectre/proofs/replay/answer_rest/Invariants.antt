@@ -1,9 +1,9 @@
-use Rattle.std.proofs.Common.{◌≡◌, ◌-◌, None, IsTrue, false}
+use Rattle.std.proofs.Common.{◌≡◌, ◌-◌, ℕ, List, None, Option, IsTrue, false}
 use Rattle.sp_feed.specs.Reader.{Behind, is_open}
-use Rattle.sp_feed.specs.Reads.{moment}
+use Rattle.sp_feed.specs.Reads.{Moment, moment}
 use Rattle.spectre.specs.Replay.{feed_limit}
-use Rattle.spectre.proofs.Replies.{Answering}
-use Rattle.spectre.proofs.replay.answer_messages.Given as goal
+use Rattle.spectre.specs.Replaying.{Answering}
+use Rattle.spectre.proofs.replay.answer_rest.Given as goal
 
 abbrev pub invariant-messages : goal.invariant-messages
 invariant-messages g l =
@@ -13,7 +13,8 @@ invariant-messages g l =
       opened : IsTrue (is_open l.reader.stage);
       unended : l.reader.stage ≡ Behind None → ⊥;
       live : l.node.stopped ≡ false;
-      answering : Answering (moment (left l.fn.source) (faults l.fn.source) 0) (moment (left l.source) (faults l.source) l.reader.taken) (taken l.fn.sink) (taken l.sink) l.node.bits l.node.kept;
+      answering : (start : Moment) (old : Option (List ℕ)) → Answering start (moment (left l.fn.source) (faults l.fn.source) l.fn.reader.taken) old (taken l.fn.sink) l.fn.node.bits l.fn.node.kept
+          → Answering start (moment (left l.source) (faults l.source) l.reader.taken) old (taken l.sink) l.node.bits l.node.kept;
       read_quiet : faults l.source ≡ faults l.fn.source;
       write_quiet : g.K.Sink.faults l.sink ≡ g.K.Sink.faults l.fn.sink;
     }
