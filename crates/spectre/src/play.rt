@@ -156,16 +156,23 @@ fn write_fault<K: Sink>(number: u32, why: Why, sink: &mut K) -> Result<(), Stop>
     Ok(())
 }
 
-/// Plays a scenario up to its first fault, and writes that fault's line.
-fn play_text<K: Sink>(alloc: Global, text: &[u8], sink: &mut K) -> Result<Ending, Stop>
-    requires { length text.now < scenario_limit }
+/// Plays a scenario over genesis alone up to its first fault, and writes that fault's line. It
+/// doesn't own the table, so that its proof has no drop of it.
+fn play_lines<K: Sink>(
+    alloc: Global,
+    table: &mut Table,
+    text: &[u8],
+    sink: &mut K,
+) -> Result<Ending, Stop>
+    requires short { length text.now < scenario_limit }
+    requires names { table.old.names.items ≡ meant.first_names }
+    requires blocks { table.old.blocks ≡ first_blocks }
     ensures ok { OnOk result (Appends (K.taken sink.old) (K.taken sink.new) (played text.now)) }
     ensures ending { IfOk result (EndsAs text.now) }
     ensures err { OnErr result (AppendsFront (K.taken sink.old) (K.taken sink.new) (played text.now)) }
     ensures cause { IfErr result (HasStopCause (K.faults sink.old) (K.faults sink.new)) }
     ensures quiet { result ≢ Err Stop.WriteFault → K.faults sink.new ≡ K.faults sink.old }
 {
-    let mut table = Table::new(alloc)?;
     let mut rest = Some(text);
     let mut number = 1u32;
     'lines: loop {
@@ -183,6 +190,19 @@ fn play_text<K: Sink>(alloc: Global, text: &[u8], sink: &mut K) -> Result<Ending
         number += 1;
         rest = after;
     }
+}
+
+/// Plays a scenario up to its first fault, and writes that fault's line.
+fn play_text<K: Sink>(alloc: Global, text: &[u8], sink: &mut K) -> Result<Ending, Stop>
+    requires { length text.now < scenario_limit }
+    ensures ok { OnOk result (Appends (K.taken sink.old) (K.taken sink.new) (played text.now)) }
+    ensures ending { IfOk result (EndsAs text.now) }
+    ensures err { OnErr result (AppendsFront (K.taken sink.old) (K.taken sink.new) (played text.now)) }
+    ensures cause { IfErr result (HasStopCause (K.faults sink.old) (K.faults sink.new)) }
+    ensures quiet { result ≢ Err Stop.WriteFault → K.faults sink.new ≡ K.faults sink.old }
+{
+    let mut table = Table::new(alloc)?;
+    play_lines(alloc, &mut table, text, sink)
 }
 
 /// Writes the line of a scenario that is too long.

@@ -88,11 +88,22 @@ struct Ended {
     rest: Rest,
 }
 
-fn words_of(alloc: Global, lines: &[u8]) -> Result<Vec<String>, Fail> {
-    let mut words = Vec::new(alloc);
-    for word in str::from_utf8(lines)?.lines() {
-        words.push(String::from_str(alloc, word)?)?;
+fn put_word(words: &mut Vec<String>, alloc: Global, word: &str) -> Result<(), Fail> {
+    words.push(String::from_str(alloc, word)?)?;
+    Ok(())
+}
+
+fn put_words(words: &mut Vec<String>, alloc: Global, lines: &str) -> Result<(), Fail> {
+    for word in lines.lines() {
+        put_word(words, alloc, word)?;
     }
+    Ok(())
+}
+
+fn words_of(alloc: Global, lines: &[u8]) -> Result<Vec<String>, Fail> {
+    let text = str::from_utf8(lines)?;
+    let mut words = Vec::new(alloc);
+    put_words(&mut words, alloc, text)?;
     Ok(words)
 }
 

@@ -1,10 +1,16 @@
 use Rattle.std.proofs.Common.{◌∙◌, List, ℕ, ap, subst}
 use Rattle.std.specs.Io.KnownBytes.{Appends}
 use Rattle.sp_io.specs.Whole.{AppendsFront}
-use Rattle.sp_io.proofs.Stops.{on_err}
+use Rattle.sp_io.proofs.Stops.{on_err, stops_at_start}
 use Rattle.sp_report.specs.Lines.{kept_text}
 use Rattle.spectre.proofs.KeptLine.{line_present}
 use Rattle.spectre.proofs.play.Table.keep.Goals as goal
+
+pub returns-in_err-reserve-clause-err : goal.returns-in_err-reserve-clause-err
+returns-in_err-reserve-clause-err g c = stops_at_start c.from_residual.result _ _
+
+pub returns-in_err-add-clause-err : goal.returns-in_err-add-clause-err
+returns-in_err-add-clause-err g c = stops_at_start c.from_residual-in_err-add.result _ _
 
 pub returns-in_err-write_whole-clause-err : goal.returns-in_err-write_whole-clause-err
 returns-in_err-write_whole-clause-err g c =

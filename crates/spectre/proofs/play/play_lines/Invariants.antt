@@ -1,7 +1,7 @@
 use Rattle.std.proofs.Common.{◌≡◌, ◌≤◌, ◌+◌, ℕ, length, Option, Some, None, option_copied, List}
 use Rattle.spectre.specs.Words.{lines_left}
 use Rattle.spectre.proofs.Progress.{Progress}
-use Rattle.spectre.proofs.play.play_text.Given as goal
+use Rattle.spectre.proofs.play.play_lines.Given as goal
 
 -- how many lines may be left at most
 abbrev pub room : Option (List ℕ) → ℕ
