@@ -1,5 +1,5 @@
 -- An engine of genesis alone.
-use Rattle.std.proofs.Common.{arith, ◌≡◌, ℕ, zero, suc, ◌≤◌, Bool, true, false, cond, List, [], ◌∷◌, get_or, length, map, refl, sym, ap, subst, ◌∙◌, eqb, Some, None}
+use Rattle.std.proofs.Common.{arith, ◌≡◌, ℕ, zero, suc, ◌≤◌, ◌<◌, Bool, true, false, cond, List, [], ◌∷◌, get_or, length, map, refl, sym, ap, subst, ◌∙◌, eqb, Some, None}
 use Rattle.std.specs.Prelude.{slice_get}
 use Rattle.std.specs.List.{list_all}
 use Rattle.std.specs.Option.{option_map}
@@ -10,7 +10,11 @@ use Rattle.sp_pool.specs.Kept.{AreKept, graph_of, node_of, present}
 use Rattle.sp_pool.proofs.KeptBlocks.{no_parents}
 use Rattle.sp_dag.specs.Numbered.{graph_of as numbered_graph, IsNumbered, number_of, Numbered}
 use Rattle.sp_plain.specs.Virts.{HasVirts, Virts}
+use Rattle.sp_tx.specs.Parts.{Transaction}
 use Rattle.sp_carry.specs.Carried.{Carried, IsCarried, nothing, with_block}
+use Rattle.sp_carry.proofs.Carrying.{block_carried, none_carried}
+use Rattle.sp_carry.proofs.Soundness.{sound_block}
+use Rattle.sp_accept.specs.Rows.{AreOf}
 use Rattle.sp_engine.specs.Engine.{AreCarried, AreNumbered, IsEngine, numbers}
 use Rattle.sp_engine.specs.Presence.{joining, order_from, order_of}
 use Rattle.sp_engine.specs.Transactions.{txs_of, txs_or_none}
@@ -52,6 +56,14 @@ none_yet = record {
   few_txs = omega arith;
   small = omega arith;
 }
+
+-- its carriers are of its graph
+pub are_of_alone : (blocks : Numbered) (k : Carried) (ts : List Transaction) → blocks.parents ≡ [] ∷ [] → IsNumbered blocks → k ≡ with_block blocks.parents nothing ts → AreOf blocks.parents k
+are_of_alone blocks k ts alone n added = subst (λ (x : Carried). AreOf blocks.parents x) (sym added) (record {
+  long = ap length alone ∙ sym (block_carried blocks.parents [] nothing ts none_yet none_carried).count;
+  order = n.order;
+  sound = sound_block blocks.parents nothing ts none_yet n.order (let some : 0 < length blocks.parents = n.some in some) (λ i d lt. absurd (omega (arith, lt)));
+})
 
 -- its carriers are those of genesis
 pub carried_in_alone : (inside g : ReadBlock) (pool : List ReadBlock) (blocks : Numbered) (k : Carried) → inside ≡ g → pool ≡ g ∷ [] → blocks ≡ record { ids = inside.id ∷ []; parents = [] ∷ [] }

@@ -17,6 +17,7 @@ ghost use Rattle.sp_carry.specs.Ledger.{is_accepted, is_carried, state, IsPlain}
 
 use crate::acceptance::accept_all;
 use crate::answer::{Answer, Refusal};
+use crate::first::first_of;
 use crate::numbering::add_all;
 use crate::valid::valid_block;
 use crate::votes::{votes_of_all, word_at};
@@ -76,26 +77,19 @@ impl Engine {
         ensures { IfOk result (λ engine. engine ≡ ledger bits (genesis ∷ [])) }
     {
         let id = genesis.id;
-        let dag = Dag::new(alloc, id)?;
-        let mut carriers = Carriers::new(alloc);
-        carriers.add(&dag, 0, &genesis.txs)?;
+        let first = first_of(alloc, id, &genesis.txs)?;
         let pool = Pool::new(alloc, genesis)?;
-        let votes = votes_of_all(alloc, &dag)?;
-        // Tell the proof what kept and numbered blocks and carriers are.
+        // Tells the proof what kept blocks are.
         let _kept = pool.kept();
-        let _blocks = dag.len();
-        let _added = carriers.block_count();
-        let mut accepted = Accepted::new(alloc);
-        accept_all(&dag, &votes, &carriers, &mut accepted)?;
         Ok(Engine {
             alloc,
             bits,
             genesis: id,
             pool,
-            dag,
-            votes,
-            carriers,
-            accepted,
+            dag: first.dag,
+            votes: first.decided.votes,
+            carriers: first.decided.carriers,
+            accepted: first.decided.accepted,
             broken: false,
         })
     }

@@ -11,6 +11,7 @@
 mod acceptance;
 mod answer;
 mod engine;
+mod first;
 pub mod laws;
 mod numbering;
 mod valid;

@@ -1,0 +1,123 @@
+//! What genesis alone says: its number, its votes, its transactions, and which of them are accepted.
+//! It stands apart from the making of an engine, since all that is let go where memory was refused
+//! makes the proof of one function long.
+
+ghost use Rattle.std.specs.Prelude.{◌≡◌, ◌≤◌, ◌∷◌, [], IfOk, length};
+ghost use Rattle.sp_dag.specs.Numbered.{graph_of, IsNumbered};
+ghost use Rattle.sp_plain.specs.Virts.{HasVirts};
+ghost use Rattle.sp_carry.specs.Carried.{IsCarried, nothing, with_block};
+ghost use Rattle.sp_accept.specs.Acceptance.{IsRight};
+ghost use Rattle.sp_accept.specs.Rows.{AreOf};
+ghost use Rattle.sp_engine.specs.Engine.{numbers};
+
+use crate::acceptance::accept_all;
+use crate::votes::votes_of_all;
+use sp_accept::Accepted;
+use sp_carry::Carriers;
+use sp_dag::Dag;
+use sp_ids::{BlockId, Memory};
+use sp_plain::Matrix;
+use sp_tx::Txs;
+use std::alloc::Global;
+
+/// Genesis as the only numbered block, and what is decided on it.
+#[derive(Drop)]
+pub(crate) struct First {
+    pub(crate) dag: Dag,
+    pub(crate) decided: Decided,
+}
+
+/// The votes of genesis, its carriers, and which of these are accepted.
+#[derive(Drop)]
+pub(crate) struct Decided {
+    pub(crate) votes: Matrix,
+    pub(crate) carriers: Carriers,
+    pub(crate) accepted: Accepted,
+}
+
+/// What genesis alone says, which has this id and these transactions.
+///
+/// # Errors
+///
+/// `Memory` where there was none.
+pub(crate) fn first_of(alloc: Global, id: BlockId, txs: &Txs) -> Result<First, Memory>
+    requires { length txs.now ≤ 256 }
+    ensures dag { IfOk result (λ first.
+        first.dag ≡ record { ids = id ∷ []; parents = [] ∷ [] }) }
+    ensures numbered { IfOk result (λ first. IsNumbered first.dag) }
+    ensures votes { IfOk result (λ first. HasVirts (graph_of first.dag.parents)
+        (numbers first.dag) (length first.dag.parents) first.decided.votes) }
+    ensures carriers { IfOk result (λ first. first.decided.carriers
+        ≡ with_block first.dag.parents nothing txs.now) }
+    ensures carried { IfOk result (λ first. IsCarried first.decided.carriers) }
+    ensures right { IfOk result (λ first. IsRight first.dag.parents
+        first.decided.carriers first.decided.accepted) }
+    ensures all { IfOk result (λ first.
+        first.decided.accepted.blocks ≡ first.decided.carriers.blocks) }
+{
+    let dag = Dag::new(alloc, id)?;
+    // Tells the proof what numbered blocks are.
+    let _blocks = dag.len();
+    let decided = first_decided(alloc, &dag, txs)?;
+    Ok(First { dag, decided })
+}
+
+// What is decided on genesis, which is the only numbered block.
+fn first_decided(alloc: Global, dag: &Dag, txs: &Txs) -> Result<Decided, Memory>
+    requires alone { dag.now.parents ≡ [] ∷ [] }
+    requires few { length txs.now ≤ 256 }
+    ensures votes { IfOk result (λ decided. HasVirts (graph_of dag.now.parents)
+        (numbers dag.now) (length dag.now.parents) decided.votes) }
+    ensures carriers { IfOk result (λ decided.
+        decided.carriers ≡ with_block dag.now.parents nothing txs.now) }
+    ensures carried { IfOk result (λ decided. IsCarried decided.carriers) }
+    ensures right { IfOk result (λ decided.
+        IsRight dag.now.parents decided.carriers decided.accepted) }
+    ensures all { IfOk result (λ decided.
+        decided.accepted.blocks ≡ decided.carriers.blocks) }
+{
+    // Tells the proof what numbered blocks are.
+    let _blocks = dag.len();
+    let votes = votes_of_all(alloc, dag)?;
+    let carriers = first_carriers(alloc, dag, txs)?;
+    let accepted = first_accepted(alloc, dag, &votes, &carriers)?;
+    Ok(Decided {
+        votes,
+        carriers,
+        accepted,
+    })
+}
+
+// The carriers of genesis.
+fn first_carriers(alloc: Global, dag: &Dag, txs: &Txs) -> Result<Carriers, Memory>
+    requires { length txs.now ≤ 256 }
+    ensures first { IfOk result (λ carriers.
+        carriers ≡ with_block dag.now.parents nothing txs.now) }
+    ensures carried { IfOk result IsCarried }
+{
+    // Tells the proof that there is a block.
+    let _blocks = dag.len();
+    let mut carriers = Carriers::new(alloc);
+    carriers.add(dag, 0, txs)?;
+    // Tells the proof what carriers are.
+    let _added = carriers.block_count();
+    Ok(carriers)
+}
+
+// What is accepted of all carriers.
+fn first_accepted(
+    alloc: Global,
+    dag: &Dag,
+    votes: &Matrix,
+    carriers: &Carriers,
+) -> Result<Accepted, Memory>
+    requires votes { HasVirts (graph_of dag.now.parents) (numbers dag.now)
+        (length dag.now.parents) votes.now }
+    requires of { AreOf dag.now.parents carriers.now }
+    ensures right { IfOk result (IsRight dag.now.parents carriers.now) }
+    ensures all { IfOk result (λ accepted. accepted.blocks ≡ carriers.now.blocks) }
+{
+    let mut accepted = Accepted::new(alloc);
+    accept_all(dag, votes, carriers, &mut accepted)?;
+    Ok(accepted)
+}
