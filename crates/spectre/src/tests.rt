@@ -12,6 +12,7 @@ mod feeds;
 mod lengths;
 mod lines;
 mod orders;
+mod payments;
 mod pieces;
 mod shapes;
 mod streams;
