@@ -7,7 +7,7 @@ ghost use Rattle.sp_feed.specs.Reader.{is_open};
 use crate::pieces::flat;
 use sp_block::check_work;
 use sp_feed::{FeedFault, FeedHead, FeedReader, HeadFault, Message, Visitor, read_all};
-use sp_ids::{BlockId, Memory};
+use sp_ids::{BlockId, Memory, TxId};
 use sp_io::{Calls, Fails, MemSource, ReadySource, Source, read_full};
 use std::alloc::{AllocError, Global};
 use std::test::Fail;
@@ -47,6 +47,8 @@ fn letter_of(message: &Message<'_>) -> u8 {
         Message::Vote(x, y)
             if *x == BlockId::from_bytes([1; 32]) && *y == BlockId::from_bytes([2; 32]) => { b'V' }
         Message::Vote(_, _) => b'v',
+        Message::Tx(id) if *id == TxId::from_bytes([3; 32]) => b'T',
+        Message::Tx(_) => b't',
         Message::End => b'E',
     }
 }

@@ -12,6 +12,8 @@ mod bits;
 #[cfg(test)]
 mod block;
 #[cfg(test)]
+mod collisions;
+#[cfg(test)]
 mod dag;
 #[cfg(test)]
 mod engine;
