@@ -1,5 +1,5 @@
-//! Outpoints that strangers chose so that they collide under the library's hasher: carriers that
-//! spend them cost no more than those that spend others.
+//! Outpoints that a stranger chose so that a table by the library's hasher finds them all in one
+//! crowd: carriers that spend them cost no more than those that spend others.
 
 use crate::graph;
 use crate::rows::holds;
@@ -8,62 +8,94 @@ use sp_dag::Dag;
 use sp_ids::{Lock, Outpoint, TxId};
 use sp_tx::{Bytes, Input, Inputs, Output, Outputs, Tx, Txs};
 use std::alloc::Global;
+use std::collections::HashMap;
+use std::hash::{BuildHasher, BuildHasherDefault, FoldHasher};
+use std::process::Abort;
 use std::rt::Clock;
 use std::test::Fail;
 use std::time::{Duration, Instant};
 
-/// The last eight bytes of an id. The hasher begins with their difference from its multiplier, and
-/// multiplies by it: all ids that end with the multiplier have one hash.
-type Ending = [u8; 8];
+/// How many outpoints are spent: by five blocks of 256 transactions with 16 inputs each.
+const COUNT: usize = 20_480;
 
-const MULTIPLIER: Ending = [0x15, 0x7c, 0x4a, 0x7f, 0xb9, 0x79, 0x37, 0x9e];
+/// A table of the library that holds them has 4,096 groups of places. It begins at the group that
+/// the hash says, and goes on to the next one where a group is full.
+const GROUPS: u64 = 4_096;
 
-const OTHER: Ending = [0; 8];
+/// The groups at which it begins for a crowd. They are full soon, and then each look-up goes past
+/// the hundreds of groups behind them that are full, too. One outpoint of 32 belongs to the crowd,
+/// so a crowd is found at once.
+const CROWD: u64 = 128;
 
 /// An outpoint for each number.
-fn outpoint(number: u32, ending: Ending) -> Outpoint {
+fn outpoint(number: u32) -> Outpoint {
     let [a, b, c, d] = number.to_le_bytes();
-    let [e, f, g, h, i, j, k, l] = ending;
     let mut bytes = [0; 32];
     bytes[..4].copy_from_slice(&[a, b, c, d]);
-    bytes[24..].copy_from_slice(&[e, f, g, h, i, j, k, l]);
     Outpoint {
         tx: TxId::from_bytes(bytes),
         index: 0,
     }
 }
 
-/// The transaction of this number, which spends 16 outpoints that no other one spends.
-fn spender(alloc: Global, number: u32, ending: Ending) -> Result<Tx, Fail> {
+/// The group at which a table begins.
+fn group(outpoint: &Outpoint) -> u64 {
+    let hash = BuildHasherDefault::<FoldHasher>::new().hash_one(outpoint);
+    (hash ^ hash >> 32) % GROUPS
+}
+
+/// The first outpoints that begin at one of so many groups.
+fn outpoints(alloc: Global, groups: u64) -> Result<Vec<Outpoint>, Fail> {
+    let mut outpoints = Vec::new(alloc);
+    for number in 0..4_000_000u32 {
+        if outpoints.len() == COUNT {
+            break;
+        }
+        let new = outpoint(number);
+        if group(&new) < groups {
+            outpoints.push(new)?;
+        }
+    }
+    Ok(outpoints)
+}
+
+/// What spends each of these.
+fn inputs(alloc: Global, outpoints: &[Outpoint]) -> Result<Inputs, Fail> {
     let mut inputs = Vec::new(alloc);
-    for input in 0..16u32 {
+    for from in outpoints {
         inputs.push(Input {
-            from: outpoint(number.wrapping_mul(16).wrapping_add(input), ending),
+            from: *from,
             preimage: Bytes::of(Vec::from_slice(alloc, &[1])?),
         })?;
     }
-    let mut outputs = Vec::new(alloc);
-    outputs.push(Output {
-        amount: 1,
-        lock: Lock::of(&[1]),
-    })?;
-    Ok(Tx::new(alloc, Inputs::of(inputs), Outputs::of(outputs))?)
+    Ok(Inputs::of(inputs))
 }
 
-/// The 256 transactions of a block.
-fn block(alloc: Global, number: u32, ending: Ending) -> Result<Txs, Fail> {
+/// The transaction that spends these.
+fn spender(alloc: Global, outpoints: &[Outpoint]) -> Result<Tx, Fail> {
+    let output = Output {
+        amount: 1,
+        lock: Lock::of(&[1]),
+    };
+    let inputs = inputs(alloc, outpoints)?;
+    let outputs = Outputs::of(Vec::from_slice(alloc, &[output])?);
+    Ok(Tx::new(alloc, inputs, outputs)?)
+}
+
+/// The transactions of a block, 16 outpoints to each.
+fn block(alloc: Global, outpoints: &[Outpoint]) -> Result<Txs, Fail> {
     let mut txs = Vec::new(alloc);
-    for place in 0..256u32 {
-        txs.push(spender(alloc, number.wrapping_mul(256).wrapping_add(place), ending)?)?;
+    for sixteen in outpoints.chunks(16) {
+        txs.push(spender(alloc, sixteen)?)?;
     }
     Ok(Txs::of(txs))
 }
 
-/// Five blocks, which spend 20,480 outpoints.
-fn blocks(alloc: Global, ending: Ending) -> Result<Vec<Txs>, Fail> {
+/// Blocks of 256 transactions.
+fn blocks(alloc: Global, outpoints: &[Outpoint]) -> Result<Vec<Txs>, Fail> {
     let mut blocks = Vec::new(alloc);
-    for number in 0..5u32 {
-        blocks.push(block(alloc, number, ending)?)?;
+    for part in outpoints.chunks(4_096) {
+        blocks.push(block(alloc, part)?)?;
     }
     Ok(blocks)
 }
@@ -90,46 +122,125 @@ fn carry(carriers: &mut Carriers, dag: &Dag, blocks: &[Txs]) -> Result<(), Fail>
 }
 
 /// Whether each outpoint has just its one spender.
-fn are_spent(carriers: &Carriers, ending: Ending) -> bool {
-    for number in 0..20_480u32 {
-        if carriers.spenders_of(&outpoint(number, ending)) != [number / 16].as_slice() {
+fn are_spent(carriers: &Carriers, outpoints: &[Outpoint]) -> bool {
+    let mut number = 0u32;
+    for outpoint in outpoints {
+        if carriers.spenders_of(outpoint) != [number / 16].as_slice() {
             return false;
         }
+        number = number.wrapping_add(1);
     }
-    true
+    carriers.tx_count() == 1_280
 }
 
 /// The time that it takes to add the carriers, and to find the spender of each outpoint.
-fn time_of(rt: &impl Clock, dag: &Dag, blocks: &[Txs], ending: Ending, carriers: &mut Carriers) -> Result<Duration, Fail> {
+fn time_of(
+    rt: &impl Clock,
+    dag: &Dag,
+    blocks: &[Txs],
+    outpoints: &[Outpoint],
+    carriers: &mut Carriers,
+) -> Result<Duration, Fail> {
     let start = Instant::now(rt)?;
     carry(carriers, dag, blocks)?;
-    if !are_spent(carriers, ending) {
+    if !are_spent(carriers, outpoints) {
         return Err("another spender".into());
     }
     Ok(start.elapsed(rt)?)
 }
 
-fn time(rt: &impl Clock, alloc: Global, ending: Ending) -> Result<Duration, Fail> {
+fn time(rt: &impl Clock, alloc: Global, outpoints: &[Outpoint]) -> Result<Duration, Fail> {
     let dag = chain(alloc)?;
-    let blocks = blocks(alloc, ending)?;
+    let blocks = blocks(alloc, outpoints)?;
     let mut carriers = Carriers::new(alloc);
-    time_of(rt, &dag, &blocks, ending, &mut carriers)
+    time_of(rt, &dag, &blocks, outpoints, &mut carriers)
 }
 
-/// The least of three times, since the machine may be at other work.
-fn least_time(rt: &impl Clock, alloc: Global, ending: Ending) -> Result<Duration, Fail> {
-    let first = time(rt, alloc, ending)?;
-    let second = time(rt, alloc, ending)?;
-    let third = time(rt, alloc, ending)?;
-    Ok(first.min(second).min(third))
+/// The least times that carriers take for both, of eight each, by turns, since the machine may be at
+/// other work.
+fn least_times(
+    rt: &impl Clock,
+    alloc: Global,
+    others: &[Outpoint],
+    crowd: &[Outpoint],
+) -> Result<(Duration, Duration), Fail> {
+    let mut other_time = time(rt, alloc, others)?;
+    let mut crowd_time = time(rt, alloc, crowd)?;
+    for _ in 0..7u32 {
+        other_time = other_time.min(time(rt, alloc, others)?);
+        crowd_time = crowd_time.min(time(rt, alloc, crowd)?);
+    }
+    Ok((other_time, crowd_time))
 }
 
-/// Where look-ups went by hash, each of 20,480 would go past all before it, and take a hundred
-/// times as long.
-#[test]
-fn colliding_outpoints(rt: HostRuntime) -> Result<(), Fail> {
-    let others = least_time(&rt, rt.alloc(), OTHER)?;
-    let colliding = least_time(&rt, rt.alloc(), MULTIPLIER)?;
-    holds(&rt, 0, colliding.as_micros() <= others.as_micros() * 4 + 50_000);
+/// Puts each outpoint into the table and finds it there.
+fn find_all(table: &mut HashMap<Outpoint, u8>, outpoints: &[Outpoint]) -> Result<bool, Fail> {
+    for outpoint in outpoints {
+        table.insert(*outpoint, 1)?;
+    }
+    Ok(
+        outpoints
+            .iter()
+            .all(|outpoint| table.get(outpoint) == Some(&1)),
+    )
+}
+
+/// The time that a table by hash takes.
+fn table_time_of(
+    rt: &impl Clock,
+    outpoints: &[Outpoint],
+    table: &mut HashMap<Outpoint, u8>,
+) -> Result<Duration, Fail> {
+    let start = Instant::now(rt)?;
+    if !find_all(table, outpoints)? {
+        return Err("not found".into());
+    }
+    Ok(start.elapsed(rt)?)
+}
+
+fn table_time(rt: &impl Clock, alloc: Global, outpoints: &[Outpoint]) -> Result<Duration, Fail> {
+    let mut table = HashMap::new(alloc);
+    table_time_of(rt, outpoints, &mut table)
+}
+
+/// The least times that a table by hash takes for both, of three each.
+fn least_table_times(
+    rt: &impl Clock,
+    alloc: Global,
+    others: &[Outpoint],
+    crowd: &[Outpoint],
+) -> Result<(Duration, Duration), Fail> {
+    let mut other_time = table_time(rt, alloc, others)?;
+    let mut crowd_time = table_time(rt, alloc, crowd)?;
+    for _ in 0..2u32 {
+        other_time = other_time.min(table_time(rt, alloc, others)?);
+        crowd_time = crowd_time.min(table_time(rt, alloc, crowd)?);
+    }
+    Ok((other_time, crowd_time))
+}
+
+/// Carriers that kept outpoints in a table by hash would take ten times as long for the crowd. That
+/// it is a crowd shows in such a table.
+fn compare(
+    rt: &(impl Clock + Abort),
+    alloc: Global,
+    others: &[Outpoint],
+    crowd: &[Outpoint],
+) -> Result<(), Fail> {
+    let (other_time, crowd_time) = least_times(rt, alloc, others, crowd)?;
+    holds(
+        rt,
+        0,
+        crowd_time.as_micros() <= other_time.as_micros() * 4 + 50_000,
+    );
+    let (other_time, crowd_time) = least_table_times(rt, alloc, others, crowd)?;
+    holds(rt, 1, crowd_time.as_micros() >= other_time.as_micros() * 4);
     Ok(())
+}
+
+#[test]
+fn crowded_outpoints(rt: HostRuntime) -> Result<(), Fail> {
+    let others = outpoints(rt.alloc(), GROUPS)?;
+    let crowd = outpoints(rt.alloc(), CROWD)?;
+    compare(&rt, rt.alloc(), &others, &crowd)
 }
