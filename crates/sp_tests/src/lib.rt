@@ -38,6 +38,8 @@ mod plain;
 #[cfg(test)]
 mod pool;
 #[cfg(test)]
+mod rebuild;
+#[cfg(test)]
 mod report;
 #[cfg(test)]
 mod rows;
