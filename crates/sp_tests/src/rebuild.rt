@@ -17,7 +17,7 @@ use sp_carry::{Carriers, Flip};
 use sp_dag::Dag;
 use sp_ids::{BlockId, Lock, Memory, Outpoint, TxId};
 use sp_plain::{Matrix, plain_votes};
-use sp_tx::{Bytes, Input, Inputs, Output, Outputs, Tx, Txs, id};
+use sp_tx::{Bytes, Input, Inputs, Output, Outputs, Tx, Txs};
 use std::alloc::Global;
 use std::marker::Model;
 use std::process::Abort;
@@ -171,11 +171,6 @@ fn payments(alloc: Global, sources: &[TxId], owners: &[u8]) -> Result<Txs, Fail>
     Ok(Txs::of(txs))
 }
 
-/// The id of what genesis carries.
-fn grant(alloc: Global) -> Result<TxId, Fail> {
-    Ok(id(alloc, &payment(alloc, &[], ALICE)?)?)
-}
-
 /// Adds a block on another to the graph. The id of each has its number in each byte.
 fn stand(dag: &mut Dag, parent: u8) -> Result<(), Fail>
     ensures { OnOk result ((row : List ℕ) × (dag.new.parents ≡ dag.old.parents ++ row ∷ [])) }
@@ -206,32 +201,34 @@ fn carry(dag: &Dag, carriers: &mut Carriers, txs: &Txs) -> Result<(), Fail>
     Ok(())
 }
 
-/// A graph with its carriers, and the id of what genesis carries.
+/// A graph with its carriers.
 #[derive(Drop)]
 struct Ledger {
     alloc: Global,
-    grant: TxId,
     dag: Dag,
     carriers: Carriers,
 }
 
 impl Ledger {
-    /// Genesis alone.
+    /// Genesis alone, without its carriers.
     fn of(alloc: Global) -> Result<Ledger, Fail>
-        ensures { IfOk result (λ ledger. AreOf ledger.dag.parents ledger.carriers) }
+        ensures { IfOk result (λ ledger. AreSound ledger.dag.parents ledger.carriers) }
     {
-        let mut ledger = Ledger {
+        let dag = Dag::new(alloc, BlockId::from_bytes([0; 32]))?;
+        Ok(Ledger {
             alloc,
-            grant: grant(alloc)?,
-            dag: Dag::new(alloc, BlockId::from_bytes([0; 32]))?,
+            dag,
             carriers: Carriers::new(alloc),
-        };
-        carry(
-            &ledger.dag,
-            &mut ledger.carriers,
-            &payments(alloc, &[], &[ALICE])?,
-        )?;
-        Ok(ledger)
+        })
+    }
+
+    /// What genesis carries.
+    fn begin(&mut self) -> Result<(), Fail>
+        requires { AreSound self.old.dag.parents self.old.carriers }
+        ensures { OnOk result (AreOf self.new.dag.parents self.new.carriers) }
+    {
+        let txs = payments(self.alloc, &[], &[ALICE])?;
+        carry(&self.dag, &mut self.carriers, &txs)
     }
 
     /// One block more.
@@ -239,11 +236,15 @@ impl Ledger {
         requires { AreOf self.old.dag.parents self.old.carriers }
         ensures { OnOk result (AreOf self.new.dag.parents self.new.carriers) }
     {
-        let (parent, owners) = *laid;
-        let txs = payments(self.alloc, &[self.grant], owners)?;
         // Tells the proof what always holds of carriers.
         let _blocks = self.carriers.block_count();
+        if self.carriers.tx_count() == 0 {
+            return Err("no grant".into());
+        }
+        let grant = self.carriers.tx_id(0);
+        let (parent, owners) = *laid;
         stand(&mut self.dag, parent)?;
+        let txs = payments(self.alloc, &[grant], owners)?;
         carry(&self.dag, &mut self.carriers, &txs)
     }
 
@@ -350,9 +351,16 @@ fn judge(rt: &impl Abort, ledger: &mut Ledger, accepted: &mut Accepted) -> Resul
     Ok(())
 }
 
+fn judge_all(rt: &impl Abort, ledger: &mut Ledger) -> Result<(), Fail>
+    requires { AreSound ledger.old.dag.parents ledger.old.carriers }
+{
+    ledger.begin()?;
+    let mut accepted = Accepted::new(ledger.alloc);
+    judge(rt, ledger, &mut accepted)
+}
+
 #[test]
 fn turned_transactions(rt: HostRuntime) -> Result<(), Fail> {
     let mut ledger = Ledger::of(rt.alloc())?;
-    let mut accepted = Accepted::new(rt.alloc());
-    judge(&rt, &mut ledger, &mut accepted)
+    judge_all(&rt, &mut ledger)
 }
