@@ -19,14 +19,19 @@ mod streams;
 mod words;
 
 use crate::command::run;
+use crate::scenario::why::Why;
 use crate::status::Status;
 use sp_io::{Calls, Fails, MemSink, MemSource, Sink, Source};
 use std::alloc::Global;
 use std::process::Abort;
 use std::test::Fail;
 
-/// A name, a text that is read, and what is answered.
-pub type Case = (&'static str, &'static [u8], &'static [u8]);
+/// A text that is read, and what is answered. Its row in its table names it: each constant more in a
+/// table has its price in the proof of the test that reads it.
+pub type Case = (&'static [u8], &'static [u8]);
+
+/// A text that breaks a rule, and which one.
+pub type Broken = (&'static [u8], Why);
 
 pub const SAMPLE: &[u8] = b"block A on G\nblock B on G\nblock C on A\nvote A B\n";
 
@@ -140,19 +145,28 @@ fn rest_of(source: &mut MemSource, sink: &mut MemSink) -> Rest {
     (first, second, bytes, sink.write(b"x").is_ok())
 }
 
-/// Runs the program. This is the tests' one call of it.
-fn ran(alloc: Global, trial: &Trial) -> Result<Ended, Fail> {
-    let words = words_of(alloc, trial.words)?;
-    let mut source = source_of(alloc, trial)?;
-    let mut sink = sink_of(alloc, &trial.ends)?;
-    let status = run(alloc, &words, &mut source, &mut sink);
+/// Runs the program on these ends. This is the tests' one call of it.
+fn ran_on(
+    alloc: Global,
+    words: &[String],
+    source: &mut MemSource,
+    sink: &mut MemSink,
+) -> Result<Ended, Fail> {
+    let status = run(alloc, words, source, sink);
     let output = Vec::from_slice(alloc, sink.bytes())?;
-    let rest = rest_of(&mut source, &mut sink);
+    let rest = rest_of(source, sink);
     Ok(Ended {
         status,
         output,
         rest,
     })
+}
+
+fn ran(alloc: Global, trial: &Trial) -> Result<Ended, Fail> {
+    let words = words_of(alloc, trial.words)?;
+    let mut source = source_of(alloc, trial)?;
+    let mut sink = sink_of(alloc, &trial.ends)?;
+    ran_on(alloc, &words, &mut source, &mut sink)
 }
 
 /// What follows so many lines.
@@ -177,6 +191,23 @@ fn is_as(ended: &Ended, wanted: &Wanted) -> bool {
     rests && ended.status == wanted.status && behind(&ended.output, wanted.lines) == wanted.output
 }
 
+fn agrees(
+    rt: &impl Abort,
+    name: &str,
+    at: usize,
+    ended: &Ended,
+    wanted: &Wanted,
+) -> Result<(), Fail> {
+    let written = str::from_utf8(&ended.output)?;
+    assert!(rt;
+        is_as(ended, wanted),
+        "{name}, {at}: {:?} after\n{written}and then {:?}",
+        ended.status,
+        ended.rest
+    );
+    Ok(())
+}
+
 /// Runs the program, and compares what the run ends as with what is wanted.
 pub fn tries(
     rt: &impl Abort,
@@ -187,14 +218,7 @@ pub fn tries(
     wanted: &Wanted,
 ) -> Result<(), Fail> {
     let ended = ran(alloc, trial)?;
-    let written = str::from_utf8(&ended.output)?;
-    assert!(rt;
-        is_as(&ended, wanted),
-        "{name}, {at}: {:?} after\n{written}and then {:?}",
-        ended.status,
-        ended.rest
-    );
-    Ok(())
+    agrees(rt, name, at, &ended, wanted)
 }
 
 /// The one text and then the other.
@@ -231,11 +255,32 @@ pub fn plays(
 pub fn plays_all(
     rt: &impl Abort,
     alloc: Global,
+    name: &str,
     cases: &[Case],
     status: Status,
 ) -> Result<(), Fail> {
-    for (name, input, output) in cases {
-        plays(rt, alloc, name, 0, input, status, output)?;
+    for (at, (input, output)) in cases.iter().enumerate() {
+        plays(rt, alloc, name, at, input, status, output)?;
     }
     Ok(())
+}
+
+/// The word of a reason, by hand from the rules.
+fn word_of(why: Why) -> &'static str {
+    match why {
+        Why::Byte => "byte",
+        Why::Command => "command",
+        Why::Form => "form",
+        Why::Name => "name",
+        Why::Taken => "taken",
+        Why::Unknown => "unknown",
+        Why::Repeat => "repeat",
+        Why::Many => "many",
+    }
+}
+
+/// The line of the fault of a line.
+pub fn fault_at(alloc: Global, line: u8, why: Why) -> Result<String, Fail> {
+    let word = word_of(why);
+    Ok(format!(in alloc; "fault line {line} {word}\n")?)
 }

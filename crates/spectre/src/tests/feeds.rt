@@ -84,12 +84,16 @@ fn replays(
     tries(rt, alloc, name, at, &trial, &wanted)
 }
 
+fn replays_fed(rt: &impl Abort, alloc: Global, fed: &Fed) -> Result<(), Fail> {
+    let input = feed_of(alloc, fed.bits, fed.messages, fed.tail)?;
+    let output = in_full(alloc, fed.output)?;
+    replays(rt, alloc, fed.name, 0, &input, fed.ended, &output)
+}
+
 #[test]
 fn answers(rt: HostRuntime) -> Result<(), Fail> {
     for fed in &FEEDS {
-        let input = feed_of(rt.alloc(), fed.bits, fed.messages, fed.tail)?;
-        let output = in_full(rt.alloc(), fed.output)?;
-        replays(&rt, rt.alloc(), fed.name, 0, &input, fed.ended, &output)?;
+        replays_fed(&rt, rt.alloc(), fed)?;
     }
     Ok(())
 }

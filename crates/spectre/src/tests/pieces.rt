@@ -4,6 +4,8 @@ use crate::status::Status;
 use crate::tests::feed_bytes::{END, feed_of, in_full};
 use crate::tests::streams::{Stream, try_all};
 use crate::tests::{SAMPLE, SAMPLE_ANSWERS};
+use std::alloc::Global;
+use std::process::Abort;
 use std::test::Fail;
 
 /// Scenarios. One is read to its end, which a read more tells, before anything is written.
@@ -129,12 +131,16 @@ fn scenarios(rt: HostRuntime) -> Result<(), Fail> {
     Ok(())
 }
 
+fn try_flow(rt: &impl Abort, alloc: Global, flow: &Flow) -> Result<(), Fail> {
+    let input = feed_of(alloc, 0, flow.messages, flow.tail)?;
+    let output = in_full(alloc, flow.output)?;
+    try_all(rt, alloc, &stream_of(flow, &input, &output))
+}
+
 #[test]
 fn feeds(rt: HostRuntime) -> Result<(), Fail> {
     for flow in &FLOWS {
-        let input = feed_of(rt.alloc(), 0, flow.messages, flow.tail)?;
-        let output = in_full(rt.alloc(), flow.output)?;
-        try_all(&rt, rt.alloc(), &stream_of(flow, &input, &output))?;
+        try_flow(&rt, rt.alloc(), flow)?;
     }
     Ok(())
 }

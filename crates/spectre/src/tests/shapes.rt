@@ -1,25 +1,38 @@
 //! 63 blocks in several shapes with a question on each pair, and the line of a 64th block.
 
+use crate::scenario::why::Why;
 use crate::status::Status;
-use crate::tests::{Case, joined, plays};
+use crate::tests::{Broken, fault_at, joined, plays};
 use std::alloc::Global;
 use std::cmp::Ordering;
+use std::process::Abort;
 use std::test::Fail;
 
-/// What is wrong with the 64th line, and the line of its fault.
+/// The 64th line, and what is wrong with it.
 #[rattlefmt::skip]
-const SIXTY_FOURTH: [Case; 11] = [
-    ("many", b"block c on b63\n", b"fault line 64 many\n"),
-    ("many, on several parents", b"block c on G b1 b2 b3\n", b"fault line 64 many\n"),
-    ("repeat before many", b"block c on G b63 G\n", b"fault line 64 repeat\n"),
-    ("unknown before many", b"block c on c\n", b"fault line 64 unknown\n"),
-    ("taken before many", b"block b63 on G\n", b"fault line 64 taken\n"),
-    ("name before many", b"block c! on G\n", b"fault line 64 name\n"),
-    ("form before many", b"block c on\n", b"fault line 64 form\n"),
-    ("form, by carries, before many", b"block c on G carries G\n", b"fault line 64 form\n"),
-    ("byte before many", b"block c\x7f on G\n", b"fault line 64 byte\n"),
-    ("command", b"blocks c on G\n", b"fault line 64 command\n"),
-    ("unknown, in a vote", b"vote b63 b64\n", b"fault line 64 unknown\n"),
+const SIXTY_FOURTH: [Broken; 11] = [
+    // many
+    (b"block c on b63\n", Why::Many),
+    // many, on several parents
+    (b"block c on G b1 b2 b3\n", Why::Many),
+    // repeat before many
+    (b"block c on G b63 G\n", Why::Repeat),
+    // unknown before many
+    (b"block c on c\n", Why::Unknown),
+    // taken before many
+    (b"block b63 on G\n", Why::Taken),
+    // name before many
+    (b"block c! on G\n", Why::Name),
+    // form before many
+    (b"block c on\n", Why::Form),
+    // form, by carries, before many
+    (b"block c on G carries G\n", Why::Form),
+    // byte before many
+    (b"block c\x7f on G\n", Why::Byte),
+    // command
+    (b"blocks c on G\n", Why::Command),
+    // unknown, in a vote
+    (b"vote b63 b64\n", Why::Unknown),
 ];
 
 /// Which earlier blocks each of 63 blocks stands on.
@@ -158,33 +171,51 @@ fn put_votes(scene: &mut Scene, shape: Shape) -> Result<(), Fail> {
     Ok(())
 }
 
+/// Plays 63 blocks of a shape, and the questions.
+fn plays_shape(rt: &impl Abort, alloc: Global, at: usize, shape: Shape) -> Result<(), Fail> {
+    let mut scene = blocks_of(alloc, shape)?;
+    put_votes(&mut scene, shape)?;
+    let (text, answers) = (scene.text.as_bytes(), scene.answers.as_bytes());
+    plays(rt, alloc, "shape", at, text, Status::Done, answers)
+}
+
 #[test]
 fn sixty_four_blocks(rt: HostRuntime) -> Result<(), Fail> {
     for (at, shape) in SHAPES.iter().enumerate() {
-        let mut scene = blocks_of(rt.alloc(), *shape)?;
-        put_votes(&mut scene, *shape)?;
-        let (text, answers) = (scene.text.as_bytes(), scene.answers.as_bytes());
-        plays(&rt, rt.alloc(), "shape", at, text, Status::Done, answers)?;
+        plays_shape(&rt, rt.alloc(), at, *shape)?;
     }
     Ok(())
+}
+
+/// A line behind 63 blocks is at fault.
+fn breaks(
+    rt: &impl Abort,
+    alloc: Global,
+    at: usize,
+    scene: &Scene,
+    line: &[u8],
+    why: Why,
+) -> Result<(), Fail> {
+    let text = joined(alloc, scene.text.as_bytes(), line)?;
+    let fault = fault_at(alloc, 64, why)?;
+    let answers = joined(alloc, scene.answers.as_bytes(), fault.as_bytes())?;
+    plays(
+        rt,
+        alloc,
+        "64th line",
+        at,
+        &text,
+        Status::Malformed,
+        &answers,
+    )
 }
 
 /// What is wrong with the line behind 63 blocks.
 #[test]
 fn sixty_fourth_lines(rt: HostRuntime) -> Result<(), Fail> {
     let scene = blocks_of(rt.alloc(), Shape::Ladder)?;
-    for (name, line, fault) in &SIXTY_FOURTH {
-        let text = joined(rt.alloc(), scene.text.as_bytes(), line)?;
-        let answers = joined(rt.alloc(), scene.answers.as_bytes(), fault)?;
-        plays(
-            &rt,
-            rt.alloc(),
-            name,
-            64,
-            &text,
-            Status::Malformed,
-            &answers,
-        )?;
+    for (at, (line, why)) in SIXTY_FOURTH.iter().enumerate() {
+        breaks(&rt, rt.alloc(), at, &scene, line, *why)?;
     }
     Ok(())
 }
