@@ -6,7 +6,8 @@ ghost use Rattle.std.specs.Io.KnownBytes.{Appends, Consumes};
 ghost use Rattle.sp_io.specs.Causes.{Rose};
 ghost use Rattle.sp_io.specs.Whole.{AppendsFront};
 ghost use Rattle.sp_engine.specs.Blocks.{block_in};
-ghost use Rattle.sp_feed.specs.Reader.{Behind, is_open};
+ghost use Rattle.sp_feed.specs.Calls.{GivesHead};
+ghost use Rattle.sp_feed.specs.Reader.{Behind, head_in, is_open};
 ghost use Rattle.sp_feed.specs.Reads.{Moment, moment};
 ghost use Rattle.sp_node.specs.Node.{state};
 ghost use Rattle.spectre.specs.Ends.{Replays};
@@ -128,6 +129,32 @@ fn answer_rest<S: Source, K: Sink>(
     }
 }
 
+/// Answers each message behind the head, by a node that it makes of it.
+fn answer_behind<S: Source, K: Sink>(
+    alloc: Global,
+    reader: &mut FeedReader,
+    head: FeedHead,
+    source: &mut S,
+    sink: &mut K,
+) -> Result<(), ReplayFault>
+    requires limit { reader.old.limit ≡ feed_limit }
+    requires opened { IsTrue (is_open reader.old.stage) }
+    requires unended { reader.old.stage ≢ Behind None }
+    ensures replies { (start : Moment) → start.taken ≡ 0 → GivesHead feed_limit start
+        (moment (S.left source.old) (S.faults source.old) reader.old.taken)
+        head_in (Ok head) → Replies start
+        (moment (S.left source.new) (S.faults source.new) reader.new.taken)
+        (K.taken sink.old) (K.taken sink.new) result }
+    ensures cause { IfErr result (HasWriteCause (K.faults sink.old) (K.faults sink.new)) }
+    ensures read_quiet { result ≢ Err (ReplayFault.Feed FeedFault.ReadFault)
+        → S.faults source.new ≡ S.faults source.old }
+    ensures write_quiet { result ≢ Err ReplayFault.WriteFault
+        → K.faults sink.new ≡ K.faults sink.old }
+{
+    let mut node = node_of(alloc, head)?;
+    answer_rest(reader, &mut node, source, sink)
+}
+
 /// Answers each message of a feed.
 fn answer_messages<S: Source, K: Sink>(
     alloc: Global,
@@ -146,8 +173,7 @@ fn answer_messages<S: Source, K: Sink>(
 {
     let mut reader = FeedReader::new(alloc)?;
     let head = reader.head(source)?;
-    let mut node = node_of(alloc, head)?;
-    answer_rest(&mut reader, &mut node, source, sink)
+    answer_behind(alloc, &mut reader, head, source, sink)
 }
 
 /// The line of a feed's fault; none where a read failed.
