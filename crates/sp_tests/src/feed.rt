@@ -27,6 +27,11 @@ const ONE: &[u8] = &[1; 32];
 
 const TWO: &[u8] = &[2; 32];
 
+/// What a frame of a question on a transaction begins with, and the id that stands behind it.
+const TX: &[u8] = &[0x54, 0x20, 0, 0, 0];
+
+const THREE: &[u8] = &[3; 32];
+
 const REPORT: &[u8] = &[0x52, 0, 0, 0, 0];
 
 const END: &[u8] = &[0x45, 0, 0, 0, 0];
@@ -229,6 +234,30 @@ fn smallest_feeds(rt: HostRuntime) -> Result<(), Fail> {
     ];
     let malformed = Some(FeedFault::Malformed { at: 34 });
     assert!(rt; told == [(39, None), (35, malformed)]);
+    Ok(())
+}
+
+/// What is told of the head, a question on a transaction and the end.
+fn heard_of_tx(alloc: Global) -> Result<Heard, Fail> {
+    let bytes = flat(alloc, &[HEAD, TX, THREE, END])?;
+    listen(alloc, NO_LIMIT, &mut ReadySource::new(bytes))
+}
+
+/// The frame has 37 bytes, from place 34 on. With another length it is malformed at place 35.
+#[test]
+fn transactions(rt: HostRuntime) -> Result<(), Fail> {
+    let heard = heard_of_tx(rt.alloc())?;
+    assert!(rt; (heard.letters, heard.taken, heard.fault) == (*b"TEEE", 76, None));
+    let told = [
+        told_of(rt.alloc(), TX, THREE)?,
+        told_of(rt.alloc(), &[0x54, 31, 0, 0, 0], THREE)?,
+        told_of(rt.alloc(), &[0x54, 33, 0, 0, 0], THREE)?,
+        told_of(rt.alloc(), TX, &[3; 31])?,
+    ];
+    let malformed = Some(FeedFault::Malformed { at: 35 });
+    let behind = (71, Some(FeedFault::Truncated { at: 71 }));
+    let within = (70, Some(FeedFault::Truncated { at: 70 }));
+    assert!(rt; told == [behind, (39, malformed), (39, malformed), within]);
     Ok(())
 }
 

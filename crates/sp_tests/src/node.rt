@@ -7,7 +7,7 @@ use crate::fixtures::{
 };
 use crate::rows::holds;
 use sp_feed::{FeedHead, Message};
-use sp_ids::Memory;
+use sp_ids::{Memory, TxId};
 use sp_io::{Failed, MemSink};
 use sp_node::{Node, NodeFault};
 use sp_report::Naming;
@@ -21,6 +21,8 @@ enum Sent {
     Block(u8, &'static str, usize),
     /// A question about two blocks.
     Vote(&'static str, &'static str),
+    /// A question about a transaction.
+    Tx(&'static str),
 }
 
 /// What is sent to a new node that asks for this work, and the line of each answer.
@@ -71,6 +73,10 @@ const ROWS: [Row; 3] = [
                 Sent::Vote(NOBODY, NOBODY),
                 "vote 0000000000000000000000000000000000000000000000000000000000000000 \
                  0000000000000000000000000000000000000000000000000000000000000000 absent\n",
+            ),
+            (
+                Sent::Tx(NOBODY),
+                "tx 0000000000000000000000000000000000000000000000000000000000000000 absent\n",
             ),
         ],
     },
@@ -127,6 +133,10 @@ fn send(alloc: Global, node: &mut Node, sent: Sent, sink: &mut MemSink) -> Resul
             tell(node, &Message::Block(&bytes), sink)
         }
         Sent::Vote(x, y) => tell(node, &Message::Vote(read_id(x)?, read_id(y)?), sink),
+        Sent::Tx(id) => {
+            let id = TxId::from_bytes(*read_id(id)?.as_bytes());
+            tell(node, &Message::Tx(id), sink)
+        }
     }
 }
 

@@ -7,13 +7,13 @@ use crate::fixtures::{
 };
 use crate::rows::{holds, right};
 use sp_block::BlockFault;
-use sp_engine::{Answer, Engine, Refusal};
+use sp_engine::{Answer, Engine, Refusal, TxState};
 use sp_ids::BlockId;
 use sp_io::{Failed, MemSink};
 use sp_model::Word;
 use sp_report::{
     Ask, Line, Naming, answer_line, ask_line, full_line, kept_line, known_line, malformed_line,
-    refused_line, too_long_line, truncated_line, vote_line, waiting_line,
+    refused_line, too_long_line, truncated_line, tx_line, vote_line, waiting_line,
 };
 use sp_tx::TxFault;
 use std::alloc::Global;
@@ -333,5 +333,23 @@ fn wrong_questions(alloc: Global, engine: &mut Engine) -> Result<&'static str, F
 fn questions(rt: HostRuntime) -> Result<(), Fail> {
     let mut engine = engine_of(rt.alloc(), &GENESIS, 0)?;
     right(&rt, 0, wrong_questions(rt.alloc(), &mut engine)?);
+    Ok(())
+}
+
+const STATES: [(TxState, &str); 3] = [
+    (TxState::Accepted, "tx pay accepted\n"),
+    (TxState::Rejected, "tx pay rejected\n"),
+    (TxState::Absent, "tx pay absent\n"),
+];
+
+#[test]
+fn states(rt: HostRuntime) -> Result<(), Fail> {
+    for (place, (state, text)) in STATES.iter().enumerate() {
+        holds(
+            &rt,
+            place,
+            tx_line(b"pay", *state).as_slice() == text.as_bytes(),
+        );
+    }
     Ok(())
 }
