@@ -156,12 +156,7 @@ impl Node {
     }
 
     // Writes what the present blocks say of what is asked.
-    fn ask<K: Sink>(
-        &mut self,
-        ask: &Ask,
-        naming: &Naming,
-        sink: &mut K,
-    ) -> Result<(), NodeFault>
+    fn ask<K: Sink>(&mut self, ask: &Ask, naming: &Naming, sink: &mut K) -> Result<(), NodeFault>
         requires { self.old.stopped ≡ false }
         ensures ok { OnOk result
             (Appends (K.taken sink.old) (K.taken sink.new) (ask_text self.old.kept ask.now)) }
