@@ -6,10 +6,11 @@ use Rattle.sp_form.proofs.Places.{placed_then}
 use Rattle.sp_io.proofs.Known.{consumes_then}
 use Rattle.sp_feed.specs.declared.fault.FeedFault.{FeedFault}
 use Rattle.sp_feed.specs.declared.fault.FeedFault.TheVariants.{Malformed, Truncated, ReadFault, TooLong}
+use Rattle.sp_feed.specs.declared.fault.HeadFault.{HeadFault}
 use Rattle.sp_feed.specs.declared.fault.HeadFault.TheVariants.{Feed, Memory}
 use Rattle.sp_feed.specs.Feed.{judged}
 use Rattle.sp_feed.specs.Format.{Flaw}
-use Rattle.sp_feed.specs.Reads.{Moment, Took, StopsShort, Says, Needs, Reads, ReadsFront}
+use Rattle.sp_feed.specs.Reads.{Moment, Took, StopsShort, Says, SaysFront, Needs, Reads, ReadsFront}
 
 pub took_then : (limit : ℕ) (a b c : Moment) (xs ys : List ℕ) → Took limit a b xs → Took limit b c ys → Took limit a c (xs ++ ys)
 took_then limit a b c xs ys p q = record {
@@ -109,6 +110,20 @@ head_ok r = record { given = r.given; took = r.took; says = r.says; needs = r.ne
 
 pub head_err : {X A : Type 0} {limit : ℕ} {a b : Moment} {v : X → A} {p : Form Flaw A} {e : FeedFault} → Reads limit a b v p (Err e) → ReadsFront limit a b v p (Err (Feed e))
 head_err r = record { given = r.given; took = r.took; says = r.says; needs = r.needs }
+
+says_onward : {A Y B : Type 0} (limit : ℕ) (a b c : Moment) (w : Y → B) (p : Form Flaw A) (q : A → Form Flaw B) (v : A) (xs ys : List ℕ) (r : Result Y HeadFault) → a.faults ≤ b.faults → SaysFirst limit a.taken b.taken p v xs → SaysFront limit b c w (q v) ys r → SaysFront limit a c w (bind p q) (xs ++ ys) r
+says_onward limit a b c w p q v xs ys (Ok y) l h s = says_then limit a b c w p q v xs ys (Ok y) l h s
+says_onward limit a b c w p q v xs ys (Err (Feed e)) l h s = says_then limit a b c w p q v xs ys (Err e) l h s
+says_onward limit a b c w p q v xs ys (Err Memory) l h s = tt
+
+-- the first reads, and then the next
+pub head_then : {X A Y B : Type 0} {limit : ℕ} {a b c : Moment} {v : X → A} {w : Y → B} {p : Form Flaw A} {x : X} {r : Result Y HeadFault} (q : A → Form Flaw B) → Reads limit a b v p (Ok x) → ReadsFront limit b c w (q (v x)) r → ReadsFront limit a c w (bind p q) r
+head_then {limit = limit} {a = a} {b = b} {c = c} {v = v} {w = w} {p = p} {x = x} {r = r} q f s = record {
+  given = f.given ++ s.given;
+  took = took_then limit a b c f.given s.given f.took s.took;
+  says = says_onward limit a b c w p q (v x) f.given s.given r f.took.later f.says s.says;
+  needs = needs_then limit a.taken b.taken p q (v x) f.given s.given f.needs f.says s.needs;
+}
 
 -- memory was wanted for what was read, whatever it says
 pub head_memory : {X Y A : Type 0} {limit : ℕ} {a b : Moment} {v : X → A} {w : Y → A} {p : Form Flaw A} {r : Result Y FeedFault} → Reads limit a b w p r → ReadsFront limit a b v p (Err Memory)

@@ -2,8 +2,10 @@ pub mod GenesisBytes
 pub mod Reading
 pub mod Joining
 pub mod Judged
+pub mod Heads
 pub mod FrameRuns
 pub mod Rests
 pub mod Gives
 pub mod WholeFeeds
 pub mod WrittenFeeds
+pub mod PayloadBytes

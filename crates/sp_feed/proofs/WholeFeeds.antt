@@ -8,32 +8,18 @@ use Rattle.sp_feed.specs.declared.fault.HeadFault.TheVariants as heads
 use Rattle.sp_feed.specs.Kinds.{Said}
 use Rattle.sp_feed.specs.Feed.{after_frame, feed, Feed, Malformed, no_more, Rest, rest_of, TooLong, Truncated, Whole}
 use Rattle.sp_feed.specs.Format.{Head}
-use Rattle.sp_feed.specs.Reads.{Moment, moment, Took}
-use Rattle.sp_feed.specs.Reader.{Stage, AtStart, AtFrames, Behind, Dead, is_open, is_behind}
-use Rattle.sp_feed.specs.Calls.{SaysFault, SaysHead, GivesHead, GivesNext, SaysAll, GivesAll, BeginsWith, IsFeed, ReadsFeed}
+use Rattle.sp_feed.specs.Reads.{Moment, moment}
+use Rattle.sp_feed.specs.Reader.{new_reader, ReaderState, Stage, AtStart, AtFrames, Behind, Dead, is_open, is_behind}
+use Rattle.sp_feed.specs.Calls.{SaysFault, SaysHead, GivesHead, GivesNext, onto, SaysAll, GivesAll, SoFar, GivesRest, BeginsWith, IsFeed, ReadsFeed}
 use Rattle.sp_feed.specs.Messages.{said_by}
 use Rattle.sp_feed.specs.declared.message.Message.{Message}
 use Rattle.sp_feed.specs.declared.message.Message.TheVariants as variants
 use Rattle.std.proofs.lemmas.List.{append-nil}
 use Rattle.sp_feed.proofs.Joining.{split_front, took_then}
 
--- the feed of a head, messages so far and a rest
-abbrev pub onto : Head → List Said → Rest → Feed
-onto h messages rest = record { head = Some h; messages = messages ++ rest.messages; end = rest.end }
-
 -- no proper front of these bytes would have been enough
 abbrev pub NeedsAll : ℕ → List ℕ → Type 0
 NeedsAll limit given = (front rest : List ℕ) → given ≡ front ++ rest → 0 < length rest → (feed limit front).end ≡ Truncated (length front)
-
--- what was read so far says these messages, and then the rest
-pub record SoFar (limit : ℕ) (start now : Moment) (h : Head) (before after : List Said) : Type 0 where
-  pub given : List ℕ
-  pub took : Took limit start now given
-  pub messages : List Said
-  pub seen : after ≡ before ++ messages
-  pub says : (more : List ℕ) → feed limit (given ++ more) ≡ onto h messages (rest_of limit now.taken more)
-  pub whole : start.taken ≡ 0
-  pub needs : NeedsAll limit given
 
 unfoldable pub so_far_head : {X : Type 0} {limit : ℕ} {start now : Moment} {view : X → Head} {x : X} (before : List Said) → start.taken ≡ 0 → GivesHead limit start now view (Ok x) → SoFar limit start now (view x) before before
 so_far_head {limit = limit} {now = now} {view = view} {x = x} before z g = record {
@@ -157,6 +143,38 @@ all_memory limit start of before h = record {
   needs = λ front rest e l. absurd (omega (arith, ap length e, length-append front rest, l));
 }
 
+-- What was read behind the head is the whole feed.
+
+pub all_rest : {X : Type 0} {limit : ℕ} {start mid now : Moment} {view : X → Head} {x : X} {before after : List Said} {u : Unit {0}} → start.taken ≡ 0 → GivesHead limit start mid view (Ok x) → GivesRest limit mid now before after (Ok u) → GivesAll limit start now view before after (Ok x)
+all_rest {X} {limit} {start} {mid} {now} {view} {x} {before} {after} {u} z g rest =
+    let all = rest start (view x) before (so_far_head before z g) in
+    record {
+      given = all.given;
+      took = all.took;
+      messages = all.messages;
+      seen = all.seen;
+      begins = all.begins;
+      says = all.says;
+      needs = all.needs;
+    }
+
+fault_says : {X : Type 0} (limit : ℕ) (start now : Moment) (view : X → Head) (h : Head) (messages : List Said) (given : List ℕ) (e : HeadFault) → SaysAll limit start now (λ (u : Unit {0}). h) messages given (Err e) → SaysAll limit start now view messages given (Err e)
+fault_says limit start now view h messages given (heads.Feed e) s = s
+fault_says limit start now view h messages given heads.Memory s = s
+
+pub all_broken : {X : Type 0} {limit : ℕ} {start mid now : Moment} {view : X → Head} {x : X} {before after : List Said} {e : HeadFault} → start.taken ≡ 0 → GivesHead limit start mid view (Ok x) → GivesRest limit mid now before after (Err e) → GivesAll limit start now view before after (Err e)
+all_broken {X} {limit} {start} {mid} {now} {view} {x} {before} {after} {e} z g rest =
+    let all = rest start (view x) before (so_far_head before z g) in
+    record {
+      given = all.given;
+      took = all.took;
+      messages = all.messages;
+      seen = all.seen;
+      begins = all.begins;
+      says = fault_says limit start now view (view x) all.messages all.given e all.says;
+      needs = all.needs;
+    }
+
 -- A reader's numbers by what they are known to be.
 
 pub from_start : {X : Type 0} {l limit t f : ℕ} {a : Option (List ℕ)} {now : Moment} {view : X → Head} {r : Result X HeadFault} → l ≡ limit → t ≡ 0 → GivesHead l (moment a f t) now view r → GivesHead limit (moment a f 0) now view r
@@ -165,8 +183,14 @@ from_start {limit = limit} {t = t} {f = f} {a = a} {now = now} {view = view} {r 
     let Q : ℕ → Type 0 = λ n. GivesHead limit (moment a f n) now view r in
     subst Q z (subst P e g)
 
+pub from_new : {X : Type 0} {reader : ReaderState} {limit : ℕ} {old now : Moment} {view : X → Head} {before after : List Said} {r : Result X HeadFault} → reader ≡ new_reader limit → GivesAll reader.limit old now view before after r → GivesAll limit old now view before after r
+from_new {X} {old = old} {now = now} {view = view} {before = before} {after = after} {r = r} e g = let P : ReaderState → Type 0 = λ s. GivesAll s.limit old now view before after r in subst P e g
+
 pub from_limit : {X : Type 0} {l limit : ℕ} {old now : Moment} {view : X → Option Said} {r : Result X FeedFault} → l ≡ limit → GivesNext l old now view r → GivesNext limit old now view r
 from_limit {old = old} {now = now} {view = view} {r = r} e g = let P : ℕ → Type 0 = λ n. GivesNext n old now view r in subst P e g
+
+pub rest_from : {l limit : ℕ} {old now : Moment} {seen after : List Said} {r : Result (Unit {0}) HeadFault} → l ≡ limit → GivesRest l old now seen after r → GivesRest limit old now seen after r
+rest_from {old = old} {now = now} {seen = seen} {after = after} {r = r} e g = let P : ℕ → Type 0 = λ n. GivesRest n old now seen after r in subst P e g
 
 -- behind the head no frame was read
 pub not_behind : (s : Stage) → s ≡ AtFrames → s ≡ Behind None → ⊥
@@ -186,6 +210,9 @@ pub tells : (m : Message) → (m ≡ variants.End → ⊥) → (s : Said) × (sa
 tells (variants.Block bytes) h = (_, refl)
 tells (variants.Vote x y) h = (_, refl)
 tells (variants.Tx tx) h = (_, refl)
+tells (variants.Balance lock) h = (_, refl)
+tells variants.Pairs h = (_, refl)
+tells variants.Report h = (_, refl)
 tells variants.End h = absurd (h refl)
 
 -- ---- a source that tells its bytes

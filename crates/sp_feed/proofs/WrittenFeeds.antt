@@ -12,11 +12,11 @@ use Rattle.sp_form.proofs.Places.{placed_passes}
 use Rattle.sp_ids.specs.Digits.{length-bytes_of, number_of_bytes}
 use Rattle.sp_ids.specs.Key.{bytes_of, number_of}
 use Rattle.sp_feed.specs.declared.kind.Kind.{Kind}
-use Rattle.sp_feed.specs.declared.kind.Kind.TheVariants.{Block, Vote, Tx, End}
+use Rattle.sp_feed.specs.declared.kind.Kind.TheVariants.{Block, Vote, Tx, Balance, Pairs, Report, End}
 use Rattle.sp_feed.specs.Feed.{after_frame, feed, one_more, rest_of, Whole, with_head}
 use Rattle.sp_feed.specs.Format.{broken, cut, Flaw, frame_form, genesis_form, Head, head_form, head_of, length_form, name}
 use Rattle.sp_feed.specs.Genesis.{is_genesis}
-use Rattle.sp_feed.specs.Kinds.{allows, kind_of, letter, Said, said, SaysBlock, SaysVote, SaysTx}
+use Rattle.sp_feed.specs.Kinds.{allows, kind_of, letter, Said, said, SaysBlock, SaysVote, SaysTx, SaysBalance, SaysPairs, SaysReport}
 use Rattle.sp_feed.specs.Spelling.{AllFit, Fits, framed, frames_of, spelled, written, WrittenIsRead}
 use Rattle.sp_feed.proofs.GenesisBytes.{genesis_spelled}
 use Rattle.sp_feed.proofs.Reading.{judged-append, met}
@@ -49,12 +49,18 @@ letter_met : (kind : Kind) → first_broken (rule (is_some (kind_of (letter kind
 letter_met Block = refl
 letter_met Vote = refl
 letter_met Tx = refl
+letter_met Balance = refl
+letter_met Pairs = refl
+letter_met Report = refl
 letter_met End = refl
 
 letter_back : (kind : Kind) → unwrap_or (kind_of (letter kind)) End ≡ kind
 letter_back Block = refl
 letter_back Vote = refl
 letter_back Tx = refl
+letter_back Balance = refl
+letter_back Pairs = refl
+letter_back Report = refl
 letter_back End = refl
 
 frame_read : (kind : Kind) (at : ℕ) (payload more : List ℕ) → length payload < 2 ^ 32 → allows kind (length payload) ≡ true → placed frame_form (record { at = at; bytes = framed kind payload ++ more }) ≡ Got (said kind payload) (record { at = at + 1 + 4 + length payload; bytes = more })
@@ -89,6 +95,18 @@ spelled_read (SaysTx tx) at more h =
     frame_read Tx at payload more (omega (arith, long)) (eq-eqb (length payload) 32 long)
     ∙ ap (λ n. Got (Some (SaysTx n)) (record { at = at + 1 + 4 + length payload; bytes = more })) (number_of_bytes tx h)
     ∙ ap (λ k. Got (Some (SaysTx tx)) (record { at = k; bytes = more })) (omega arith)
+spelled_read (SaysBalance lock) at more h =
+    let payload = bytes_of lock in
+    let long : length payload ≡ 32 = length-bytes_of lock in
+    frame_read Balance at payload more (omega (arith, long)) (eq-eqb (length payload) 32 long)
+    ∙ ap (λ n. Got (Some (SaysBalance n)) (record { at = at + 1 + 4 + length payload; bytes = more })) (number_of_bytes lock h)
+    ∙ ap (λ k. Got (Some (SaysBalance lock)) (record { at = k; bytes = more })) (omega arith)
+spelled_read SaysPairs at more h =
+    frame_read Pairs at [] more (omega arith) refl
+    ∙ ap (λ k. Got (Some SaysPairs) (record { at = k; bytes = more })) (omega arith)
+spelled_read SaysReport at more h =
+    frame_read Report at [] more (omega arith) refl
+    ∙ ap (λ k. Got (Some SaysReport) (record { at = k; bytes = more })) (omega arith)
 
 end_read : (at : ℕ) (more : List ℕ) → placed frame_form (record { at = at; bytes = framed End [] ++ more }) ≡ Got None (record { at = at + length (framed End []); bytes = more })
 end_read at more = frame_read End at [] more (omega arith) refl ∙ ap (λ k. Got None (record { at = k; bytes = more })) (omega arith)

@@ -8,7 +8,7 @@ use Rattle.sp_feed.specs.declared.fault.FeedFault.TheVariants as faults
 use Rattle.sp_feed.specs.declared.fault.HeadFault.{HeadFault}
 use Rattle.sp_feed.specs.declared.fault.HeadFault.TheVariants as heads
 use Rattle.sp_feed.specs.Kinds.{Said}
-use Rattle.sp_feed.specs.Feed.{Feed, feed, with_head, no_head, End, Whole, Malformed, Truncated, TooLong, rest_of, no_more, after_frame}
+use Rattle.sp_feed.specs.Feed.{Feed, feed, with_head, no_head, End, Whole, Malformed, Truncated, TooLong, Rest, rest_of, no_more, after_frame}
 use Rattle.sp_feed.specs.Format.{Head}
 use Rattle.sp_feed.specs.Reads.{Moment, Took}
 
@@ -63,6 +63,25 @@ pub record GivesAll {X : Type 0} (limit : ℕ) (old new : Moment) (view : X → 
   pub says : SaysAll limit old new view messages given result
   -- not a byte more was taken than is needed
   pub needs : (front rest : List ℕ) → given ≡ front ++ rest → 0 < length rest → (feed limit front).end ≡ Truncated (length front)
+
+-- the feed of a head, messages so far and a rest
+abbrev pub onto : Head → List Said → Rest → Feed
+onto h messages rest = record { head = Some h; messages = messages ++ rest.messages; end = rest.end }
+
+-- what was read from the feed's first byte on says this head and these messages, and then the rest
+pub record SoFar (limit : ℕ) (start now : Moment) (h : Head) (before after : List Said) : Type 0 where
+  pub given : List ℕ
+  pub took : Took limit start now given
+  pub messages : List Said
+  pub seen : after ≡ before ++ messages
+  pub says : (more : List ℕ) → feed limit (given ++ more) ≡ onto h messages (rest_of limit now.taken more)
+  pub whole : start.taken ≡ 0
+  -- not a byte more was taken than is needed
+  pub needs : (front rest : List ℕ) → given ≡ front ++ rest → 0 < length rest → (feed limit front).end ≡ Truncated (length front)
+
+-- whatever the feed said so far, with what is read now it says all
+abbrev pub GivesRest : ℕ → Moment → Moment → List Said → List Said → Result (Unit {0}) HeadFault → Type 0
+GivesRest limit old new seen now result = (start : Moment) (h : Head) (before : List Said) → SoFar limit start old h before seen → GivesAll limit start new (λ u. h) before now result
 
 -- The result, the messages and what is left unread are those of the feed; the messages are its first ones
 -- where a read failed or memory was wanted.

@@ -48,6 +48,21 @@ pub record Head : Type 0 where
 abbrev pub head_of : ℕ → List ℕ → Head
 head_of bits genesis = record { bits = bits; genesis = genesis }
 
+-- what stands before the genesis block: the bits, and how many bytes the block has
+unfoldable pub front_form : Form Flaw (ℕ × ℕ)
+front_form = do
+  name ← name_form
+  bits ← bits_form
+  letter ← block_letter_form
+  n ← length_form Block
+  whole (bits, n)
+
+-- the rest of a head with these bits, and with a genesis block of so many bytes
+unfoldable pub back_form : ℕ → ℕ → Form Flaw Head
+back_form bits n = do
+  genesis ← genesis_form n
+  whole (head_of bits genesis)
+
 unfoldable pub head_form : Form Flaw Head
 head_form = do
   name ← name_form

@@ -3,11 +3,11 @@ use Rattle.std.specs.Prelude.{◌≡◌, ℕ, ◌<◌, ◌≤◌, ◌^◌, List,
 use Rattle.std.specs.Int.{w32, to_le_bytes}
 use Rattle.sp_ids.specs.Key.{bytes_of}
 use Rattle.sp_feed.specs.declared.kind.Kind.{Kind}
-use Rattle.sp_feed.specs.declared.kind.Kind.TheVariants.{Block, Vote, Tx, End}
+use Rattle.sp_feed.specs.declared.kind.Kind.TheVariants.{Block, Vote, Tx, Balance, Pairs, Report, End}
 use Rattle.sp_feed.specs.Feed.{feed, Whole}
 use Rattle.sp_feed.specs.Format.{Head, name}
 use Rattle.sp_feed.specs.Genesis.{is_genesis}
-use Rattle.sp_feed.specs.Kinds.{letter, Said, SaysBlock, SaysVote, SaysTx}
+use Rattle.sp_feed.specs.Kinds.{letter, Said, SaysBlock, SaysVote, SaysTx, SaysBalance, SaysPairs, SaysReport}
 
 -- a kind, a length and a payload
 abbrev pub framed : Kind → List ℕ → List ℕ
@@ -17,12 +17,18 @@ abbrev pub spelled : Said → List ℕ
 spelled (SaysBlock bytes) = framed Block bytes
 spelled (SaysVote x y) = framed Vote (bytes_of x ++ bytes_of y)
 spelled (SaysTx tx) = framed Tx (bytes_of tx)
+spelled (SaysBalance lock) = framed Balance (bytes_of lock)
+spelled SaysPairs = framed Pairs []
+spelled SaysReport = framed Report []
 
 -- it can be written as one frame
 abbrev pub Fits : Said → Type 0
 Fits (SaysBlock bytes) = length bytes ≤ 65537
 Fits (SaysVote x y) = (x < 2 ^ 256) × (y < 2 ^ 256)
 Fits (SaysTx tx) = tx < 2 ^ 256
+Fits (SaysBalance lock) = lock < 2 ^ 256
+Fits SaysPairs = Unit {0}
+Fits SaysReport = Unit {0}
 
 -- the frames of messages, and the end
 abbrev pub frames_of : List Said → List ℕ

@@ -2,7 +2,7 @@
 
 ghost use Rattle.std.specs.Prelude.{◌≡◌, ◌≤◌, ◌<◌, IfOk, IsTrue, length, take};
 ghost use Rattle.sp_feed.specs.Calls.{GivesHead, GivesNext};
-ghost use Rattle.sp_feed.specs.Format.{frame_form, head_form};
+ghost use Rattle.sp_feed.specs.Format.{back_form, frame_form, front_form, head_form};
 ghost use Rattle.sp_feed.specs.Kinds.{allows, said};
 ghost use Rattle.sp_feed.specs.Reader.{head_in};
 ghost use Rattle.sp_feed.specs.Reads.{IsQuiet, IsQuietHead, moment, Reads, ReadsFront};
@@ -67,6 +67,56 @@ pub(crate) fn next_frame<S: Source>(
     read_frame(source, payload, limit, taken)
 }
 
+/// Reads what stands before the genesis block, and answers the bits and how many bytes the block has.
+fn read_front<S: Source>(
+    source: &mut S,
+    limit: u32,
+    taken: &mut u32,
+) -> Result<(u8, usize), FeedFault>
+    requires { taken.old ≤ limit }
+    ensures reads { Reads limit
+        (moment (S.left source.old) (S.faults source.old) taken.old)
+        (moment (S.left source.new) (S.faults source.new) taken.new)
+        (λ front. front) front_form result }
+    ensures quiet { IsQuiet (S.faults source.old) (S.faults source.new) result }
+    ensures small { IfOk result (λ front. front.0 ≤ 64) }
+    ensures fits { IfOk result (λ front. front.1 ≤ LONGEST) }
+    ensures progress { IfOk result (λ _. taken.old < taken.new) }
+    ensures unasked { taken.old ≡ limit → source.new ≡ source.old }
+{
+    read_name(source, limit, taken)?;
+    let bits = read_bits(source, limit, taken)?;
+    read_block_letter(source, limit, taken)?;
+    let length = read_length(source, Kind::Block, limit, taken)? as usize;
+    Ok((bits, length))
+}
+
+/// Reads the genesis block, whose bytes fill the buffer, and makes the head of it.
+fn read_genesis<S: Source>(
+    alloc: Global,
+    bits: u8,
+    source: &mut S,
+    payload: &mut [u8],
+    limit: u32,
+    taken: &mut u32,
+) -> Result<FeedHead, HeadFault>
+    requires limit { taken.old ≤ limit }
+    requires small { bits ≤ 64 }
+    ensures reads { ReadsFront limit
+        (moment (S.left source.old) (S.faults source.old) taken.old)
+        (moment (S.left source.new) (S.faults source.new) taken.new)
+        head_in (back_form bits (length payload.old)) result }
+    ensures quiet { IsQuietHead (S.faults source.old) (S.faults source.new) result }
+{
+    let start = *taken;
+    fill(source, payload, limit, taken)?;
+    match read_block(alloc, payload, true) {
+        Ok(genesis) => Ok(FeedHead { bits, genesis }),
+        Err(ReadBlockFault::Fault(_)) => Err(HeadFault::Feed(FeedFault::Malformed { at: start })),
+        Err(ReadBlockFault::Memory) => Err(HeadFault::Memory),
+    }
+}
+
 /// Reads the head.
 fn read_head<S: Source>(
     alloc: Global,
@@ -84,17 +134,8 @@ fn read_head<S: Source>(
     ensures quiet { IsQuietHead (S.faults source.old) (S.faults source.new) result }
     ensures unasked { taken.old ≡ limit → source.new ≡ source.old }
 {
-    read_name(source, limit, taken)?;
-    let bits = read_bits(source, limit, taken)?;
-    read_block_letter(source, limit, taken)?;
-    let length = read_length(source, Kind::Block, limit, taken)? as usize;
-    let start = *taken;
-    fill(source, &mut payload[..length], limit, taken)?;
-    match read_block(alloc, &payload[..length], true) {
-        Ok(genesis) => Ok(FeedHead { bits, genesis }),
-        Err(ReadBlockFault::Fault(_)) => Err(HeadFault::Feed(FeedFault::Malformed { at: start })),
-        Err(ReadBlockFault::Memory) => Err(HeadFault::Memory),
-    }
+    let (bits, length) = read_front(source, limit, taken)?;
+    read_genesis(alloc, bits, source, &mut payload[..length], limit, taken)
 }
 
 /// Reads the head at the start of a feed.

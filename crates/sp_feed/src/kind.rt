@@ -9,6 +9,9 @@ pub(crate) enum Kind {
     Block,
     Vote,
     Tx,
+    Balance,
+    Pairs,
+    Report,
     End,
 }
 
@@ -23,6 +26,9 @@ impl Kind {
             b'B' => Some(Kind::Block),
             b'V' => Some(Kind::Vote),
             b'T' => Some(Kind::Tx),
+            b'U' => Some(Kind::Balance),
+            b'P' => Some(Kind::Pairs),
+            b'R' => Some(Kind::Report),
             b'E' => Some(Kind::End),
             _ => None,
         }
@@ -37,6 +43,9 @@ impl Kind {
             Kind::Block => length <= 65_537,
             Kind::Vote => length == 64,
             Kind::Tx => length == 32,
+            Kind::Balance => length == 32,
+            Kind::Pairs => length == 0,
+            Kind::Report => length == 0,
             Kind::End => length == 0,
         }
     }

@@ -1,6 +1,6 @@
 //! What a frame says.
 
-use sp_ids::{BlockId, TxId};
+use sp_ids::{BlockId, Lock, TxId};
 
 /// A message of a feed. A block's bytes are lent from the reader's buffer, and may spell no block.
 ///
@@ -12,6 +12,9 @@ use sp_ids::{BlockId, TxId};
 /// | `B` | 0 to 65,537 | the bytes of a block | `Block` |
 /// | `V` | 64 | two block ids, 32 bytes each | `Vote` |
 /// | `T` | 32 | a transaction's id | `Tx` |
+/// | `U` | 32 | a lock | `Balance` |
+/// | `P` | 0 | | `Pairs` |
+/// | `R` | 0 | | `Report` |
 /// | `E` | 0 | | `End` |
 #[derive(Clone, Copy, Debug, PartialEq, Eq)]
 pub enum Message<'a> {
@@ -21,6 +24,12 @@ pub enum Message<'a> {
     Vote(BlockId, BlockId),
     /// The state of a transaction is asked for.
     Tx(TxId),
+    /// The balance under a lock is asked for.
+    Balance(Lock),
+    /// What is said of each pair of present blocks is asked for.
+    Pairs,
+    /// A report on all present blocks is asked for.
+    Report,
     /// There are no more messages.
     End,
 }

@@ -14,7 +14,7 @@ use crate::kind::Kind;
 use crate::message::Message;
 use crate::phase::Phase;
 use sp_form::array_of;
-use sp_ids::{BlockId, Memory, TxId};
+use sp_ids::{BlockId, Lock, Memory, TxId};
 use sp_io::Source;
 use std::alloc::Global;
 use std::marker::Model;
@@ -170,6 +170,9 @@ impl FeedReader {
             Kind::Block => Message::Block(payload),
             Kind::Vote => vote_of(payload),
             Kind::Tx => Message::Tx(TxId::from_bytes(array_of(payload))),
+            Kind::Balance => Message::Balance(Lock::from_bytes(array_of(payload))),
+            Kind::Pairs => Message::Pairs,
+            Kind::Report => Message::Report,
             Kind::End => Message::End,
         }
     }

@@ -2,10 +2,10 @@
 //! run of the reader's calls.
 
 ghost use Rattle.std.specs.Prelude.{◌≡◌, ℕ, IsSome, List, ◌++◌, Some, OnErr, OnOk};
-ghost use Rattle.sp_feed.specs.Calls.{GivesAll, ReadsFeed};
+ghost use Rattle.sp_feed.specs.Calls.{GivesAll, GivesRest, ReadsFeed};
 ghost use Rattle.sp_feed.specs.Feed.{feed};
 ghost use Rattle.sp_feed.specs.Kinds.{messages_of, Said};
-ghost use Rattle.sp_feed.specs.Reader.{head_in};
+ghost use Rattle.sp_feed.specs.Reader.{AtFrames, head_in, new_reader};
 ghost use Rattle.sp_feed.specs.Reads.{IsQuietHead, moment};
 ghost use Rattle.sp_feed.specs.Messages.{said_by};
 
@@ -29,29 +29,45 @@ pub trait Visitor {
         ensures err { OnErr result (seen self.new ≡ seen self.old) };
 }
 
-/// Reads the head, and then message by message.
-fn read_messages<S: Source, V: Visitor>(
-    alloc: Global,
-    limit: u32,
+/// Shows the visitor each message, up to the end.
+fn show_messages<S: Source, V: Visitor>(
+    reader: &mut FeedReader,
     source: &mut S,
     visitor: &mut V,
-) -> Result<FeedHead, HeadFault>
-    ensures gives { (taken : ℕ) × GivesAll limit
-        (moment (S.left source.old) (S.faults source.old) 0)
-        (moment (S.left source.new) (S.faults source.new) taken)
-        head_in (V.seen visitor.old) (V.seen visitor.new) result }
+) -> Result<(), HeadFault>
+    requires at_frames { reader.old.stage ≡ AtFrames }
+    ensures gives { GivesRest reader.old.limit
+        (moment (S.left source.old) (S.faults source.old) reader.old.taken)
+        (moment (S.left source.new) (S.faults source.new) reader.new.taken)
+        (V.seen visitor.old) (V.seen visitor.new) result }
     ensures quiet { IsQuietHead (S.faults source.old) (S.faults source.new) result }
 {
-    let mut reader = FeedReader::with_limit(alloc, limit)?;
-    let head = reader.head(source)?;
     'messages: loop {
         reader.next(source)?;
         let message = reader.message();
         match message {
-            Message::End => return Ok(head),
+            Message::End => return Ok(()),
             _ => visitor.visit(&message)?,
         }
     }
+}
+
+/// Reads the head, and then message by message.
+fn read_messages<S: Source, V: Visitor>(
+    reader: &mut FeedReader,
+    source: &mut S,
+    visitor: &mut V,
+) -> Result<FeedHead, HeadFault>
+    requires fresh { reader.old ≡ new_reader reader.old.limit }
+    ensures gives { GivesAll reader.old.limit
+        (moment (S.left source.old) (S.faults source.old) 0)
+        (moment (S.left source.new) (S.faults source.new) reader.new.taken)
+        head_in (V.seen visitor.old) (V.seen visitor.new) result }
+    ensures quiet { IsQuietHead (S.faults source.old) (S.faults source.new) result }
+{
+    let head = reader.head(source)?;
+    show_messages(reader, source, visitor)?;
+    Ok(head)
 }
 
 /// Reads a whole feed of at most `limit` bytes, shows the visitor each message before the end, and
@@ -81,5 +97,6 @@ pub fn read_all<S: Source, V: Visitor>(
     // The source counts no fault but at a failed read.
     ensures quiet { IsQuietHead (S.faults source.old) (S.faults source.new) result }
 {
-    read_messages(alloc, limit, source, visitor)
+    let mut reader = FeedReader::with_limit(alloc, limit)?;
+    read_messages(&mut reader, source, visitor)
 }
