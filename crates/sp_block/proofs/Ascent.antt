@@ -106,3 +106,9 @@ pub sort_is_ascending : (xs ys : List ℕ) → IsPermutation xs ys → IsSorted 
 sort_is_ascending xs ys moved sorted =
     one_order ys (ascending xs) (sorted_ascends ys (IsNonDecreasingBy-from_sort (λ x. x) ys sorted)) (ascending_ascends xs)
     (λ f. sum_by-IsPermutation f xs ys moved ∙ sym (ascending_sums f xs))
+
+-- the order in which the numbers stood before doesn't matter
+pub ascending_permuted : (xs ys : List ℕ) → IsPermutation xs ys → ascending xs ≡ ascending ys
+ascending_permuted xs ys moved =
+    one_order (ascending xs) (ascending ys) (ascending_ascends xs) (ascending_ascends ys)
+    (λ f. ascending_sums f xs ∙ sym (sum_by-IsPermutation f xs ys moved) ∙ sym (ascending_sums f ys))
