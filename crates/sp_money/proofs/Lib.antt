@@ -1,0 +1,11 @@
+pub mod Numbered
+pub mod Totals
+pub mod Puts
+pub mod Pushes
+pub mod Standing
+pub mod Marks
+pub mod Counts
+pub mod Loops
+pub mod Turning
+pub mod Balances
+pub mod Growing
