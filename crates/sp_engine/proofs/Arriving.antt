@@ -22,7 +22,8 @@ use Rattle.sp_plain.specs.Virts.{HasVirts, Virts}
 use Rattle.sp_engine.specs.Arrivals.{joined}
 use Rattle.sp_carry.specs.Carried.{Carried}
 use Rattle.sp_accept.specs.Acceptance.{Acceptance}
-use Rattle.sp_engine.specs.Engine.{AreCarried, AreNumbered, IsAccepting, IsEngine, Ledger, numbers}
+use Rattle.sp_money.specs.Held.{Held as Purse}
+use Rattle.sp_engine.specs.Engine.{AreCarried, AreNumbered, IsAccepting, IsEngine, IsPaying, Ledger, numbers}
 use Rattle.sp_engine.specs.Presence.{joining}
 use Rattle.sp_engine.specs.declared.answer.Answer.TheVariants.{Kept, Held}
 use Rattle.sp_engine.proofs.CarriedBlocks.{AreCarried-kept}
@@ -141,9 +142,9 @@ pub waits_of : {kept : List ReadBlock} {b : ReadBlock} (o : Offer) → o ≡ Wai
 waits_of {kept = kept} {b = b} o e h = subst (λ (x : Offer). IsAnswer kept b x) e h
 
 -- a block that is taken comes to the engine
-pub comes_of : {bits genesis : ℕ} {kept : List ReadBlock} {blocks : Numbered} {virts : Virts} {k : Carried} {a : Acceptance} {broken : Bool} {l : Ledger} {inside b : ReadBlock}
+pub comes_of : {bits genesis : ℕ} {kept : List ReadBlock} {blocks : Numbered} {virts : Virts} {k : Carried} {a : Acceptance} {p : Purse} {broken : Bool} {l : Ledger} {inside b : ReadBlock}
     → (let seen : Ledger = record { bits = bits; kept = kept; broken = broken } in seen) ≡ l
-    → (broken ≡ false → IsEngine bits kept genesis blocks virts × IsAccepting kept blocks k a) → l.broken ≡ false
+    → (broken ≡ false → IsEngine bits kept genesis blocks virts × IsAccepting kept blocks k a × IsPaying k a p) → l.broken ≡ false
     → inside ≡ b → IsBlock inside → IsOther b → standing_of l.kept b.id ≡ Fresh → Comes bits genesis kept blocks virts b
 comes_of {b = b} view inv whole is block other fresh = record {
   engine = (inv (ap (λ (l : Ledger). l.broken) view ∙ whole)).0;

@@ -119,7 +119,7 @@ module _ (kept : List ReadBlock) (apart : AreApart kept) (plain : IsPlain (ledge
             (paid_in z t there t_in) first.1)
       ]
 
-  txs_own : (z : ℕ) → has (present kept) z ≡ true → (ledger_by_id kept).txs z ≡ (ledger_of kept).txs z
+  pub txs_own : (z : ℕ) → has (present kept) z ≡ true → (ledger_by_id kept).txs z ≡ (ledger_of kept).txs z
   txs_own z there = own_all (txs_in kept (order_of kept)) (txs_of kept z) (λ t t_in. stands_for_itself z t there t_in)
 
   keys_distinct : AreDistinct (keys (graph_of kept))

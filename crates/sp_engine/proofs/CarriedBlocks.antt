@@ -23,7 +23,8 @@ use Rattle.sp_carry.proofs.Members.{any_agrees, any_of_member, bool_same, in_map
 use Rattle.sp_carry.proofs.Soundness.{grown_sound, sound_block}
 use Rattle.sp_accept.specs.Rows.{AreOf}
 use Rattle.sp_engine.specs.Engine.{AreCarried, AreNumbered}
-use Rattle.sp_engine.specs.Transactions.{each_once, tx_ids_in, txs_of, txs_or_none, with_id}
+use Rattle.sp_money.specs.Locks.{each_once, with_id}
+use Rattle.sp_engine.specs.Transactions.{tx_ids_in, txs_of, txs_or_none}
 
 -- ---- ids of transactions, each once
 

@@ -16,7 +16,8 @@ use Rattle.sp_plain.specs.Plain.{IsClosed}
 use Rattle.sp_plain.specs.Virts.{entry, Virts}
 use Rattle.sp_carry.specs.Carried.{Carried}
 use Rattle.sp_accept.specs.Acceptance.{Acceptance}
-use Rattle.sp_engine.specs.Engine.{AreNumbered, IsAccepting, IsEngine, Ledger, numbers}
+use Rattle.sp_money.specs.Held.{Held}
+use Rattle.sp_engine.specs.Engine.{AreNumbered, IsAccepting, IsEngine, IsPaying, Ledger, numbers}
 use Rattle.sp_engine.specs.Presence.{order_of}
 use Rattle.sp_engine.proofs.Counts.{distinct_within, present_counts}
 use Rattle.sp_engine.proofs.NumberedBlocks.{next_fresh, next_kept}
@@ -28,13 +29,17 @@ seen bits kept broken = record { bits = bits; kept = kept; broken = broken }
 
 module _ {bits genesis : ℕ} {kept : List ReadBlock} {blocks : Numbered} {virts : Virts} where
   -- what is kept, of the value that contracts see
-  pub engine_of : {broken : Bool} {l : Ledger} {k : Carried} {a : Acceptance} → seen bits kept broken ≡ l
-      → (broken ≡ false → IsEngine bits kept genesis blocks virts × IsAccepting kept blocks k a) → l.broken ≡ false → IsEngine l.bits l.kept genesis blocks virts
+  pub engine_of : {broken : Bool} {l : Ledger} {k : Carried} {a : Acceptance} {p : Held} → seen bits kept broken ≡ l
+      → (broken ≡ false → IsEngine bits kept genesis blocks virts × IsAccepting kept blocks k a × IsPaying k a p) → l.broken ≡ false → IsEngine l.bits l.kept genesis blocks virts
   engine_of view inv whole = subst (λ (l : Ledger). l.broken ≡ false → IsEngine l.bits l.kept genesis blocks virts) view (λ b. (inv b).0) whole
 
-  pub accepting_of : {broken : Bool} {l : Ledger} {k : Carried} {a : Acceptance} → seen bits kept broken ≡ l
-      → (broken ≡ false → IsEngine bits kept genesis blocks virts × IsAccepting kept blocks k a) → l.broken ≡ false → IsAccepting l.kept blocks k a
+  pub accepting_of : {broken : Bool} {l : Ledger} {k : Carried} {a : Acceptance} {p : Held} → seen bits kept broken ≡ l
+      → (broken ≡ false → IsEngine bits kept genesis blocks virts × IsAccepting kept blocks k a × IsPaying k a p) → l.broken ≡ false → IsAccepting l.kept blocks k a
   accepting_of {k = k} {a = a} view inv whole = subst (λ (l : Ledger). l.broken ≡ false → IsAccepting l.kept blocks k a) view (λ b. (inv b).1) whole
+
+  pub paying_of : {broken : Bool} {l : Ledger} {k : Carried} {a : Acceptance} {p : Held} → seen bits kept broken ≡ l
+      → (broken ≡ false → IsEngine bits kept genesis blocks virts × IsAccepting kept blocks k a × IsPaying k a p) → l.broken ≡ false → IsPaying k a p
+  paying_of view inv whole = (inv (ap (λ (l : Ledger). l.broken) view ∙ whole)).2
 
   pub present_count : IsEngine bits kept genesis blocks virts → length (present kept) ≡ length blocks.parents
   present_count e = present_counts kept blocks.ids e.all_kept.apart e.in_order.distinct e.same ∙ e.in_order.long

@@ -3,7 +3,7 @@ pub mod SpelledBlocks
 pub mod Presence
 pub mod NumberedBlocks
 pub mod Counts
-mod ByIds
+pub mod ByIds
 pub mod CarriedBlocks
 pub mod VotedBlocks
 pub mod WordsByNumbers
@@ -15,3 +15,18 @@ pub mod Alone
 pub mod Judgements
 pub mod Answered
 pub mod StatesByNumbers
+pub mod Paying
+pub mod SameBalances
+pub mod EachOnce
+pub mod BalancesByNumbers
+pub mod Twins
+pub mod Granted
+pub mod SmallBalances
+pub mod OwnBlocks
+pub mod SameKept
+pub mod OrderOfAll
+pub mod Alike
+pub mod AnyOrder
+pub mod PaidLocks
+pub mod BalancesOwn
+pub mod AllKept

@@ -28,7 +28,8 @@ use Rattle.sp_accept.proofs.Renamed.{accepted_renamed, state_renamed}
 use Rattle.sp_accept.proofs.States.{numbered_plain, states}
 use Rattle.sp_engine.specs.Engine.{IsAccepting, IsEngine, numbers}
 use Rattle.sp_engine.specs.Presence.{order_of}
-use Rattle.sp_engine.specs.Transactions.{each_once, ledger_by_id, ledger_of, state_of, tx_ids, tx_ids_in, txs_in, txs_of}
+use Rattle.sp_money.specs.Locks.{each_once}
+use Rattle.sp_engine.specs.Transactions.{ledger_by_id, ledger_of, state_of, tx_ids, tx_ids_in, txs_in, txs_of}
 use Rattle.sp_engine.proofs.ByIds.{acceptance_agrees, states_agree}
 use Rattle.sp_engine.proofs.CarriedBlocks.{are_of, carried_count, has_flipped}
 use Rattle.sp_engine.proofs.Counts.{AreDistinct-present}

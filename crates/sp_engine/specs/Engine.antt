@@ -1,5 +1,5 @@
 -- What contracts see of the engine, which is `Ledger`, and what it keeps: an invariant, which no public contract cites.
-use Rattle.std.specs.Prelude.{ℕ, ◌≡◌, ◌≤◌, ◌<◌, true, false, Bool, List, [], map, length, slice_get, slice_index_or, Some}
+use Rattle.std.specs.Prelude.{ℕ, ◌≡◌, ◌≤◌, ◌<◌, true, false, Bool, List, [], ◌++◌, map, length, slice_get, slice_index_or, Some, take}
 use Rattle.std.specs.List.{list_all, range_with_len}
 use Rattle.std.specs.Option.{option_map}
 use Rattle.sp_block.specs.Block.{ReadBlock}
@@ -7,11 +7,14 @@ use Rattle.sp_model.specs.Graph.{has, parents_of}
 use Rattle.sp_pool.specs.Kept.{AreKept, graph_of, ids_of, present}
 use Rattle.sp_dag.specs.Numbered.{graph_of as numbered_graph, IsNumbered, number_of, Numbered}
 use Rattle.sp_plain.specs.Virts.{HasVirts, Virts}
+use Rattle.sp_tx.specs.Parts.{Transaction}
 use Rattle.sp_tx.specs.Spending.{id_of}
 use Rattle.sp_carry.specs.Carried.{AreSound, Carried, Carries, IsCarried}
-use Rattle.sp_accept.specs.Acceptance.{Acceptance, IsRight}
+use Rattle.sp_accept.specs.Acceptance.{Acceptance, IsRight, is_set}
+use Rattle.sp_money.specs.Held.{Held, IsOf}
+use Rattle.sp_money.specs.Locks.{each_once}
 use Rattle.sp_engine.specs.Presence.{order_of}
-use Rattle.sp_engine.specs.Transactions.{each_once, tx_ids_in, txs_of}
+use Rattle.sp_engine.specs.Transactions.{tx_ids_in, txs_of}
 
 -- the bits of work, the kept blocks, and whether memory was refused
 pub record Ledger : Type 0 where
@@ -56,3 +59,19 @@ pub record IsAccepting (kept : List ReadBlock) (blocks : Numbered) (k : Carried)
   pub carriers : AreCarried kept blocks k
   pub right : IsRight blocks.parents k a
   pub all : a.blocks ≡ k.blocks
+
+-- the purse is prepared for the transactions of the carriers, and has the flags of the accepted ones
+pub record IsPaying (k : Carried) (a : Acceptance) (p : Held) : Type 0 where
+  pub of : IsOf k.txs p
+  pub same : (tx : ℕ) → tx < length k.txs → slice_index_or p.accepted tx false ≡ is_set a.txs tx
+
+-- it was so for the first of the transactions, and none of the others has a flag yet
+pub record WasPaying (k : Carried) (a : Acceptance) (p : Held) : Type 0 where
+  pub few : length p.accepted ≤ length k.txs
+  pub of : IsOf (take (length p.accepted) k.txs) p
+  pub same : (tx : ℕ) → tx < length p.accepted → slice_index_or p.accepted tx false ≡ is_set a.txs tx
+  pub none : (tx : ℕ) → length p.accepted ≤ tx → is_set a.txs tx ≡ false
+
+-- some transactions, and more behind them
+abbrev pub GoesOn : List Transaction → List Transaction → Type 0
+GoesOn front whole = (more : List Transaction) × (whole ≡ front ++ more)

@@ -4,3 +4,4 @@ pub mod Transactions
 pub mod Arrivals
 pub mod Causes
 pub mod Engine
+pub mod AnyOrder

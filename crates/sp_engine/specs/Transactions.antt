@@ -7,8 +7,10 @@ use Rattle.sp_model.specs.Graph.{has}
 use Rattle.sp_pool.specs.Kept.{graph_of, present}
 use Rattle.sp_carry.specs.declared.state.TxState.{TxState}
 use Rattle.sp_carry.specs.Carried.{first_like}
-use Rattle.sp_carry.specs.Ledger.{Ledger, state}
+use Rattle.sp_carry.specs.Ledger.{carried, Ledger, state}
+use Rattle.sp_carry.specs.Money.{balance, Coin, coins}
 use Rattle.sp_carry.specs.Payment.{payment_of}
+use Rattle.sp_money.specs.Locks.{each_once}
 use Rattle.sp_engine.specs.Presence.{order_of}
 
 abbrev pub txs_or_none : Option ReadBlock → List Transaction
@@ -36,14 +38,6 @@ ledger_by_id kept = record { graph = graph_of kept; txs = λ id. map (λ t. paym
 unfoldable pub state_of : List ReadBlock → ℕ → TxState
 state_of kept id = state (ledger_by_id kept) (present kept) id
 
--- the ids with one more, if it isn't one of them
-abbrev pub with_id : List ℕ → ℕ → List ℕ
-with_id ids id = if has ids id then ids else ids ++ id ∷ []
-
--- each of the ids once, at its first place
-abbrev pub each_once : List ℕ → List ℕ
-each_once ids = fold with_id [] ids
-
 -- the ids of the transactions of these blocks, in their order, and then in that of the places in a block
 abbrev pub tx_ids_in : List ReadBlock → List ℕ → List ℕ
 tx_ids_in kept blocks = flat_map (λ id. map id_of (txs_of kept id)) blocks
@@ -51,3 +45,11 @@ tx_ids_in kept blocks = flat_map (λ id. map id_of (txs_of kept id)) blocks
 -- the ids of the transactions of the present blocks in order of presence, and then of place, each once
 abbrev pub tx_ids : List ReadBlock → List ℕ
 tx_ids kept = each_once (tx_ids_in kept (order_of kept))
+
+-- what is left under a lock of the transactions that the present blocks accept
+unfoldable pub balance_by_id : List ReadBlock → ℕ → ℕ
+balance_by_id kept lock = balance (ledger_by_id kept) (present kept) lock
+
+-- the locks of the outputs of these transactions, in order of presence, then of place, then of output, each once
+abbrev pub locks : List ReadBlock → List ℕ
+locks kept = each_once (map (λ (c : Coin). c.lock) (flat_map coins (carried (ledger_by_id kept) (order_of kept))))

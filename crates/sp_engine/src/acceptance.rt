@@ -1,11 +1,12 @@
-//! Acceptance over the present blocks, where their votes say how two of them stand.
+//! Acceptance over the present blocks, where their votes say how two of them stand, and what it turns
+//! in the purse.
 
 ghost use Rattle.std.specs.Prelude.{◌≡◌, length, OnOk};
 ghost use Rattle.sp_dag.specs.Numbered.{graph_of};
 ghost use Rattle.sp_plain.specs.Virts.{HasVirts};
 ghost use Rattle.sp_accept.specs.Acceptance.{IsRight};
 ghost use Rattle.sp_accept.specs.Rows.{AreOf};
-ghost use Rattle.sp_engine.specs.Engine.{numbers};
+ghost use Rattle.sp_engine.specs.Engine.{numbers, IsPaying, WasPaying};
 
 use crate::votes::word_at;
 use sp_accept::{Accepted, Order};
@@ -13,6 +14,7 @@ use sp_carry::Carriers;
 use sp_dag::Dag;
 use sp_ids::Memory;
 use sp_model::Word;
+use sp_money::Purse;
 use sp_plain::Matrix;
 use std::marker::Model;
 
@@ -50,7 +52,8 @@ impl<'a> Order for VotedOrder<'a> {
     }
 }
 
-/// Decides anew on all carriers of the blocks.
+/// Decides anew on all carriers of the blocks, and turns in the purse what turned. The purse makes its
+/// room first, so that nothing fails once it is decided.
 ///
 /// # Errors
 ///
@@ -60,14 +63,21 @@ pub(crate) fn accept_all(
     votes: &Matrix,
     carriers: &Carriers,
     accepted: &mut Accepted,
+    purse: &mut Purse,
 ) -> Result<(), Memory>
     requires votes { HasVirts (graph_of dag.now.parents) (numbers dag.now)
         (length dag.now.parents) votes.now }
     requires of { AreOf dag.now.parents carriers.now }
+    requires paying { WasPaying carriers.now accepted.old purse.old }
     ensures right { OnOk result (IsRight dag.now.parents carriers.now accepted.new) }
     ensures all { OnOk result (accepted.new.blocks ≡ carriers.now.blocks) }
+    ensures paying { OnOk result (IsPaying carriers.now accepted.new purse.new) }
 {
+    // Tells the proof what carriers are.
+    let _blocks = carriers.block_count();
     let order = VotedOrder { dag, votes };
-    let _flips = accepted.rebuild(&order, carriers)?;
+    purse.prepare(carriers)?;
+    let flips = accepted.rebuild(&order, carriers)?;
+    purse.apply(carriers, flips.as_slice());
     Ok(())
 }

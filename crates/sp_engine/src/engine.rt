@@ -1,5 +1,5 @@
-//! The engine: the kept blocks, the graph of the present ones, the votes of all of them, and which of
-//! their transactions are accepted.
+//! The engine: the kept blocks, the graph of the present ones, the votes of all of them, which of
+//! their transactions are accepted, and what these leave under each lock.
 
 ghost use Rattle.std.specs.Prelude.{◌≡◌, ◌≤◌, ◌<◌, ◌+◌, ◌++◌, ◌∷◌, [], ◌==◌, ℕ, false, find, length, slice_get, Some, IfOk, OnOk, is_err, ◌↔◌, IsFalse};
 ghost use Rattle.std.specs.Option.{option_copied};
@@ -11,9 +11,10 @@ ghost use Rattle.sp_pool.specs.Kept.{AreKept, graph_of, present, standing_of};
 ghost use Rattle.sp_pool.specs.declared.answers.Standing.{Standing};
 ghost use Rattle.sp_engine.specs.Arrivals.{answer_of, joined, kept_after};
 ghost use Rattle.sp_engine.specs.Presence.{order_of};
-ghost use Rattle.sp_engine.specs.Transactions.{ledger_by_id, ledger_of, state_of, tx_ids};
+ghost use Rattle.sp_engine.specs.Transactions.{balance_by_id, ledger_by_id, ledger_of, locks, state_of, tx_ids};
 ghost use Rattle.sp_carry.specs.declared.state.TxState.{TxState};
 ghost use Rattle.sp_carry.specs.Ledger.{is_accepted, is_carried, state, IsPlain};
+ghost use Rattle.sp_carry.specs.Money.{balance};
 
 use crate::acceptance::accept_all;
 use crate::answer::{Answer, Refusal};
@@ -25,8 +26,9 @@ use sp_accept::Accepted;
 use sp_block::Block;
 use sp_carry::{Carriers, TxState};
 use sp_dag::Dag;
-use sp_ids::{BlockId, Memory, TxId};
+use sp_ids::{BlockId, Lock, Memory, TxId};
 use sp_model::Word;
+use sp_money::Purse;
 use sp_plain::Matrix;
 use sp_pool::{Offer, Pool, Standing};
 use std::alloc::Global;
@@ -48,19 +50,22 @@ pub struct Engine {
     carriers: Carriers,
     // Which of these are accepted.
     accepted: Accepted,
+    // What these leave under each lock.
+    purse: Purse,
     broken: bool,
 }
 
 impl Model for Engine {
     ghost use Rattle.std.specs.Prelude.{◌≡◌, false};
-    ghost use Rattle.sp_engine.specs.Engine.{IsAccepting, IsEngine, Ledger};
+    ghost use Rattle.sp_engine.specs.Engine.{IsAccepting, IsEngine, IsPaying, Ledger};
 
     ghost Value = { Ledger };
 
     ghost view = { λ e. record { bits = e.bits; kept = e.pool; broken = e.broken } };
 
     ghost invariant = { λ e. e.broken ≡ false →
-        IsEngine e.bits e.pool e.genesis e.dag e.votes × IsAccepting e.pool e.dag e.carriers e.accepted };
+        IsEngine e.bits e.pool e.genesis e.dag e.votes × IsAccepting e.pool e.dag e.carriers e.accepted
+        × IsPaying e.carriers e.accepted e.purse };
 }
 
 impl Engine {
@@ -90,6 +95,7 @@ impl Engine {
             votes: first.decided.votes,
             carriers: first.decided.carriers,
             accepted: first.decided.accepted,
+            purse: first.decided.purse,
             broken: false,
         })
     }
@@ -154,7 +160,13 @@ impl Engine {
                 self.votes = votes_of_all(self.alloc, &self.dag)?;
                 // Tells the proof what numbered blocks are.
                 let _blocks = self.dag.len();
-                accept_all(&self.dag, &self.votes, &self.carriers, &mut self.accepted)?;
+                accept_all(
+                    &self.dag,
+                    &self.votes,
+                    &self.carriers,
+                    &mut self.accepted,
+                    &mut self.purse,
+                )?;
                 self.broken = false;
                 let present = ids.len() as u16;
                 Ok(Answer::Kept { id, present })
@@ -241,6 +253,48 @@ impl Engine {
             result.1 ≡ is_accepted (ledger_of self.now.kept) (present self.now.kept) result.0 }
     {
         (self.carriers.tx_id(i), self.accepted.is_accepted(i))
+    }
+
+    /// What is left under a lock: the sum of the amounts of all outputs with this lock whose
+    /// transaction is accepted and which no accepted transaction spends; 0 where there is none. It
+    /// stands ready, so it takes about the time of a look-up in an ordered map, and no memory.
+    ///
+    /// The transaction of an id is the first one that has it, as in `tx_state`.
+    pub fn balance(&self, lock: &Lock) -> u128
+        requires { self.now.broken ≡ false }
+        ensures value { result ≡ balance_by_id self.now.kept lock.now }
+        ensures balance { IsPlain (ledger_of self.now.kept) (present self.now.kept) →
+            result ≡ balance (ledger_of self.now.kept) (present self.now.kept) lock.now }
+    {
+        self.purse.balance(lock)
+    }
+
+    /// How many different locks the outputs of the present blocks' transactions have, from 0 to
+    /// 2,097,152. What stands of their list stands here, for each caller: each lock under which
+    /// anything is left is among them.
+    pub fn lock_count(&self) -> u32
+        requires { self.now.broken ≡ false }
+        ensures count { result ≡ length (locks self.now.kept) }
+        ensures once { AreDistinct (locks self.now.kept) }
+        ensures paid { (lock : ℕ) → has (locks self.now.kept) lock ≡ false →
+            balance_by_id self.now.kept lock ≡ 0 }
+        ensures few { result ≤ 2097152 }
+    {
+        self.purse.lock_count()
+    }
+
+    /// The lock of this number, and what is left under it. Locks are numbered from 0 in the order of
+    /// the transactions whose outputs have them, and then in that of the outputs. It takes a bounded
+    /// number of steps.
+    pub fn lock_at(&self, i: u32) -> (Lock, u128)
+        requires whole { self.now.broken ≡ false }
+        requires within { i < length (locks self.now.kept) }
+        ensures lock { slice_get (locks self.now.kept) i ≡ Some result.0 }
+        ensures value { result.1 ≡ balance_by_id self.now.kept result.0 }
+        ensures balance { IsPlain (ledger_of self.now.kept) (present self.now.kept) →
+            result.1 ≡ balance (ledger_of self.now.kept) (present self.now.kept) result.0 }
+    {
+        self.purse.lock_at(i)
     }
 
     /// How many blocks are present, from 1 to 512. What stands of their order stands here, for each

@@ -1,4 +1,5 @@
-//! What genesis alone says: its number, its votes, its transactions, and which of them are accepted.
+//! What genesis alone says: its number, its votes, its transactions, which of them are accepted, and
+//! what they leave.
 //! It stands apart from the making of an engine, since all that is let go where memory was refused
 //! makes the proof of one function long.
 
@@ -8,7 +9,7 @@ ghost use Rattle.sp_plain.specs.Virts.{HasVirts};
 ghost use Rattle.sp_carry.specs.Carried.{IsCarried, nothing, with_block};
 ghost use Rattle.sp_accept.specs.Acceptance.{IsRight};
 ghost use Rattle.sp_accept.specs.Rows.{AreOf};
-ghost use Rattle.sp_engine.specs.Engine.{numbers};
+ghost use Rattle.sp_engine.specs.Engine.{numbers, IsPaying};
 
 use crate::acceptance::accept_all;
 use crate::votes::votes_of_all;
@@ -16,6 +17,7 @@ use sp_accept::Accepted;
 use sp_carry::Carriers;
 use sp_dag::Dag;
 use sp_ids::{BlockId, Memory};
+use sp_money::Purse;
 use sp_plain::Matrix;
 use sp_tx::Txs;
 use std::alloc::Global;
@@ -27,12 +29,13 @@ pub(crate) struct First {
     pub(crate) decided: Decided,
 }
 
-/// The votes of genesis, its carriers, and which of these are accepted.
+/// The votes of genesis, its carriers, which of these are accepted, and what they leave.
 #[derive(Drop)]
 pub(crate) struct Decided {
     pub(crate) votes: Matrix,
     pub(crate) carriers: Carriers,
     pub(crate) accepted: Accepted,
+    pub(crate) purse: Purse,
 }
 
 /// What genesis alone says, which has this id and these transactions.
@@ -54,6 +57,8 @@ pub(crate) fn first_of(alloc: Global, id: BlockId, txs: &Txs) -> Result<First, M
         first.decided.carriers first.decided.accepted) }
     ensures all { IfOk result (λ first.
         first.decided.accepted.blocks ≡ first.decided.carriers.blocks) }
+    ensures paying { IfOk result (λ first.
+        IsPaying first.decided.carriers first.decided.accepted first.decided.purse) }
 {
     let dag = Dag::new(alloc, id)?;
     // Tells the proof what numbered blocks are.
@@ -75,16 +80,19 @@ fn first_decided(alloc: Global, dag: &Dag, txs: &Txs) -> Result<Decided, Memory>
         IsRight dag.now.parents decided.carriers decided.accepted) }
     ensures all { IfOk result (λ decided.
         decided.accepted.blocks ≡ decided.carriers.blocks) }
+    ensures paying { IfOk result (λ decided.
+        IsPaying decided.carriers decided.accepted decided.purse) }
 {
     // Tells the proof what numbered blocks are.
     let _blocks = dag.len();
     let votes = votes_of_all(alloc, dag)?;
     let carriers = first_carriers(alloc, dag, txs)?;
-    let accepted = first_accepted(alloc, dag, &votes, &carriers)?;
+    let (accepted, purse) = first_accepted(alloc, dag, &votes, &carriers)?;
     Ok(Decided {
         votes,
         carriers,
         accepted,
+        purse,
     })
 }
 
@@ -104,20 +112,22 @@ fn first_carriers(alloc: Global, dag: &Dag, txs: &Txs) -> Result<Carriers, Memor
     Ok(carriers)
 }
 
-// What is accepted of all carriers.
+// What is accepted of all carriers, and what it leaves.
 fn first_accepted(
     alloc: Global,
     dag: &Dag,
     votes: &Matrix,
     carriers: &Carriers,
-) -> Result<Accepted, Memory>
+) -> Result<(Accepted, Purse), Memory>
     requires votes { HasVirts (graph_of dag.now.parents) (numbers dag.now)
         (length dag.now.parents) votes.now }
     requires of { AreOf dag.now.parents carriers.now }
-    ensures right { IfOk result (IsRight dag.now.parents carriers.now) }
-    ensures all { IfOk result (λ accepted. accepted.blocks ≡ carriers.now.blocks) }
+    ensures right { IfOk result (λ found. IsRight dag.now.parents carriers.now found.0) }
+    ensures all { IfOk result (λ found. found.0.blocks ≡ carriers.now.blocks) }
+    ensures paying { IfOk result (λ found. IsPaying carriers.now found.0 found.1) }
 {
     let mut accepted = Accepted::new(alloc);
-    accept_all(dag, votes, carriers, &mut accepted)?;
-    Ok(accepted)
+    let mut purse = Purse::new(alloc);
+    accept_all(dag, votes, carriers, &mut accepted, &mut purse)?;
+    Ok((accepted, purse))
 }

@@ -1,17 +1,23 @@
 //! Laws of arrivals, over the definitions alone. Each is the contract of a function that does
 //! nothing, so that the check proves it.
 
-ghost use Rattle.std.specs.Prelude.{◌≡◌, ◌∷◌, [], ℕ, List};
-ghost use Rattle.sp_block.specs.Block.{ReadBlock};
-ghost use Rattle.sp_pool.specs.Kept.{kept_of, present, AreApart};
+ghost use Rattle.std.specs.Prelude.{◌≡◌, ◌∷◌, ◌↔◌, [], ℕ, length, Contains, List};
+ghost use Rattle.sp_form.specs.Bytes.{IsBytes};
+ghost use Rattle.sp_block.specs.Block.{IsBlock, IsGenesis, ReadBlock};
+ghost use Rattle.sp_model.specs.Graph.{has};
+ghost use Rattle.sp_model.specs.Votes.{word};
+ghost use Rattle.sp_pool.specs.Kept.{graph_of, kept_of, present, AreApart, AreKept};
 ghost use Rattle.sp_pool.specs.Offers.{AreAnswers, order_of_presence};
 ghost use Rattle.sp_pool.specs.declared.answers.Offer.{Offer};
-ghost use Rattle.sp_engine.specs.Arrivals.{KeptAreOfArrivals, NoOthersAreKept};
+ghost use Rattle.sp_engine.specs.AnyOrder.{AreSameArrivals};
+ghost use Rattle.sp_engine.specs.Arrivals.{kept_by_all, KeptAreOfArrivals, NoOthersAreKept};
 ghost use Rattle.sp_engine.specs.Blocks.{BlockIsSpelled, BlockIsWhole, FaultIsFirst, WorkIsMet};
 ghost use Rattle.sp_engine.specs.Causes.{FullIsCaused, HeldIsCaused, KeptIsCaused, KnownIsCaused, SpellingIsCaused, WorkIsCaused};
 ghost use Rattle.sp_engine.specs.Presence.{order_of};
-ghost use Rattle.sp_engine.specs.Transactions.{each_once, ledger_by_id, ledger_of, state_of};
+ghost use Rattle.sp_money.specs.Locks.{each_once};
+ghost use Rattle.sp_engine.specs.Transactions.{ledger_by_id, ledger_of, state_of, tx_ids};
 ghost use Rattle.sp_carry.specs.Ledger.{is_accepted, state, IsPlain};
+ghost use Rattle.sp_carry.specs.Money.{balance};
 
 /// What a list of bytes is as a block, by the function that arrivals are judged with, is what it
 /// spells, or else its first fault.
@@ -69,4 +75,67 @@ pub fn states_of_own()
     ensures accepted { (kept : List ReadBlock) (id : ℕ) → AreApart kept →
         IsPlain (ledger_of kept) (present kept) →
         is_accepted (ledger_by_id kept) (present kept) id ≡ is_accepted (ledger_of kept) (present kept) id }
+{}
+
+/// From a genesis block on, what is kept of arrivals of bytes is genesis and other blocks, no two of
+/// one id, 512 of them at most.
+pub fn all_are_kept_blocks()
+    ensures kept { (bits : ℕ) (genesis : ReadBlock) (arrivals : List (List ℕ)) →
+        IsGenesis genesis → IsBlock genesis →
+        ((bytes : List ℕ) → Contains arrivals bytes → IsBytes bytes) →
+        AreKept (kept_by_all bits genesis arrivals) }
+    ensures first { (bits : ℕ) (genesis : ReadBlock) (arrivals : List (List ℕ)) →
+        (others : List ReadBlock) × (kept_by_all bits genesis arrivals ≡ genesis ∷ others) }
+{}
+
+/// Which of the same valid blocks arrived first is no matter, where there is room for them all:
+/// the same are kept and present, and what is said of them, of their transactions and of balances
+/// is the same. Of transactions and balances it is said where no two different transactions of the
+/// present blocks have one id, which then holds in either order.
+#[tactic(auto, using(crate::proofs::AnyOrder::present_keeps, crate::proofs::AnyOrder::present_count_keeps, crate::proofs::AnyOrder::count_keeps, crate::proofs::AnyOrder::word_keeps, crate::proofs::AnyOrder::ids_keep, crate::proofs::AnyOrder::accepted_keeps, crate::proofs::AnyOrder::state_keeps, crate::proofs::AnyOrder::balance_keeps))]
+pub fn arrivals_in_any_order()
+    ensures kept { (bits : ℕ) (genesis : ReadBlock) (arrivals others : List (List ℕ)) (block : ReadBlock) →
+        AreSameArrivals bits genesis arrivals others →
+        let one = kept_by_all bits genesis arrivals in let other = kept_by_all bits genesis others in
+        Contains one block ↔ Contains other block }
+    ensures apart { (bits : ℕ) (genesis : ReadBlock) (arrivals others : List (List ℕ)) →
+        AreSameArrivals bits genesis arrivals others →
+        let one = kept_by_all bits genesis arrivals in let other = kept_by_all bits genesis others in
+        AreApart one × AreApart other }
+    ensures present { (bits : ℕ) (genesis : ReadBlock) (arrivals others : List (List ℕ)) (id : ℕ) →
+        AreSameArrivals bits genesis arrivals others →
+        let one = kept_by_all bits genesis arrivals in let other = kept_by_all bits genesis others in
+        has (present one) id ≡ has (present other) id }
+    ensures counts { (bits : ℕ) (genesis : ReadBlock) (arrivals others : List (List ℕ)) →
+        AreSameArrivals bits genesis arrivals others →
+        let one = kept_by_all bits genesis arrivals in let other = kept_by_all bits genesis others in
+        (length one ≡ length other) × (length (present one) ≡ length (present other)) }
+    ensures word { (bits : ℕ) (genesis : ReadBlock) (arrivals others : List (List ℕ)) (x y : ℕ) →
+        AreSameArrivals bits genesis arrivals others →
+        let one = kept_by_all bits genesis arrivals in let other = kept_by_all bits genesis others in
+        word (graph_of other) (present other) x y ≡ word (graph_of one) (present one) x y }
+    ensures ids { (bits : ℕ) (genesis : ReadBlock) (arrivals others : List (List ℕ)) (id : ℕ) →
+        AreSameArrivals bits genesis arrivals others →
+        let one = kept_by_all bits genesis arrivals in let other = kept_by_all bits genesis others in
+        has (tx_ids one) id ≡ has (tx_ids other) id }
+    ensures plain { (bits : ℕ) (genesis : ReadBlock) (arrivals others : List (List ℕ)) →
+        AreSameArrivals bits genesis arrivals others →
+        let one = kept_by_all bits genesis arrivals in let other = kept_by_all bits genesis others in
+        IsPlain (ledger_of one) (present one) →
+        IsPlain (ledger_of other) (present other) }
+    ensures accepted { (bits : ℕ) (genesis : ReadBlock) (arrivals others : List (List ℕ)) (id : ℕ) →
+        AreSameArrivals bits genesis arrivals others →
+        let one = kept_by_all bits genesis arrivals in let other = kept_by_all bits genesis others in
+        IsPlain (ledger_of one) (present one) →
+        is_accepted (ledger_of other) (present other) id ≡ is_accepted (ledger_of one) (present one) id }
+    ensures state { (bits : ℕ) (genesis : ReadBlock) (arrivals others : List (List ℕ)) (id : ℕ) →
+        AreSameArrivals bits genesis arrivals others →
+        let one = kept_by_all bits genesis arrivals in let other = kept_by_all bits genesis others in
+        IsPlain (ledger_of one) (present one) →
+        state_of other id ≡ state_of one id }
+    ensures balance { (bits : ℕ) (genesis : ReadBlock) (arrivals others : List (List ℕ)) (lock : ℕ) →
+        AreSameArrivals bits genesis arrivals others →
+        let one = kept_by_all bits genesis arrivals in let other = kept_by_all bits genesis others in
+        IsPlain (ledger_of one) (present one) →
+        balance (ledger_of other) (present other) lock ≡ balance (ledger_of one) (present one) lock }
 {}

@@ -14,6 +14,7 @@ mod engine;
 mod first;
 pub mod laws;
 mod numbering;
+pub mod payments;
 mod valid;
 mod votes;
 

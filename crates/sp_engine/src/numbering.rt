@@ -2,7 +2,7 @@
 
 ghost use Rattle.std.specs.Prelude.{◌≡◌, ◌++◌, ◌∷◌, [], OnOk};
 ghost use Rattle.sp_pool.specs.Kept.{IsNext, Releases};
-ghost use Rattle.sp_engine.specs.Engine.{AreCarried, AreNumbered};
+ghost use Rattle.sp_engine.specs.Engine.{AreCarried, AreNumbered, GoesOn};
 
 use sp_carry::Carriers;
 use sp_dag::Dag;
@@ -17,6 +17,7 @@ fn add_one(pool: &Pool, dag: &mut Dag, carriers: &mut Carriers, id: &BlockId) ->
     ensures numbered { OnOk result (AreNumbered pool.now dag.new) }
     ensures ids { OnOk result (dag.new.ids ≡ dag.old.ids ++ id.now ∷ []) }
     ensures carried { OnOk result (AreCarried pool.now dag.new carriers.new) }
+    ensures more { OnOk result (GoesOn carriers.old.txs carriers.new.txs) }
 {
     // Tell the proof what kept and numbered blocks are.
     let _kept = pool.kept();
@@ -47,6 +48,7 @@ pub(crate) fn add_all(
     ensures numbered { OnOk result (AreNumbered pool.now dag.new) }
     ensures ids { OnOk result (dag.new.ids ≡ dag.old.ids ++ ids.now) }
     ensures carried { OnOk result (AreCarried pool.now dag.new carriers.new) }
+    ensures more { OnOk result (GoesOn carriers.old.txs carriers.new.txs) }
 {
     for id in ids {
         add_one(pool, dag, carriers, id)?;

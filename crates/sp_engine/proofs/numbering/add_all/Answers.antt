@@ -1,4 +1,5 @@
 use Rattle.sp_engine.proofs.Released.{more_ids, next_of, rest_of}
+use Rattle.sp_engine.proofs.Paying.{goes_then}
 use Rattle.sp_engine.proofs.numbering.add_all.Goals as goal
 
 pub add_one-requires-clause-next : goal.add_one-requires-clause-next
@@ -9,5 +10,6 @@ loop-id-preserved c = record {
   numbered = c.in_ok-add_one.ensures.numbered;
   carried = c.in_ok-add_one.ensures.carried;
   ids = more_ids c.args.dag.now.ids c.loop-id.dag.ids c.add_one.new.dag.ids c.args.ids.now c.loop-id.id-index c.id-item.result c.loop-id.invariant.ids c.loop-id-test.true c.id-item.is c.in_ok-add_one.ensures.ids;
+  more = goes_then c.args.carriers.now.txs c.loop-id.carriers.txs c.add_one.new.carriers.txs c.loop-id.invariant.more c.in_ok-add_one.ensures.more;
   order = rest_of c.args.pool.now c.loop-id.dag.ids c.args.ids.now c.loop-id.id-index c.id-item.result c.add_one.new.dag.ids c.loop-id.invariant.order c.loop-id-test.true c.id-item.is c.in_ok-add_one.ensures.ids;
 }

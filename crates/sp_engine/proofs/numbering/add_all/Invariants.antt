@@ -1,6 +1,6 @@
 use Rattle.std.proofs.Common.{◌≡◌, ◌++◌, take, drop}
 use Rattle.sp_pool.specs.Kept.{Releases}
-use Rattle.sp_engine.specs.Engine.{AreCarried, AreNumbered}
+use Rattle.sp_engine.specs.Engine.{AreCarried, AreNumbered, GoesOn}
 use Rattle.sp_engine.proofs.numbering.add_all.Given as goal
 
 abbrev pub invariant-loop-id : goal.invariant-loop-id
@@ -9,4 +9,5 @@ invariant-loop-id l = record {
   carried : AreCarried l.pool l.dag l.carriers;
   ids : l.dag.ids ≡ l.fn.dag.ids ++ take l.id-index l.ids;
   order : Releases l.pool l.dag.ids (drop l.id-index l.ids);
+  more : GoesOn l.fn.carriers.txs l.carriers.txs;
 }

@@ -8,6 +8,7 @@ use Rattle.sp_carry.specs.Carried.{with_block}
 use Rattle.sp_engine.proofs.CarriedBlocks.{AreCarried-more, few_txs}
 use Rattle.sp_engine.proofs.Facts.{all_items, is_found, room_left}
 use Rattle.sp_engine.proofs.NumberedBlocks.{AreNumbered-more, found_by, next_closed, next_fresh, next_kept}
+use Rattle.sp_engine.proofs.Paying.{block_goes}
 use Rattle.sp_engine.proofs.numbering.add_one.Goals as goal
 
 pub add-requires-clause-fresh : goal.add-requires-clause-fresh
@@ -52,3 +53,8 @@ returns-clause-carried c =
     AreCarried-more c.args.pool.now c.args.dag.now c.add.new.self c.args.carriers.now c.add-in-Some.new.self c.args.id.now c.as_slice.result.now c.in-Some.block.now
     c.len-blocks.ensures.numbered c.len-more.ensures.numbered c.requires.carried (sym c.block.ensures ∙ ap option_copied c.in-Some.is) c.in_ok-number-in-Some.ensures.ok
     c.block_count-added.ensures.carried (c.in_ok-add-in-Some.ensures.ok ∙ ap (λ (b : ReadBlock). with_block c.add.new.self.parents c.args.carriers.now b.txs) c.block-in-Some.view_is)
+
+pub returns-clause-more : goal.returns-clause-more
+returns-clause-more c =
+    block_goes c.add.new.self.parents c.args.carriers.now c.add-in-Some.new.self c.in-Some.block.now.txs
+    (c.in_ok-add-in-Some.ensures.ok ∙ ap (λ (b : ReadBlock). with_block c.add.new.self.parents c.args.carriers.now b.txs) c.block-in-Some.view_is)

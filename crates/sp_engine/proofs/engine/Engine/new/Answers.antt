@@ -15,4 +15,5 @@ invariant_of-result c = λ _. (
     right = c.in_ok-first.ensures.right;
     all = c.in_ok-first.ensures.all;
   },
+  c.in_ok-first.ensures.paying,
 )

@@ -6,6 +6,7 @@ use Rattle.sp_engine.specs.Engine.{Ledger}
 use Rattle.sp_engine.specs.declared.answer.Answer.TheVariants.{Kept, Held}
 use Rattle.sp_engine.proofs.CarriedBlocks.{are_of}
 use Rattle.sp_engine.proofs.Arriving.{comes_answer, comes_carried, comes_engine, comes_numbered, comes_order, comes_of, joins_of, waits_accepting, waits_answer, waits_engine, waits_of}
+use Rattle.sp_engine.proofs.Paying.{was_paying}
 use Rattle.sp_engine.proofs.engine.Engine.take.Goals as goal
 
 pub add_all-requires-clause-numbered : goal.add_all-requires-clause-numbered
@@ -23,6 +24,11 @@ pub accept_all-requires-clause-of : goal.accept_all-requires-clause-of
 accept_all-requires-clause-of c =
     are_of c.offer.new.self c.add_all.new.dag c.add_all.new.carriers c.len-blocks.ensures.numbered c.in_ok-add_all-in-Present.ensures.carried
 
+pub accept_all-requires-clause-paying : goal.accept_all-requires-clause-paying
+accept_all-requires-clause-paying c =
+    let held = c.self.invariant (ap (λ (l : Ledger). l.broken) c.self.view_is ∙ c.requires.whole) in
+    was_paying c.self.inside.carriers c.add_all.new.carriers c.self.inside.accepted c.self.inside.purse c.in_ok-add_all-in-Present.ensures.more held.1.right.no_more_txs held.2
+
 pub add_all-requires-clause-order : goal.add_all-requires-clause-order
 add_all-requires-clause-order c =
     let came = comes_of c.self.view_is c.self.invariant c.requires.whole c.block.view_is c.block.invariant c.requires.other c.requires.fresh in
@@ -36,14 +42,16 @@ invariant_of-self-in-Present c = λ _.
           (joins_of c.in_ok-ids.field-0 c.in-Present.ids c.in-Present.is c.in_ok-ids.ensures.answer) c.len-blocks.ensures.numbered c.in_ok-add_all-in-Present.ensures.numbered
           (c.in_ok-add_all-in-Present.ensures.ids ∙ ap (λ ids. c.self.inside.dag.ids ++ ids) c.as_slice-ids.ensures) c.in_ok-self-inside-in-Present.ensures,
       record { carriers = c.in_ok-add_all-in-Present.ensures.carried; right = c.in_ok-accept_all-in-Present.ensures.right; all = c.in_ok-accept_all-in-Present.ensures.all },
+      c.in_ok-accept_all-in-Present.ensures.paying,
     )
 
 pub invariant_of-self-in-Waiting : goal.invariant_of-self-in-Waiting
 invariant_of-self-in-Waiting c = λ _.
     let came = comes_of c.self.view_is c.self.invariant c.requires.whole c.block.view_is c.block.invariant c.requires.other c.requires.fresh in
-    let accepting = (c.self.invariant (ap (λ (l : Ledger). l.broken) c.self.view_is ∙ c.requires.whole)).1 in (
+    let held = c.self.invariant (ap (λ (l : Ledger). l.broken) c.self.view_is ∙ c.requires.whole) in (
       waits_engine c.offer.new.self c.in_ok-ids.ensures.kept came (waits_of c.in_ok-ids.field-0 c.in-Waiting.is c.in_ok-ids.ensures.answer),
-      waits_accepting c.offer.new.self c.in_ok-ids.ensures.kept came accepting,
+      waits_accepting c.offer.new.self c.in_ok-ids.ensures.kept came held.1,
+      held.2,
     )
 
 pub returns-in_ok-accept_all-in-Present-clause-answer : goal.returns-in_ok-accept_all-in-Present-clause-answer
