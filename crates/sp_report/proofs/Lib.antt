@@ -1,1 +1,4 @@
 pub mod Decimals
+pub mod LinesLeft
+pub mod PairTexts
+pub mod SortedIds

@@ -1,3 +1,4 @@
 pub mod Reasons
 pub mod Lines
 pub mod Asks
+pub mod Texts

@@ -1,4 +1,4 @@
--- The lines that answer messages and tell faults. Each ends with byte 10; numbers are decimal.
+-- The lines that answer messages, tell faults and make up texts. Each ends with byte 10; numbers are decimal.
 use Rattle.std.specs.Prelude.{ℕ, List, [], ◌∷◌, ◌++◌, codes}
 use Rattle.std.specs.Fmt.{decimal}
 use Rattle.hex.specs.Hex.{encode_lower}
@@ -65,6 +65,26 @@ state_text tx_is.Absent = codes "absent"
 -- what is said of a transaction
 unfoldable pub tx_text : List ℕ → TxState → List ℕ
 tx_text label state = codes "tx " ++ label ++ 32 ∷ [] ++ state_text state ++ 10 ∷ []
+
+-- what is left under a lock
+unfoldable pub balance_text : List ℕ → ℕ → List ℕ
+balance_text label balance = codes "balance " ++ label ++ 32 ∷ [] ++ decimal balance ++ 10 ∷ []
+
+-- how many blocks are present, and how many wait
+unfoldable pub blocks_text : ℕ → ℕ → List ℕ
+blocks_text present waiting = codes "blocks " ++ decimal present ++ codes " waiting " ++ decimal waiting ++ 10 ∷ []
+
+-- how many pairs of blocks follow
+unfoldable pub pair_count_text : ℕ → List ℕ
+pair_count_text count = codes "pairs " ++ decimal count ++ 10 ∷ []
+
+-- how many accepted transactions follow
+unfoldable pub accepted_count_text : ℕ → List ℕ
+accepted_count_text count = codes "accepted " ++ decimal count ++ 10 ∷ []
+
+-- how many balances follow
+unfoldable pub balance_count_text : ℕ → List ℕ
+balance_count_text count = codes "balances " ++ decimal count ++ 10 ∷ []
 
 -- a feed that breaks its rules at a place
 unfoldable pub malformed_text : ℕ → List ℕ

@@ -8,13 +8,13 @@ ghost use Rattle.sp_report.specs.Asks.{ask_text};
 
 use crate::ask::Ask;
 use crate::line::Line;
-use crate::lines::{tx_line, vote_line};
-use crate::naming::{Naming, label, tx_label};
+use crate::lines::{balance_line, tx_line, vote_line};
+use crate::naming::{Naming, label, lock_label, tx_label};
 use sp_engine::Engine;
 use sp_io::{Failed, Sink, write_whole};
 
-// The line that answers a question.
-fn line_of(engine: &Engine, ask: &Ask, naming: &Naming) -> Line
+/// The line that answers a question.
+pub(crate) fn line_of(engine: &Engine, ask: &Ask, naming: &Naming) -> Line
     requires { engine.now.broken ≡ false }
     ensures { result ≡ ask_text engine.now.kept ask.now }
 {
@@ -24,6 +24,7 @@ fn line_of(engine: &Engine, ask: &Ask, naming: &Naming) -> Line
             vote_line(&label(naming, x), &label(naming, y), word)
         }
         Ask::Tx(id) => tx_line(&tx_label(naming, id), engine.tx_state(id)),
+        Ask::Balance(lock) => balance_line(&lock_label(naming, lock), engine.balance(lock)),
     }
 }
 

@@ -1,22 +1,10 @@
 //! The lines that say where a feed or a list of lines went wrong.
 
-ghost use Rattle.std.specs.Prelude.{◌≡◌, ◌≤◌, ◌+◌, ◌++◌, ◌∷◌, [], length};
-ghost use Rattle.std.specs.Fmt.{decimal};
+ghost use Rattle.std.specs.Prelude.{◌≡◌};
 ghost use Rattle.sp_report.specs.Lines.{malformed_text, too_long_text, truncated_text};
 
 use crate::line::Line;
-
-// A line of a few words and a number.
-fn numbered(words: &[u8], number: u32) -> Line
-    requires { length words.now ≤ 64 }
-    ensures { result ≡ words.now ++ decimal number ++ 10 ∷ [] }
-{
-    let mut line = Line::new();
-    line.push_bytes(words);
-    line.push_number(u64::from(number));
-    line.push_byte(b'\n');
-    line
-}
+use crate::lines::numbered;
 
 /// The line of a feed whose bytes break their rules at this place, counted from 0.
 #[tactic(auto, unfolding(crate::specs::Lines::malformed_text))]

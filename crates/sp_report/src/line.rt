@@ -67,13 +67,34 @@ impl Line {
     }
 
     /// Writes a number in decimal digits, without leading zeros. There are 20 of them at most.
+    #[tactic(auto, using(crate::proofs::Decimals::fits_64, crate::proofs::Decimals::size_of_64))]
     pub fn push_number(&mut self, number: u64)
         requires { length self.old ≤ 172 }
         ensures text { self.new ≡ self.old ++ decimal number }
         ensures size { length self.new ≤ length self.old + 20 }
     {
+        self.push_digits(u128::from(number));
+    }
+
+    /// Writes a number of 128 bits in decimal digits, without leading zeros. There are 39 of them
+    /// at most.
+    #[tactic(auto, using(crate::proofs::Decimals::fits_128, crate::proofs::Decimals::size_of_128))]
+    pub fn push_wide_number(&mut self, number: u128)
+        requires { length self.old ≤ 153 }
+        ensures text { self.new ≡ self.old ++ decimal number }
+        ensures size { length self.new ≤ length self.old + 39 }
+    {
+        self.push_digits(number);
+    }
+
+    // Writes a number in decimal digits, the first of them by a call on the number without its last.
+    #[tactic(auto, using(crate::proofs::Decimals::fewer_digits))]
+    fn push_digits(&mut self, number: u128)
+        requires { length self.old + length (decimal number) ≤ 192 }
+        ensures { self.new ≡ self.old ++ decimal number }
+    {
         if 10 <= number {
-            self.push_number(number / 10);
+            self.push_digits(number / 10);
         }
         self.push_byte(b'0' + (number % 10) as u8);
     }

@@ -1,14 +1,27 @@
 //! The lines over a label as bytes, apart from those of an answer, since blocks are named in other
 //! ways elsewhere.
 
-ghost use Rattle.std.specs.Prelude.{◌≡◌, ◌≤◌, length};
-ghost use Rattle.sp_report.specs.Lines.{full_text, kept_text, known_text, refused_text, tx_text, vote_text, waiting_text};
+ghost use Rattle.std.specs.Prelude.{◌≡◌, ◌≤◌, ◌++◌, ◌∷◌, [], length};
+ghost use Rattle.std.specs.Fmt.{decimal};
+ghost use Rattle.sp_report.specs.Lines.{accepted_count_text, balance_count_text, balance_text, blocks_text, full_text, kept_text, known_text, pair_count_text, refused_text, tx_text, vote_text, waiting_text};
 ghost use Rattle.sp_report.specs.Lines as meant;
 
 use crate::line::Line;
 use crate::reasons::reason;
 use sp_engine::{Refusal, TxState};
 use sp_model::Word;
+
+// A line of a few words and a number.
+pub(crate) fn numbered(words: &[u8], number: u32) -> Line
+    requires { length words.now ≤ 64 }
+    ensures { result ≡ words.now ++ decimal number ++ 10 ∷ [] }
+{
+    let mut line = Line::new();
+    line.push_bytes(words);
+    line.push_number(u64::from(number));
+    line.push_byte(b'\n');
+    line
+}
 
 /// The line of a block that is kept and present, and of the number of blocks that became present
 /// with it.
@@ -131,4 +144,57 @@ pub fn tx_line(label: &[u8], state: TxState) -> Line
     line.push_bytes(state_text(state));
     line.push_byte(b'\n');
     line
+}
+
+/// The line of what is left under a lock.
+#[tactic(auto, unfolding(crate::specs::Lines::balance_text))]
+pub fn balance_line(label: &[u8], balance: u128) -> Line
+    requires { length label.now ≤ 64 }
+    ensures { result ≡ balance_text label.now balance }
+{
+    let mut line = Line::new();
+    line.push_bytes(b"balance ");
+    line.push_bytes(label);
+    line.push_byte(b' ');
+    line.push_wide_number(balance);
+    line.push_byte(b'\n');
+    line
+}
+
+/// The line of how many blocks are present, and how many wait.
+#[tactic(auto, unfolding(crate::specs::Lines::blocks_text))]
+pub fn blocks_line(present: u16, waiting: u16) -> Line
+    ensures { result ≡ blocks_text present waiting }
+{
+    let mut line = Line::new();
+    line.push_bytes(b"blocks ");
+    line.push_number(u64::from(present));
+    line.push_bytes(b" waiting ");
+    line.push_number(u64::from(waiting));
+    line.push_byte(b'\n');
+    line
+}
+
+/// The line of how many pairs of blocks follow.
+#[tactic(auto, unfolding(crate::specs::Lines::pair_count_text))]
+pub fn pair_count_line(count: u32) -> Line
+    ensures { result ≡ pair_count_text count }
+{
+    numbered(b"pairs ", count)
+}
+
+/// The line of how many accepted transactions follow.
+#[tactic(auto, unfolding(crate::specs::Lines::accepted_count_text))]
+pub fn accepted_count_line(count: u32) -> Line
+    ensures { result ≡ accepted_count_text count }
+{
+    numbered(b"accepted ", count)
+}
+
+/// The line of how many balances follow.
+#[tactic(auto, unfolding(crate::specs::Lines::balance_count_text))]
+pub fn balance_count_line(count: u32) -> Line
+    ensures { result ≡ balance_count_text count }
+{
+    numbered(b"balances ", count)
 }
