@@ -1,9 +1,9 @@
--- Each message is answered by one line, which has at most 192 bytes: no more than 512 blocks become present, an id has 64 digits, and no word has more than 15 letters.
-use Rattle.std.proofs.Common.{◌≡◌, ℕ, zero, suc, ◌+◌, ◌<◌, ◌≤◌, ◌-◌, ◌%◌, nat_eq, Bool, true, false, not, List, [], ◌∷◌, ◌++◌, length, refl, ap, arith, length-append}
+-- Each message that one line answers is answered by one of at most 192 bytes: no more than 512 blocks become present, an id has 64 digits, a balance 25, and no word has more than 15 letters.
+use Rattle.std.proofs.Common.{◌≡◌, ℕ, zero, suc, ◌+◌, ◌<◌, ◌≤◌, ◌-◌, ◌%◌, ◌^◌, nat_eq, Bool, true, false, not, List, [], ◌∷◌, ◌++◌, length, refl, ap, arith, length-append}
 use Rattle.std.specs.Prelude.{codes, filter, if◌then◌else◌, Result, Ok, Err}
 use Rattle.std.specs.Fmt.{decimal}
 use Rattle.std.proofs.Math.ListN.{length-map}
-use Rattle.std.proofs.lemmas.Fmt.{length-decimal-le}
+use Rattle.std.proofs.lemmas.Fmt.{length-decimal-le, length-decimal-le_wide}
 use Rattle.std.proofs.lemmas.List.Filters.{length-filter_both}
 use Rattle.std.specs.List.{list_all}
 use Rattle.std.proofs.lemmas.Bool.{eqb-true}
@@ -33,11 +33,12 @@ use Rattle.sp_engine.specs.Arrivals.{answer_by, answer_of, answer_to, joined, va
 use Rattle.sp_engine.specs.declared.answer.Answer.TheVariants.{Kept, Held}
 use Rattle.sp_engine.specs.declared.answer.Refusal.{Refusal}
 use Rattle.sp_engine.specs.declared.answer.Refusal.TheVariants.{Spelling, Work}
-use Rattle.sp_engine.specs.Transactions.{state_of}
-use Rattle.sp_report.specs.Lines.{answer_text, full_text, hex_label, kept_text, known_text, refused_text, state_text, tx_text, vote_text, waiting_text, word_text}
+use Rattle.sp_engine.specs.Transactions.{balance_by_id, state_of}
+use Rattle.sp_engine.proofs.SmallBalances.{small_balance}
+use Rattle.sp_report.specs.Lines.{answer_text, balance_text, full_text, hex_label, kept_text, known_text, refused_text, state_text, tx_text, vote_text, waiting_text, word_text}
 use Rattle.sp_report.specs.Reasons.{block_reason, reason, tx_reason}
-use Rattle.sp_feed.specs.Kinds.{SaysBlock, SaysVote, SaysTx}
-use Rattle.sp_node.specs.Answers.{line_of}
+use Rattle.sp_feed.specs.Kinds.{SaysBlock, SaysVote, SaysTx, SaysBalance, SaysPairs, SaysReport}
+use Rattle.sp_node.specs.Answers.{reply_of}
 use Rattle.sp_node.specs.Messages.{AnswersAreLines, IsLine}
 
 -- ---- the number of present blocks
@@ -178,6 +179,15 @@ tx_is_line id s =
     let all : length (codes "tx " ++ hex_label id ++ 32 ∷ [] ++ state_text s) ≤ 76 = longer (codes "tx " ++ hex_label id ++ 32 ∷ []) (state_text s) 68 8 space (short_state s) in
     is_line (codes "tx " ++ hex_label id ++ 32 ∷ [] ++ state_text s) (omega (arith, all))
 
+balance_is_line : (lock n : ℕ) → n < 2 ^ 81 → IsLine (balance_text (hex_label lock) n)
+unfolding balance_text
+balance_is_line lock n few =
+    let digits : length (decimal n) ≤ 25 = length-decimal-le_wide 25 n (omega arith) (omega (arith, few)) (omega (arith, few)) in
+    let named : length (codes "balance " ++ hex_label lock) ≤ 72 = longer (codes "balance ") (hex_label lock) 8 64 (omega arith) (label_fits lock) in
+    let space : length (codes "balance " ++ hex_label lock ++ 32 ∷ []) ≤ 73 = longer (codes "balance " ++ hex_label lock) (32 ∷ []) 72 1 named (omega arith) in
+    let all : length (codes "balance " ++ hex_label lock ++ 32 ∷ [] ++ decimal n) ≤ 98 = longer (codes "balance " ++ hex_label lock ++ 32 ∷ []) (decimal n) 73 25 space digits in
+    is_line (codes "balance " ++ hex_label lock ++ 32 ∷ [] ++ decimal n) (omega (arith, all))
+
 -- ---- answers
 
 module _ (kept : List ReadBlock) where
@@ -202,7 +212,10 @@ module _ (kept : List ReadBlock) where
   judged_is_line (Ok block) = standing_is_line block (standing_of kept block.id) refl
 
 pub answers_are_lines : AnswersAreLines
-unfolding line_of answer_of
-answers_are_lines bits kept (SaysBlock bytes) = judged_is_line kept (valid_in bits bytes)
-answers_are_lines bits kept (SaysVote x y) = vote_is_line x y (word (graph_of kept) (present kept) x y)
-answers_are_lines bits kept (SaysTx id) = tx_is_line id (state_of kept id)
+unfolding reply_of answer_of
+answers_are_lines bits kept (SaysBlock bytes) one = judged_is_line kept (valid_in bits bytes)
+answers_are_lines bits kept (SaysVote x y) one = vote_is_line x y (word (graph_of kept) (present kept) x y)
+answers_are_lines bits kept (SaysTx id) one = tx_is_line id (state_of kept id)
+answers_are_lines bits kept (SaysBalance lock) one = balance_is_line lock (balance_by_id kept lock) (small_balance kept one lock)
+answers_are_lines bits kept SaysPairs one = absurd one
+answers_are_lines bits kept SaysReport one = absurd one

@@ -5,8 +5,8 @@ use Rattle.std.proofs.lemmas.List.{append-nil}
 use Rattle.std.proofs.lemmas.List.Sums.{fold_push}
 use Rattle.sp_block.specs.Block.{ReadBlock}
 use Rattle.sp_engine.specs.Arrivals.{kept_after, kept_by_all}
-use Rattle.sp_feed.specs.Kinds.{Said, SaysBlock, SaysVote, SaysTx}
-use Rattle.sp_node.specs.Answers.{answers, arrivals_of, kept_then, line}
+use Rattle.sp_feed.specs.Kinds.{Said, SaysBlock, SaysVote, SaysTx, SaysBalance, SaysPairs, SaysReport}
+use Rattle.sp_node.specs.Answers.{answers, arrivals_of, kept_then, reply}
 use Rattle.sp_node.specs.Messages.{AnswersInTurn, KeptByMessages}
 
 -- one arrival more
@@ -18,6 +18,9 @@ pub kept_then_by_all : (bits : ℕ) (genesis : ReadBlock) (arrivals : List (List
 kept_then_by_all bits genesis arrivals (SaysBlock bytes) = sym (kept_by_all-push bits genesis arrivals bytes)
 kept_then_by_all bits genesis arrivals (SaysVote x y) = ap (kept_by_all bits genesis) (sym (append-nil arrivals))
 kept_then_by_all bits genesis arrivals (SaysTx id) = ap (kept_by_all bits genesis) (sym (append-nil arrivals))
+kept_then_by_all bits genesis arrivals (SaysBalance lock) = ap (kept_by_all bits genesis) (sym (append-nil arrivals))
+kept_then_by_all bits genesis arrivals SaysPairs = ap (kept_by_all bits genesis) (sym (append-nil arrivals))
+kept_then_by_all bits genesis arrivals SaysReport = ap (kept_by_all bits genesis) (sym (append-nil arrivals))
 
 -- many messages more
 pub kept_by_messages : (bits : ℕ) (genesis : ReadBlock) (arrivals : List (List ℕ)) (messages : List Said) → fold (kept_then bits) (kept_by_all bits genesis arrivals) messages ≡ kept_by_all bits genesis (arrivals ++ flat_map arrivals_of messages)
@@ -36,7 +39,7 @@ unfolding answers
 answers-append genesis bits arrivals [] rest = ap (λ (a : List (List ℕ)). answers genesis bits a rest) (sym (append-nil arrivals))
 answers-append genesis bits arrivals (m ∷ front) rest =
     let after : List (List ℕ) = arrivals ++ arrivals_of m in
-    let here : List ℕ = line genesis bits arrivals m in
+    let here : List ℕ = reply genesis bits arrivals m in
     ap (λ (l : List ℕ). here ++ l) (answers-append genesis bits after front rest)
     ∙ ap (λ (a : List (List ℕ)). here ++ (answers genesis bits after front ++ answers genesis bits a rest)) (append_assoc arrivals (arrivals_of m) (flat_map arrivals_of front))
     ∙ sym (append_assoc here (answers genesis bits after front) (answers genesis bits (arrivals ++ (arrivals_of m ++ flat_map arrivals_of front)) rest))
@@ -45,8 +48,8 @@ pub answers_in_turn : AnswersInTurn
 answers_in_turn = answers-append
 
 -- the answers to one message more
-pub answers-push : (genesis : ReadBlock) (bits : ℕ) (arrivals : List (List ℕ)) (messages : List Said) (m : Said) → answers genesis bits arrivals (messages ++ m ∷ []) ≡ answers genesis bits arrivals messages ++ line genesis bits (arrivals ++ flat_map arrivals_of messages) m
+pub answers-push : (genesis : ReadBlock) (bits : ℕ) (arrivals : List (List ℕ)) (messages : List Said) (m : Said) → answers genesis bits arrivals (messages ++ m ∷ []) ≡ answers genesis bits arrivals messages ++ reply genesis bits (arrivals ++ flat_map arrivals_of messages) m
 unfolding answers
 answers-push genesis bits arrivals messages m =
     answers-append genesis bits arrivals messages (m ∷ [])
-    ∙ ap (λ (l : List ℕ). answers genesis bits arrivals messages ++ l) (append-nil (line genesis bits (arrivals ++ flat_map arrivals_of messages) m))
+    ∙ ap (λ (l : List ℕ). answers genesis bits arrivals messages ++ l) (append-nil (reply genesis bits (arrivals ++ flat_map arrivals_of messages) m))

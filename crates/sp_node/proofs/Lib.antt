@@ -1,2 +1,3 @@
 pub mod AnswerLists
 pub mod AnswerLengths
+pub mod SameReplies

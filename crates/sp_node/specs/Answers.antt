@@ -1,38 +1,57 @@
--- The line that answers each message of a feed, over the blocks that arrived before it.
+-- What answers each message of a feed, over the blocks that arrived before it.
 use Rattle.std.specs.Prelude.{ℕ, List, [], ◌∷◌, ◌++◌}
 use Rattle.sp_block.specs.Block.{ReadBlock}
 use Rattle.sp_model.specs.Votes.{word}
 use Rattle.sp_pool.specs.Kept.{graph_of, present}
 use Rattle.sp_engine.specs.Arrivals.{answer_of, kept_after, kept_by_all}
-use Rattle.sp_engine.specs.Transactions.{state_of}
-use Rattle.sp_feed.specs.Kinds.{Said, SaysBlock, SaysVote, SaysTx}
-use Rattle.sp_report.specs.Lines.{answer_text, hex_label, tx_text, vote_text}
+use Rattle.sp_engine.specs.Transactions.{balance_by_id, state_of}
+use Rattle.sp_feed.specs.Kinds.{Said, SaysBlock, SaysVote, SaysTx, SaysBalance, SaysPairs, SaysReport}
+use Rattle.sp_report.specs.Lines.{answer_text, balance_text, hex_label, tx_text, vote_text}
+use Rattle.sp_report.specs.Texts.{pairs_text, report_text}
 
--- the line that answers a message where these blocks are kept: of what becomes of the bytes, or of
--- what all present blocks say of the two, or of the transaction
-unfoldable pub line_of : ℕ → List ReadBlock → Said → List ℕ
-line_of bits kept (SaysBlock bytes) = answer_text (answer_of bits kept bytes)
-line_of bits kept (SaysVote x y) = vote_text (hex_label x) (hex_label y) (word (graph_of kept) (present kept) x y)
-line_of bits kept (SaysTx id) = tx_text (hex_label id) (state_of kept id)
+-- What answers a message where these blocks are kept: the line of what becomes of the bytes; or the line of what all
+-- present blocks say of the two, of the transaction, or of the lock; or the lines of all pairs, or of the report
+unfoldable pub reply_of : ℕ → List ReadBlock → Said → List ℕ
+reply_of bits kept (SaysBlock bytes) = answer_text (answer_of bits kept bytes)
+reply_of bits kept (SaysVote x y) = vote_text (hex_label x) (hex_label y) (word (graph_of kept) (present kept) x y)
+reply_of bits kept (SaysTx id) = tx_text (hex_label id) (state_of kept id)
+reply_of bits kept (SaysBalance lock) = balance_text (hex_label lock) (balance_by_id kept lock)
+reply_of bits kept SaysPairs = pairs_text kept
+reply_of bits kept SaysReport = report_text kept
 
 -- the kept blocks after a message
 abbrev pub kept_then : ℕ → List ReadBlock → Said → List ReadBlock
 kept_then bits kept (SaysBlock bytes) = kept_after bits kept bytes
 kept_then bits kept (SaysVote x y) = kept
 kept_then bits kept (SaysTx id) = kept
+kept_then bits kept (SaysBalance lock) = kept
+kept_then bits kept SaysPairs = kept
+kept_then bits kept SaysReport = kept
 
 -- the bytes that arrive with a message
 abbrev pub arrivals_of : Said → List (List ℕ)
 arrivals_of (SaysBlock bytes) = bytes ∷ []
 arrivals_of (SaysVote x y) = []
 arrivals_of (SaysTx id) = []
+arrivals_of (SaysBalance lock) = []
+arrivals_of SaysPairs = []
+arrivals_of SaysReport = []
 
--- the line that answers a message after these bytes arrived
-abbrev pub line : ReadBlock → ℕ → List (List ℕ) → Said → List ℕ
-line genesis bits arrivals message = line_of bits (kept_by_all bits genesis arrivals) message
+-- what answers a message after these bytes arrived
+abbrev pub reply : ReadBlock → ℕ → List (List ℕ) → Said → List ℕ
+reply genesis bits arrivals message = reply_of bits (kept_by_all bits genesis arrivals) message
 
--- one line for each message, each over the bytes that arrived before it
+-- the answers to these messages, each over the bytes that arrived before it
 unfoldable pub answers : ReadBlock → ℕ → List (List ℕ) → List Said → List ℕ
 answers genesis bits arrivals [] = []
 answers genesis bits arrivals (message ∷ messages) =
-    line genesis bits arrivals message ++ answers genesis bits (arrivals ++ arrivals_of message) messages
+    reply genesis bits arrivals message ++ answers genesis bits (arrivals ++ arrivals_of message) messages
+
+-- a message that brings no block
+abbrev pub IsQuestion : Said → Type 0
+IsQuestion (SaysBlock bytes) = ⊥
+IsQuestion (SaysVote x y) = Unit {0}
+IsQuestion (SaysTx id) = Unit {0}
+IsQuestion (SaysBalance lock) = Unit {0}
+IsQuestion SaysPairs = Unit {0}
+IsQuestion SaysReport = Unit {0}

@@ -2,9 +2,13 @@
 use Rattle.std.specs.Prelude.{ℕ, ◌≡◌, ◌≤◌, List, [], ◌∷◌, ◌++◌, fold, length}
 use Rattle.std.specs.List.{flat_map}
 use Rattle.sp_block.specs.Block.{ReadBlock}
+use Rattle.sp_pool.specs.Kept.{AreKept, present}
+use Rattle.sp_carry.specs.Ledger.{IsPlain}
+use Rattle.sp_engine.specs.AnyOrder.{AreSameArrivals}
 use Rattle.sp_engine.specs.Arrivals.{kept_by_all}
-use Rattle.sp_feed.specs.Kinds.{Said}
-use Rattle.sp_node.specs.Answers.{answers, arrivals_of, kept_then, line_of}
+use Rattle.sp_engine.specs.Transactions.{ledger_of}
+use Rattle.sp_feed.specs.Kinds.{Said, SaysBlock, SaysVote, SaysTx, SaysBalance, SaysPairs, SaysReport}
+use Rattle.sp_node.specs.Answers.{answers, arrivals_of, IsQuestion, kept_then, reply, reply_of}
 
 -- what is kept after one message after another is what is kept of all the bytes that arrived with them
 abbrev pub KeptByMessages : Type 0
@@ -23,6 +27,32 @@ pub record IsLine (bytes : List ℕ) : Type 0 where
   pub ends : bytes ≡ front ++ 10 ∷ []
   pub short : length bytes ≤ 192
 
--- whatever blocks are kept, a message is answered by one such line
+-- One line answers the message, over these blocks. A balance needs that they are kept ones, whose amounts have bounds.
+abbrev pub HasOneLine : List ReadBlock → Said → Type 0
+HasOneLine kept (SaysBlock bytes) = Unit {0}
+HasOneLine kept (SaysVote x y) = Unit {0}
+HasOneLine kept (SaysTx id) = Unit {0}
+HasOneLine kept (SaysBalance lock) = AreKept kept
+HasOneLine kept SaysPairs = ⊥
+HasOneLine kept SaysReport = ⊥
+
+-- such a message is answered by one line
 abbrev pub AnswersAreLines : Type 0
-AnswersAreLines = (bits : ℕ) (kept : List ReadBlock) (message : Said) → IsLine (line_of bits kept message)
+AnswersAreLines = (bits : ℕ) (kept : List ReadBlock) (message : Said) → HasOneLine kept message → IsLine (reply_of bits kept message)
+
+-- what an answer on transactions, balances or both needs: no two different transactions of the present blocks have one id
+abbrev pub IsPlainFor : List ReadBlock → Said → Type 0
+IsPlainFor kept (SaysBlock bytes) = Unit {0}
+IsPlainFor kept (SaysVote x y) = Unit {0}
+IsPlainFor kept (SaysTx id) = IsPlain (ledger_of kept) (present kept)
+IsPlainFor kept (SaysBalance lock) = IsPlain (ledger_of kept) (present kept)
+IsPlainFor kept SaysPairs = Unit {0}
+IsPlainFor kept SaysReport = IsPlain (ledger_of kept) (present kept)
+
+-- Two lists of arrivals with the same valid blocks, at most 512 with genesis and all of different ids: each question is
+-- answered alike after both
+abbrev pub OrderIsNoMatter : Type 0
+OrderIsNoMatter =
+    (bits : ℕ) (genesis : ReadBlock) (arrivals others : List (List ℕ)) (question : Said) → IsQuestion question →
+    AreSameArrivals bits genesis arrivals others → IsPlainFor (kept_by_all bits genesis arrivals) question →
+    reply genesis bits arrivals question ≡ reply genesis bits others question

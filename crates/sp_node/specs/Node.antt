@@ -2,6 +2,8 @@
 use Rattle.std.specs.Prelude.{ℕ, Bool, false, List}
 use Rattle.sp_io.specs.Causes.{Rose}
 use Rattle.sp_block.specs.Block.{ReadBlock}
+use Rattle.sp_report.specs.declared.text.TextFault.{TextFault}
+use Rattle.sp_report.specs.declared.text.TextFault.TheVariants as text
 use Rattle.sp_node.specs.declared.fault.NodeFault.{NodeFault}
 use Rattle.sp_node.specs.declared.fault.NodeFault.TheVariants.{WriteFault, Memory}
 
@@ -18,3 +20,8 @@ state bits kept = record { bits = bits; kept = kept; stopped = false }
 abbrev pub HasNodeCause : ℕ → ℕ → NodeFault → Type 0
 HasNodeCause before now WriteFault = Rose before now
 HasNodeCause before now Memory = Unit {0}
+
+-- the fault of a text as that of its message
+abbrev pub of_text : TextFault → NodeFault
+of_text text.WriteFault = WriteFault
+of_text text.Memory = Memory

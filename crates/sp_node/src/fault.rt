@@ -2,13 +2,14 @@
 
 use sp_ids::Memory;
 use sp_io::Failed;
+use sp_report::TextFault;
 
 /// Why a message wasn't answered.
 #[derive(Clone, Copy, Debug, PartialEq, Eq)]
 pub enum NodeFault {
-    /// The sink failed. It took a front of the line.
+    /// The sink failed. It took a front of the answer.
     WriteFault,
-    /// There was no memory for a block. Nothing was written.
+    /// There was no memory for a block, or for the order of what a text lists. Nothing was written.
     Memory,
 }
 
@@ -31,5 +32,19 @@ impl From<Memory> for NodeFault {
 
     fn from(_refused: Memory) -> NodeFault {
         NodeFault::Memory
+    }
+}
+
+impl From<TextFault> for NodeFault {
+    ghost use Rattle.std.specs.Prelude.{◌≡◌};
+    ghost use Rattle.sp_node.specs.Node.{of_text};
+
+    ghost from_gives = { λ fault e. e ≡ of_text fault };
+
+    fn from(fault: TextFault) -> NodeFault {
+        match fault {
+            TextFault::WriteFault => NodeFault::WriteFault,
+            TextFault::Memory => NodeFault::Memory,
+        }
     }
 }

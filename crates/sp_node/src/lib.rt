@@ -1,7 +1,7 @@
 //! One message at a time: a block that arrives is offered to the engine, a question is asked of it,
-//! and the line of the answer is written.
+//! and the answer is written, which is a line, or a text of many.
 //!
-//! `specs/Answers.antt` says what line answers each message, over the blocks that arrived before it.
+//! `specs/Answers.antt` says what answers each message, over the blocks that arrived before it.
 //! The commands that take a feed stand on this crate.
 #![tactic(auto)]
 
