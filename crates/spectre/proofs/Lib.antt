@@ -14,3 +14,4 @@ pub mod SaidBlocks
 pub mod SceneGraphs
 pub mod Replies
 pub mod Replayed
+pub mod Resting

@@ -8,7 +8,7 @@ use Rattle.sp_block.specs.Block.{IsBlock, IsGenesis, parts_of, ReadBlock}
 use Rattle.sp_engine.specs.Arrivals.{kept_by_all}
 use Rattle.sp_engine.specs.Blocks.{block_in}
 use Rattle.sp_engine.proofs.SpelledBlocks.{spelled_block}
-use Rattle.sp_feed.specs.Calls.{GivesHead, GivesNext, SaysFault}
+use Rattle.sp_feed.specs.Calls.{GivesHead, GivesNext, onto, SaysFault}
 use Rattle.sp_feed.specs.Feed.{Feed as FeedOf, feed, no_more, rest_of, Truncated}
 use Rattle.sp_feed.specs.Format.{Head, head_of}
 use Rattle.sp_feed.specs.Genesis.{ReadHead}
@@ -19,14 +19,14 @@ use Rattle.sp_feed.specs.declared.fault.FeedFault.{FeedFault}
 use Rattle.sp_feed.specs.declared.fault.FeedFault.TheVariants as faults
 use Rattle.sp_feed.specs.declared.fault.HeadFault.{HeadFault}
 use Rattle.sp_feed.specs.declared.fault.HeadFault.TheVariants as heads
-use Rattle.sp_feed.proofs.WholeFeeds.{all_end, all_memory, fault_onto, needs_next, onto, so_far_head, so_far_more}
+use Rattle.sp_feed.proofs.WholeFeeds.{all_end, all_memory, fault_onto, needs_next, so_far_head, so_far_more}
 use Rattle.sp_feed.proofs.Joining.{split_front, took_then}
 use Rattle.sp_io.specs.Whole.{AppendsAtLeast, AppendsFront, Wrote}
 use Rattle.sp_io.proofs.Writing.{appends_then, at_least, at_least_then, wrote_none, wrote_stops}
 use Rattle.sp_node.specs.declared.fault.NodeFault.{NodeFault}
 use Rattle.sp_node.specs.declared.fault.NodeFault.TheVariants as nodes
 use Rattle.sp_node.specs.Node.{HasNodeCause}
-use Rattle.sp_node.specs.Answers.{answers, arrivals_of, kept_then, line, line_of}
+use Rattle.sp_node.specs.Answers.{answers, arrivals_of, kept_then, reply, reply_of}
 use Rattle.sp_node.proofs.AnswerLists.{answers-append, answers-push, kept_then_by_all}
 use Rattle.spectre.specs.Replay.{fed, feed_limit, lines_by, lines_under, message_lines, replied}
 use Rattle.spectre.specs.Replaying.{Answering, HasWriteCause, Replies, SaysReply}
@@ -92,7 +92,7 @@ answered_next {mid = mid} {old = old} {seen = seen} {bits = bits} a g front rest
 -- one message more was answered
 pub one_more : {start mid now : Moment} {old seen new : Option (List ℕ)} {bits bits' : ℕ} {kept kept' : List ReadBlock} {X : Type 0} {view : X → Option Said} {x : X} (m : Said)
     → Answering start mid old seen bits kept → GivesNext feed_limit mid now view (Ok x) → view x ≡ Some m
-    → Appends seen new (line_of bits kept m) → kept' ≡ kept_then bits kept m → bits' ≡ bits → Answering start now old new bits' kept'
+    → Appends seen new (reply_of bits kept m) → kept' ≡ kept_then bits kept m → bits' ≡ bits → Answering start now old new bits' kept'
 unfolding so_far_more
 one_more {start = start} {mid = mid} {now = now} {old = old} {seen = seen} {new = new} {bits = bits} {bits' = bits'} {kept = kept} {kept' = kept'} m a g e wrote k b =
     let arrivals = flat_map arrivals_of a.messages in
@@ -104,8 +104,8 @@ one_more {start = start} {mid = mid} {now = now} {old = old} {seen = seen} {new 
       so_far = so_far_more m (a.messages ++ m ∷ []) a.so_far g e refl;
       kept_is = k ∙ ap (λ (l : List ReadBlock). kept_then bits l m) a.kept_is ∙ kept_then_by_all bits a.genesis arrivals m ∙ ap (kept_by_all bits a.genesis) (sym more);
       wrote = subst (λ (t : List ℕ). Appends old new t) (sym (answers-push a.genesis bits [] a.messages m))
-          (appends_then old seen new (answers a.genesis bits [] a.messages) (line a.genesis bits arrivals m) a.wrote (subst (λ (l : List ReadBlock). Appends seen new (line_of bits l m)) a.kept_is wrote));
-      answered = λ front rest e l. at_least_then old seen new (replied front) (line_of bits kept m) (answered_next a g front rest e l) wrote;
+          (appends_then old seen new (answers a.genesis bits [] a.messages) (reply a.genesis bits arrivals m) a.wrote (subst (λ (l : List ReadBlock). Appends seen new (reply_of bits l m)) a.kept_is wrote));
+      answered = λ front rest e l. at_least_then old seen new (replied front) (reply_of bits kept m) (answered_next a g front rest e l) wrote;
     })
 
 -- the end was read
@@ -195,7 +195,7 @@ stop_says nodes.Memory start now old new given h = h
 
 -- a message wasn't answered
 pub not_answered : {start mid now : Moment} {old seen new : Option (List ℕ)} {bits : ℕ} {kept : List ReadBlock} {X : Type 0} {view : X → Option Said} {x : X} (fault : NodeFault) (m : Said)
-    → Answering start mid old seen bits kept → GivesNext feed_limit mid now view (Ok x) → view x ≡ Some m → AppendsFront seen new (line_of bits kept m) → Replies start now old new (Err (of_node fault))
+    → Answering start mid old seen bits kept → GivesNext feed_limit mid now view (Ok x) → view x ≡ Some m → AppendsFront seen new (reply_of bits kept m) → Replies start now old new (Err (of_node fault))
 unfolding so_far_more
 not_answered {start = start} {mid = mid} {now = now} {old = old} {seen = seen} {new = new} {bits = bits} {kept = kept} fault m a g e front =
     let head = head_of bits a.genesis.bytes in
@@ -208,7 +208,7 @@ not_answered {start = start} {mid = mid} {now = now} {old = old} {seen = seen} {
       answered = λ part rest k l. at_least_then old seen new (replied part) front.1.front (answered_next a g part rest k l) front.1.appended;
       says = stop_says fault start now old new s.given (λ more.
           let rest = rest_of feed_limit now.taken more in
-          let here : List ℕ = line a.genesis bits arrivals m in
+          let here : List ℕ = reply a.genesis bits arrivals m in
           let behind : List ℕ = answers a.genesis bits (flat_map arrivals_of (a.messages ++ m ∷ [])) rest.messages in
           let whole : replied (s.given ++ more) ≡ answers a.genesis bits [] a.messages ++ (here ++ behind) =
           replied_is (s.given ++ more) _ (s.says more) ∙ ap (λ (l : List Said). lines_under (Some head) (l ++ rest.messages)) (sym s.seen)
@@ -217,7 +217,7 @@ not_answered {start = start} {mid = mid} {now = now} {old = old} {seen = seen} {
           ∙ ap (λ (t : List ℕ). t ++ behind) (answers-push a.genesis bits [] a.messages m)
           ∙ append_assoc (answers a.genesis bits [] a.messages) here behind in
           let w : Wrote old seen (replied (s.given ++ more)) (here ++ behind) = record { front = answers a.genesis bits [] a.messages; appended = a.wrote; split = whole } in
-          wrote_stops here behind w (subst (λ (l : List ReadBlock). AppendsFront seen new (line_of bits l m)) a.kept_is front));
+          wrote_stops here behind w (subst (λ (l : List ReadBlock). AppendsFront seen new (reply_of bits l m)) a.kept_is front));
     }
 
 pub stop_cause : (e : NodeFault) (before mid now : ℕ) → mid ≡ before → HasNodeCause mid now e → HasWriteCause before now (of_node e)

@@ -15,3 +15,4 @@ pub mod Tables
 pub mod Ends
 pub mod Codes
 pub mod Made
+pub mod Rests

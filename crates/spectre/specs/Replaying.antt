@@ -7,12 +7,12 @@ use Rattle.sp_io.specs.Whole.{AppendsFront}
 use Rattle.sp_block.specs.Block.{ReadBlock}
 use Rattle.sp_engine.specs.Arrivals.{kept_by_all}
 use Rattle.sp_engine.specs.Blocks.{block_in}
+use Rattle.sp_feed.specs.Calls.{SoFar}
 use Rattle.sp_feed.specs.Feed.{End, Malformed, TooLong, Truncated, Whole}
 use Rattle.sp_feed.specs.Format.{head_of}
 use Rattle.sp_feed.specs.Kinds.{Said}
 use Rattle.sp_feed.specs.Reads.{Moment, Took}
 use Rattle.sp_feed.specs.declared.fault.FeedFault.TheVariants as faults
-use Rattle.sp_feed.proofs.WholeFeeds.{SoFar}
 use Rattle.sp_node.specs.Answers.{answers, arrivals_of}
 use Rattle.spectre.specs.Replay.{fed, feed_limit, replied}
 use Rattle.spectre.specs.Taken.{AreAnswered, AreNeeded}

@@ -9,10 +9,12 @@ ghost use Rattle.spectre.specs.Ends.{Comes};
 ghost use Rattle.spectre.specs.Faults.{beyond, IsFaultless, IsMalformed, IsTooLong, IsTruncated, unread};
 ghost use Rattle.spectre.specs.Output.{output};
 ghost use Rattle.spectre.specs.Replay.{replied};
+ghost use Rattle.spectre.specs.Rests.{AnswersAgree, OrderIsNoMatter};
 ghost use Rattle.spectre.specs.Taken.{TakesFeed};
 ghost use Rattle.spectre.specs.Words.{scenario_limit};
 
 use crate::call::{Command, command_of};
+use crate::laws::answers_agree;
 use crate::play::play;
 use crate::replay::replay;
 use crate::status::Status;
@@ -21,7 +23,7 @@ use std::alloc::Global;
 
 /// Runs the program on the words after its name, and answers how the run ended. `play` reads its
 /// scenario from `source` to the end before it writes the first line to `sink`, and `replay` reads a
-/// feed message by message and writes the line of each before it takes a byte of the next.
+/// feed message by message and writes the answer to each before it takes a byte of the next.
 ///
 /// No clause speaks of time. `play` takes about n^4 steps for the nth block and for each question
 /// that follows a block, and `replay` about n^5 for an arrival after which n blocks are
@@ -96,6 +98,14 @@ pub fn run<S: Source, K: Sink>(
     ensures read_quiet { result ≢ Status.ReadFault → S.faults source.new ≡ S.faults source.old }
     ensures write_quiet { result ≢ Status.WriteFault → K.faults sink.new ≡ K.faults sink.old }
 
+    // Of the kept blocks on which each answer to a feed rests: no two accepted transactions conflict,
+    // each accepted one has accepted inputs, and no more is left than genesis grants. And in another
+    // feed that brought the same blocks in another order each question is answered by the same bytes.
+    ensures agree { command_in (texts words.now) ≡ Some Command.Replay
+        → IfSome (S.left source.old) AnswersAgree }
+    ensures order { command_in (texts words.now) ≡ Some Command.Replay
+        → IfSome (S.left source.old) (λ input. (other : List ℕ) → OrderIsNoMatter input other) }
+
     // Where nothing failed and the input has no fault, the run is done, or memory was refused.
     ensures complete { ¬ Rose (S.faults source.old) (S.faults source.new)
         → ¬ Rose (K.faults sink.old) (K.faults sink.new)
@@ -105,6 +115,8 @@ pub fn run<S: Source, K: Sink>(
     // The other statuses never come.
     ensures among { Comes result }
 {
+    // Tells the proof what every answer to a feed rests on.
+    answers_agree();
     match command_of(words) {
         Some(Command::Play) => play(alloc, source, sink),
         Some(Command::Replay) => replay(alloc, source, sink),

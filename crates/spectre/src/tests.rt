@@ -6,16 +6,21 @@
 //! program is called in one place, and what a run ends as is plain data.
 
 mod answered;
+mod balances;
 mod faults;
 mod feed_bytes;
 mod feeds;
 mod lengths;
 mod lines;
 mod orders;
+mod paired;
 mod payments;
 mod pieces;
+mod reports;
 mod shapes;
+mod spends;
 mod streams;
+mod transfers;
 mod words;
 
 use crate::command::run;

@@ -56,7 +56,7 @@ const FEEDS: [Fed; 19] = [
     Fed { name: "no work", bits: 64, messages: b"W\nA\nGA\n", tail: END, output: b"refused work\nrefused work\nvote G A absent\n", ended: DONE },
     Fed { name: "the spelling is judged before the work", bits: 64, messages: b"W+\nG\n*\n", tail: END, output: b"refused trailing\nrefused parent-count\nrefused too-long\n", ended: DONE },
     Fed { name: "cut in its end", bits: 0, messages: b"A\nGA\n", tail: b"E\0\0\0", output: b"kept A present 1\nvote G A before\nfault truncated 164\n", ended: CUT },
-    Fed { name: "a kind that there is not", bits: 0, messages: b"A\n", tail: b"R\0\0\0\0", output: b"kept A present 1\nfault malformed 91\n", ended: KIND },
+    Fed { name: "a kind that there is not", bits: 0, messages: b"A\n", tail: b"Q\0\0\0\0", output: b"kept A present 1\nfault malformed 91\n", ended: KIND },
     Fed { name: "bytes behind the end", bits: 0, messages: b"A\n", tail: b"E\0\0\0\0Zz", output: b"kept A present 1\n", ended: BEHIND },
 ];
 

@@ -85,7 +85,7 @@ const FLOWS: [Flow; 5] = [
     Flow {
         name: "a kind that there is not",
         messages: b"A\n",
-        tail: b"R\0\0\0\0",
+        tail: b"Q\0\0\0\0",
         reads: 92,
         status: Status::Malformed,
         output: b"kept A present 1\nfault malformed 91\n",
