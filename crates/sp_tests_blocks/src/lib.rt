@@ -1,0 +1,45 @@
+//! Tests of the crates below the engine and the feed, by their public calls. They stand in a crate of
+//! their own because a crate with tests is proved twice, and apart from the other tests so that a
+//! change of the engine proves none of these again.
+//!
+//! `ids`, `form`, `tx`, `pool`, `bits`, `dag`, `plain` and `io` test the crates of those names, and
+//! `tx_pairs` which transactions conflict. Of blocks, `block` has the bytes that are read and those
+//! that are refused, `block_spellings` all that bytes spell, and `drafts` the bytes that are written
+//! and the search for a nonce.
+//!
+//! `block_rows` is the table of `block`. `block_parts` has the parts of blocks and `pieces` the bytes
+//! that those and transactions are put together from. `rows` judges a table's row.
+#![tactic(auto)]
+
+#[cfg(test)]
+mod bits;
+#[cfg(test)]
+mod block;
+#[cfg(test)]
+mod block_parts;
+#[cfg(test)]
+mod block_rows;
+#[cfg(test)]
+mod block_spellings;
+#[cfg(test)]
+mod dag;
+#[cfg(test)]
+mod drafts;
+#[cfg(test)]
+mod form;
+#[cfg(test)]
+mod ids;
+#[cfg(test)]
+mod io;
+#[cfg(test)]
+mod pieces;
+#[cfg(test)]
+mod plain;
+#[cfg(test)]
+mod pool;
+#[cfg(test)]
+mod rows;
+#[cfg(test)]
+mod tx;
+#[cfg(test)]
+mod tx_pairs;

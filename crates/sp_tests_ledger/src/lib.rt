@@ -1,0 +1,36 @@
+//! Tests of the transactions that blocks carry, of which are accepted, and of the engine, by public
+//! calls. They stand in a crate of their own because a crate with tests is proved twice.
+//!
+//! `rivals` tests which carriers conflict, and `collisions` that outpoints which crowd a table by hash
+//! don't make the look-ups of carriers slow. `rebuild` tests which transactions turn as blocks come.
+//! `arrivals`, `refusals` and `full_engine` test what an engine says of the bytes that come, and
+//! `acceptance` which transactions it accepts.
+//!
+//! `arrival_rows` and `acceptance_rows` are tables of these. `engine` makes an engine and runs it,
+//! `payments` makes transactions, and `rows` judges a table's row.
+#![tactic(auto)]
+
+#[cfg(test)]
+mod acceptance;
+#[cfg(test)]
+mod acceptance_rows;
+#[cfg(test)]
+mod arrival_rows;
+#[cfg(test)]
+mod arrivals;
+#[cfg(test)]
+mod collisions;
+#[cfg(test)]
+mod engine;
+#[cfg(test)]
+mod full_engine;
+#[cfg(test)]
+mod payments;
+#[cfg(test)]
+mod rebuild;
+#[cfg(test)]
+mod refusals;
+#[cfg(test)]
+mod rivals;
+#[cfg(test)]
+mod rows;
