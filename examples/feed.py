@@ -81,6 +81,13 @@ def ask(tx):
     return frame(b"T", tx_id(tx))
 
 
+def balance(word):
+    return frame(b"U", lock(word))
+
+
+PAIRS = frame(b"P")
+REPORT = frame(b"R")
+
 G = spelled(0, 0, [])  # genesis, which isn't judged for work
 HEAD = b"SPCTRF01" + bytes([BITS]) + send(G)
 END = frame(b"E")
@@ -147,6 +154,34 @@ def spends():
     )
 
 
+def balances():
+    """A grant that is spent twice side by side, as in `spends`: what is left under each lock, a report
+    before and after a third block decides, and all pairs."""
+    grant = pay([], 100, b"alice")
+    to_bob = pay([(grant, b"alice")], 100, b"bob")
+    to_carol = pay([(grant, b"alice")], 100, b"carol")
+    genesis = spelled(0, 0, [], [grant])
+    a, b = block(1, genesis, txs=[to_bob]), block(2, genesis, txs=[to_carol])
+    c, d = block(3, a), block(4, block(5, b))
+    all_of_them = b"".join(map(balance, [b"alice", b"bob", b"carol"]))
+    return (
+        b"SPCTRF01"
+        + bytes([BITS])
+        + send(genesis)
+        + all_of_them
+        + send(a)
+        + send(b)
+        + all_of_them
+        + REPORT
+        + send(c)
+        + send(d)
+        + all_of_them
+        + REPORT
+        + PAIRS
+        + END
+    )
+
+
 def cut():
     """A feed that ends within its last block, one byte early."""
     a, b = block(1, G), block(2, G)
@@ -177,7 +212,7 @@ def full():
 
 FEEDS = {
     feed.__name__: feed
-    for feed in (first, waiting, refused, spends, cut, malformed, cycle, full)
+    for feed in (first, waiting, refused, spends, balances, cut, malformed, cycle, full)
 }
 
 
