@@ -4,10 +4,12 @@
 //! `rivals` tests which carriers conflict, and `collisions` that outpoints which crowd a table by hash
 //! don't make the look-ups of carriers slow. `rebuild` tests which transactions turn as blocks come.
 //! `arrivals`, `refusals` and `full_engine` test what an engine says of the bytes that come, and
-//! `acceptance` which transactions it accepts.
+//! `acceptance` which transactions it accepts. `purse` tests what is left as transactions are accepted
+//! and taken back, by the purse itself, and `balances` what an engine says is left.
 //!
-//! `arrival_rows` and `acceptance_rows` are tables of these. `engine` makes an engine and runs it,
-//! `payments` makes transactions, and `rows` judges a table's row.
+//! `arrival_rows`, `acceptance_rows`, `balance_rows` and `purse_rows` are tables of these. `engine`
+//! makes an engine and runs it, `blocks` makes blocks that carry transactions, `payments` makes
+//! transactions, `left` compares what is left under each lock, and `rows` judges a table's row.
 #![tactic(auto)]
 
 #[cfg(test)]
@@ -19,13 +21,25 @@ mod arrival_rows;
 #[cfg(test)]
 mod arrivals;
 #[cfg(test)]
+mod balance_rows;
+#[cfg(test)]
+mod balances;
+#[cfg(test)]
+mod blocks;
+#[cfg(test)]
 mod collisions;
 #[cfg(test)]
 mod engine;
 #[cfg(test)]
 mod full_engine;
 #[cfg(test)]
+mod left;
+#[cfg(test)]
 mod payments;
+#[cfg(test)]
+mod purse;
+#[cfg(test)]
+mod purse_rows;
 #[cfg(test)]
 mod rebuild;
 #[cfg(test)]

@@ -1,5 +1,5 @@
-//! Transactions by number, a source before its spenders: what the tests of acceptance and those of
-//! conflicts stand on.
+//! Transactions by number, a source before its spenders: what the tests of acceptance, of conflicts, of
+//! balances and of the purse stand on.
 
 use sp_fixtures::NOBODY;
 use sp_ids::{Lock, Outpoint, TxId};
@@ -8,15 +8,15 @@ use std::alloc::Global;
 use std::test::Fail;
 
 /// The bytes that open a lock; each is the preimage of its owner's.
-const ALICE: u8 = 1;
+pub const ALICE: u8 = 1;
 
-const BOB: u8 = 2;
+pub const BOB: u8 = 2;
 
-const CAROL: u8 = 3;
+pub const CAROL: u8 = 3;
 
-const DAVE: u8 = 4;
+pub const DAVE: u8 = 4;
 
-const EVE: u8 = 5;
+pub const EVE: u8 = 5;
 
 /// An input: the number of the payment that it spends from, the output's index, and a preimage.
 type Spend = (usize, u8, u8);
@@ -58,6 +58,17 @@ pub const PAYMENTS: &[Payment] = &[
     (&[(17, 1, BOB)], &[(39, DAVE)]),
     // 21 spends an output of a transaction that nobody has.
     (&[(99, 0, ALICE)], &[(1, ALICE)]),
+    // 22 to 24 are grants, and 25 to 27 pay them to Dave. 28 spends the last of them too.
+    (&[], &[(10, ALICE)]),
+    (&[], &[(20, ALICE)]),
+    (&[], &[(30, ALICE)]),
+    (&[(22, 0, ALICE)], &[(10, DAVE)]),
+    (&[(23, 0, ALICE)], &[(20, DAVE)]),
+    (&[(24, 0, ALICE)], &[(30, DAVE)]),
+    (&[(24, 0, ALICE)], &[(30, EVE)]),
+    // 29 pays Bob twice, and 30 spends the second of these.
+    (&[(0, 0, ALICE)], &[(60, BOB), (30, CAROL), (10, BOB)]),
+    (&[(29, 2, BOB)], &[(10, DAVE)]),
 ];
 
 /// A number that no transaction has gives an id that none has.

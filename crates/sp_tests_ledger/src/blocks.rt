@@ -1,0 +1,79 @@
+//! Blocks that carry payments, made from drafts: what the tests of balances offer to an engine.
+
+use crate::acceptance_rows::Laid;
+use crate::payments::{chosen, tx_ids};
+use sp_block::{Draft, Parents, draft_bytes};
+use sp_ids::{BlockId, TxId};
+use std::alloc::Global;
+use std::test::Fail;
+
+/// The bytes of a draft, of nonce 0.
+fn text_of(alloc: Global, draft: &Draft) -> Result<Vec<u8>, Fail> {
+    if draft.parents.as_slice().len() > 64 || draft.txs.as_slice().len() > 256 {
+        return Err("too long".into());
+    }
+    Ok(draft_bytes(alloc, draft, 0)?)
+}
+
+/// Blocks by number, genesis first; the salt of each is its number.
+#[derive(Drop)]
+pub struct Blocks {
+    pub alloc: Global,
+    txs: Vec<TxId>,
+    ids: Vec<BlockId>,
+    texts: Vec<Vec<u8>>,
+}
+
+impl Blocks {
+    /// Genesis, with these transactions, and then the others.
+    pub fn of(alloc: Global, genesis: &[usize], blocks: &[Laid]) -> Result<Blocks, Fail> {
+        let mut all = Blocks {
+            alloc,
+            txs: tx_ids(alloc)?,
+            ids: Vec::new(alloc),
+            texts: Vec::new(alloc),
+        };
+        all.add(&[], genesis)?;
+        for (parents, txs) in blocks {
+            all.add(parents, txs)?;
+        }
+        Ok(all)
+    }
+
+    fn parents(&self, numbers: &[usize]) -> Result<Parents, Fail> {
+        let mut ids = Vec::new(self.alloc);
+        for number in numbers {
+            ids.push(self.ids.get(*number).copied().ok_or("no parent")?)?;
+        }
+        Ok(Parents::of(ids))
+    }
+
+    fn spelled(&self, parents: &[usize], txs: &[usize]) -> Result<Vec<u8>, Fail> {
+        let draft = Draft {
+            salt: self.ids.len() as u64,
+            parents: self.parents(parents)?,
+            txs: chosen(self.alloc, &self.txs, txs)?,
+        };
+        text_of(self.alloc, &draft)
+    }
+
+    fn add(&mut self, parents: &[usize], txs: &[usize]) -> Result<(), Fail> {
+        let text = self.spelled(parents, txs)?;
+        self.ids.push(BlockId::of(&text))?;
+        self.texts.push(text)?;
+        Ok(())
+    }
+
+    /// How many there are, with genesis.
+    pub fn count(&self) -> usize {
+        self.texts.len()
+    }
+
+    /// The bytes of a block; none where there is no such block.
+    pub fn text(&self, number: usize) -> &[u8] {
+        match self.texts.get(number) {
+            Some(text) => text,
+            None => &[],
+        }
+    }
+}
