@@ -1,0 +1,4 @@
+pub mod Keyed
+pub mod Named
+pub mod Searched
+pub mod Orders
