@@ -1,12 +1,13 @@
--- Each message that one line answers is answered by one of at most 192 bytes: no more than 512 blocks become present, an id has 64 digits, a balance 25, and no word has more than 15 letters.
-use Rattle.std.proofs.Common.{◌≡◌, ℕ, zero, suc, ◌+◌, ◌<◌, ◌≤◌, ◌-◌, ◌%◌, ◌^◌, nat_eq, Bool, true, false, not, List, [], ◌∷◌, ◌++◌, length, refl, ap, arith, length-append}
-use Rattle.std.specs.Prelude.{codes, filter, if◌then◌else◌, Result, Ok, Err}
+-- Each message that one line answers is answered by one of at most 192 bytes: no more than 512 blocks become present, a label at most 64 bytes, a balance 25 digits, and no word has more than 15 letters.
+use Rattle.std.proofs.Common.{◌≡◌, ℕ, zero, suc, ◌+◌, ◌<◌, ◌≤◌, ◌-◌, ◌%◌, ◌^◌, nat_eq, Bool, true, false, not, List, [], ◌∷◌, ◌++◌, length, refl, ap, inl, inr, arith, length-append}
+use Rattle.std.specs.Prelude.{All, codes, filter, if◌then◌else◌, Result, Ok, Err}
 use Rattle.std.specs.Fmt.{decimal}
 use Rattle.std.proofs.Math.ListN.{length-map}
 use Rattle.std.proofs.lemmas.Fmt.{length-decimal-le, length-decimal-le_wide}
 use Rattle.std.proofs.lemmas.List.Filters.{length-filter_both}
 use Rattle.std.specs.List.{list_all}
-use Rattle.std.proofs.lemmas.Bool.{eqb-true}
+use Rattle.std.proofs.lemmas.Bool.{cases_Bool, eqb-true}
+use Rattle.std.proofs.lemmas.List.Elements.{All-head, All-tail}
 use Rattle.sp_ids.specs.Digits.{AreBytes-bytes_of, bytes_of_number, number_of-bound}
 use Rattle.sp_ids.specs.Hex.{first_bad_digit, hex_of, number_of_digits, number_unless}
 use Rattle.sp_ids.specs.Key.{bytes_of, number_of}
@@ -35,7 +36,9 @@ use Rattle.sp_engine.specs.declared.answer.Refusal.{Refusal}
 use Rattle.sp_engine.specs.declared.answer.Refusal.TheVariants.{Spelling, Work}
 use Rattle.sp_engine.specs.Transactions.{balance_by_id, state_of}
 use Rattle.sp_engine.proofs.SmallBalances.{small_balance}
-use Rattle.sp_report.specs.Lines.{answer_text, balance_text, full_text, hex_label, kept_text, known_text, refused_text, state_text, tx_text, vote_text, waiting_text, word_text}
+use Rattle.sp_names.specs.Labels.{AllLabels, AreAllLabels, IsNameLength, Label}
+use Rattle.sp_report.specs.Naming.{hex_label, label_of}
+use Rattle.sp_report.specs.Lines.{answer_text, balance_text, full_text, kept_text, known_text, refused_text, state_text, tx_text, vote_text, waiting_text, word_text}
 use Rattle.sp_report.specs.Reasons.{block_reason, reason, tx_reason}
 use Rattle.sp_feed.specs.Kinds.{SaysBlock, SaysVote, SaysTx, SaysBalance, SaysPairs, SaysReport}
 use Rattle.sp_node.specs.Answers.{reply_of}
@@ -78,6 +81,14 @@ long_label id =
     let same : bytes_of n ≡ bytes_of id = bytes_of_number (bytes_of id) (AreBytes-bytes_of id) in
     let long = spelled_long (hex_label n) n (hex_of-encode_lower n (number_of-bound (bytes_of id) (AreBytes-bytes_of id))) in
     rw same at long
+
+-- a name has 64 bytes at most, and so have the digits of an id without one
+named_fits : (labels : List Label) → All (λ (label : Label). IsNameLength (length label.1)) labels → (id : ℕ) → length (label_of labels id) ≤ 64
+named_fits [] short id = omega (arith, long_label id)
+named_fits (label ∷ labels) short id = elim (cases_Bool (nat_eq id label.0)) [
+  | inl e ↦ rw e (All-head (λ (label : Label). IsNameLength (length label.1)) label labels short).short
+  | inr e ↦ rw e (named_fits labels (All-tail (λ (label : Label). IsNameLength (length label.1)) label labels short) id)
+]
 
 short_tx_reason : (fault : TxFault) → length (tx_reason fault) ≤ 15
 short_tx_reason of_tx.Short = omega arith
@@ -126,30 +137,27 @@ is_line front few = record { front = front; ends = refl; short = omega (arith, f
 longer : (front piece : List ℕ) (m n : ℕ) → length front ≤ m → length piece ≤ n → length (front ++ piece) ≤ m + n
 longer front piece m n few more = omega (arith, few, more, length-append front piece)
 
-label_fits : (id : ℕ) → length (hex_label id) ≤ 64
-label_fits id = omega (arith, long_label id)
-
-kept_is_line : (id number : ℕ) → number ≤ 512 → IsLine (kept_text (hex_label id) number)
+kept_is_line : (label : List ℕ) (number : ℕ) → length label ≤ 64 → number ≤ 512 → IsLine (kept_text label number)
 unfolding kept_text
-kept_is_line id number few =
+kept_is_line label number fits few =
     let digits : length (decimal number) ≤ 3 = length-decimal-le 3 number (omega arith) (omega arith) (omega arith) in
-    let named : length (codes "kept " ++ hex_label id) ≤ 69 = longer (codes "kept ") (hex_label id) 5 64 (omega arith) (label_fits id) in
-    let said : length (codes "kept " ++ hex_label id ++ codes " present ") ≤ 78 = longer (codes "kept " ++ hex_label id) (codes " present ") 69 9 named (omega arith) in
-    let all : length (codes "kept " ++ hex_label id ++ codes " present " ++ decimal number) ≤ 81 = longer (codes "kept " ++ hex_label id ++ codes " present ") (decimal number) 78 3 said digits in
-    is_line (codes "kept " ++ hex_label id ++ codes " present " ++ decimal number) (omega (arith, all))
+    let named : length (codes "kept " ++ label) ≤ 69 = longer (codes "kept ") label 5 64 (omega arith) fits in
+    let said : length (codes "kept " ++ label ++ codes " present ") ≤ 78 = longer (codes "kept " ++ label) (codes " present ") 69 9 named (omega arith) in
+    let all : length (codes "kept " ++ label ++ codes " present " ++ decimal number) ≤ 81 = longer (codes "kept " ++ label ++ codes " present ") (decimal number) 78 3 said digits in
+    is_line (codes "kept " ++ label ++ codes " present " ++ decimal number) (omega (arith, all))
 
-waiting_is_line : (id : ℕ) → IsLine (waiting_text (hex_label id))
+waiting_is_line : (label : List ℕ) → length label ≤ 64 → IsLine (waiting_text label)
 unfolding waiting_text
-waiting_is_line id =
-    let named : length (codes "kept " ++ hex_label id) ≤ 69 = longer (codes "kept ") (hex_label id) 5 64 (omega arith) (label_fits id) in
-    let all : length (codes "kept " ++ hex_label id ++ codes " waiting") ≤ 77 = longer (codes "kept " ++ hex_label id) (codes " waiting") 69 8 named (omega arith) in
-    is_line (codes "kept " ++ hex_label id ++ codes " waiting") (omega (arith, all))
+waiting_is_line label fits =
+    let named : length (codes "kept " ++ label) ≤ 69 = longer (codes "kept ") label 5 64 (omega arith) fits in
+    let all : length (codes "kept " ++ label ++ codes " waiting") ≤ 77 = longer (codes "kept " ++ label) (codes " waiting") 69 8 named (omega arith) in
+    is_line (codes "kept " ++ label ++ codes " waiting") (omega (arith, all))
 
-known_is_line : (id : ℕ) → IsLine (known_text (hex_label id))
+known_is_line : (label : List ℕ) → length label ≤ 64 → IsLine (known_text label)
 unfolding known_text
-known_is_line id =
-    let all : length (codes "known " ++ hex_label id) ≤ 70 = longer (codes "known ") (hex_label id) 6 64 (omega arith) (label_fits id) in
-    is_line (codes "known " ++ hex_label id) (omega (arith, all))
+known_is_line label fits =
+    let all : length (codes "known " ++ label) ≤ 70 = longer (codes "known ") label 6 64 (omega arith) fits in
+    is_line (codes "known " ++ label) (omega (arith, all))
 
 refused_is_line : (refusal : Refusal) → IsLine (refused_text refusal)
 unfolding refused_text
@@ -161,61 +169,66 @@ full_is_line : IsLine full_text
 unfolding full_text
 full_is_line = is_line (codes "full") (omega arith)
 
-vote_is_line : (x y : ℕ) (w : Word) → IsLine (vote_text (hex_label x) (hex_label y) w)
+vote_is_line : (x y : List ℕ) (w : Word) → length x ≤ 64 → length y ≤ 64 → IsLine (vote_text x y w)
 unfolding vote_text
-vote_is_line x y w =
-    let first : length (codes "vote " ++ hex_label x) ≤ 69 = longer (codes "vote ") (hex_label x) 5 64 (omega arith) (label_fits x) in
-    let space : length (codes "vote " ++ hex_label x ++ 32 ∷ []) ≤ 70 = longer (codes "vote " ++ hex_label x) (32 ∷ []) 69 1 first (omega arith) in
-    let second : length (codes "vote " ++ hex_label x ++ 32 ∷ [] ++ hex_label y) ≤ 134 = longer (codes "vote " ++ hex_label x ++ 32 ∷ []) (hex_label y) 70 64 space (label_fits y) in
-    let spaces : length (codes "vote " ++ hex_label x ++ 32 ∷ [] ++ hex_label y ++ 32 ∷ []) ≤ 135 = longer (codes "vote " ++ hex_label x ++ 32 ∷ [] ++ hex_label y) (32 ∷ []) 134 1 second (omega arith) in
-    let all : length (codes "vote " ++ hex_label x ++ 32 ∷ [] ++ hex_label y ++ 32 ∷ [] ++ word_text w) ≤ 141 = longer (codes "vote " ++ hex_label x ++ 32 ∷ [] ++ hex_label y ++ 32 ∷ []) (word_text w) 135 6 spaces (short_word w) in
-    is_line (codes "vote " ++ hex_label x ++ 32 ∷ [] ++ hex_label y ++ 32 ∷ [] ++ word_text w) (omega (arith, all))
+vote_is_line x y w fits fits_too =
+    let first : length (codes "vote " ++ x) ≤ 69 = longer (codes "vote ") x 5 64 (omega arith) fits in
+    let space : length (codes "vote " ++ x ++ 32 ∷ []) ≤ 70 = longer (codes "vote " ++ x) (32 ∷ []) 69 1 first (omega arith) in
+    let second : length (codes "vote " ++ x ++ 32 ∷ [] ++ y) ≤ 134 = longer (codes "vote " ++ x ++ 32 ∷ []) y 70 64 space fits_too in
+    let spaces : length (codes "vote " ++ x ++ 32 ∷ [] ++ y ++ 32 ∷ []) ≤ 135 = longer (codes "vote " ++ x ++ 32 ∷ [] ++ y) (32 ∷ []) 134 1 second (omega arith) in
+    let all : length (codes "vote " ++ x ++ 32 ∷ [] ++ y ++ 32 ∷ [] ++ word_text w) ≤ 141 = longer (codes "vote " ++ x ++ 32 ∷ [] ++ y ++ 32 ∷ []) (word_text w) 135 6 spaces (short_word w) in
+    is_line (codes "vote " ++ x ++ 32 ∷ [] ++ y ++ 32 ∷ [] ++ word_text w) (omega (arith, all))
 
-tx_is_line : (id : ℕ) (s : TxState) → IsLine (tx_text (hex_label id) s)
+tx_is_line : (label : List ℕ) (s : TxState) → length label ≤ 64 → IsLine (tx_text label s)
 unfolding tx_text
-tx_is_line id s =
-    let named : length (codes "tx " ++ hex_label id) ≤ 67 = longer (codes "tx ") (hex_label id) 3 64 (omega arith) (label_fits id) in
-    let space : length (codes "tx " ++ hex_label id ++ 32 ∷ []) ≤ 68 = longer (codes "tx " ++ hex_label id) (32 ∷ []) 67 1 named (omega arith) in
-    let all : length (codes "tx " ++ hex_label id ++ 32 ∷ [] ++ state_text s) ≤ 76 = longer (codes "tx " ++ hex_label id ++ 32 ∷ []) (state_text s) 68 8 space (short_state s) in
-    is_line (codes "tx " ++ hex_label id ++ 32 ∷ [] ++ state_text s) (omega (arith, all))
+tx_is_line label s fits =
+    let named : length (codes "tx " ++ label) ≤ 67 = longer (codes "tx ") label 3 64 (omega arith) fits in
+    let space : length (codes "tx " ++ label ++ 32 ∷ []) ≤ 68 = longer (codes "tx " ++ label) (32 ∷ []) 67 1 named (omega arith) in
+    let all : length (codes "tx " ++ label ++ 32 ∷ [] ++ state_text s) ≤ 76 = longer (codes "tx " ++ label ++ 32 ∷ []) (state_text s) 68 8 space (short_state s) in
+    is_line (codes "tx " ++ label ++ 32 ∷ [] ++ state_text s) (omega (arith, all))
 
-balance_is_line : (lock n : ℕ) → n < 2 ^ 81 → IsLine (balance_text (hex_label lock) n)
+balance_is_line : (label : List ℕ) (n : ℕ) → length label ≤ 64 → n < 2 ^ 81 → IsLine (balance_text label n)
 unfolding balance_text
-balance_is_line lock n few =
+balance_is_line label n fits few =
     let digits : length (decimal n) ≤ 25 = length-decimal-le_wide 25 n (omega arith) (omega (arith, few)) (omega (arith, few)) in
-    let named : length (codes "balance " ++ hex_label lock) ≤ 72 = longer (codes "balance ") (hex_label lock) 8 64 (omega arith) (label_fits lock) in
-    let space : length (codes "balance " ++ hex_label lock ++ 32 ∷ []) ≤ 73 = longer (codes "balance " ++ hex_label lock) (32 ∷ []) 72 1 named (omega arith) in
-    let all : length (codes "balance " ++ hex_label lock ++ 32 ∷ [] ++ decimal n) ≤ 98 = longer (codes "balance " ++ hex_label lock ++ 32 ∷ []) (decimal n) 73 25 space digits in
-    is_line (codes "balance " ++ hex_label lock ++ 32 ∷ [] ++ decimal n) (omega (arith, all))
+    let named : length (codes "balance " ++ label) ≤ 72 = longer (codes "balance ") label 8 64 (omega arith) fits in
+    let space : length (codes "balance " ++ label ++ 32 ∷ []) ≤ 73 = longer (codes "balance " ++ label) (32 ∷ []) 72 1 named (omega arith) in
+    let all : length (codes "balance " ++ label ++ 32 ∷ [] ++ decimal n) ≤ 98 = longer (codes "balance " ++ label ++ 32 ∷ []) (decimal n) 73 25 space digits in
+    is_line (codes "balance " ++ label ++ 32 ∷ [] ++ decimal n) (omega (arith, all))
 
 -- ---- answers
 
-module _ (kept : List ReadBlock) where
-  joined_is_line : (block : ReadBlock) → length kept < 512 → IsLine (answer_text (joined kept block))
+module _ (labels : AllLabels) (are : AreAllLabels labels) (kept : List ReadBlock) where
+  block_fits : (id : ℕ) → length (label_of labels.blocks id) ≤ 64
+  block_fits id = named_fits labels.blocks are.blocks.short id
+
+  joined_is_line : (block : ReadBlock) → length kept < 512 → IsLine (answer_text labels (joined kept block))
   unfolding joined
   joined_is_line block room = at (has (present (kept ++ block ∷ [])) block.id)
     where
       number : ℕ
       number = length (present (kept ++ block ∷ [])) - length (present kept)
 
-      at : (c : Bool) → IsLine (answer_text (if c then Kept block.id number else Held block.id))
-      at true = kept_is_line block.id number (omega (arith, few_present (kept ++ block ∷ []), length-append kept (block ∷ [])))
-      at false = waiting_is_line block.id
+      at : (c : Bool) → IsLine (answer_text labels (if c then Kept block.id number else Held block.id))
+      at true = kept_is_line (label_of labels.blocks block.id) number (block_fits block.id) (omega (arith, few_present (kept ++ block ∷ []), length-append kept (block ∷ [])))
+      at false = waiting_is_line (label_of labels.blocks block.id) (block_fits block.id)
 
-  standing_is_line : (block : ReadBlock) (s : Standing) → standing_of kept block.id ≡ s → IsLine (answer_text (answer_by s kept block))
-  standing_is_line block standing.Known e = known_is_line block.id
+  standing_is_line : (block : ReadBlock) (s : Standing) → standing_of kept block.id ≡ s → IsLine (answer_text labels (answer_by s kept block))
+  standing_is_line block standing.Known e = known_is_line (label_of labels.blocks block.id) (block_fits block.id)
   standing_is_line block standing.Full e = full_is_line
   standing_is_line block standing.Fresh e = joined_is_line block (from_fresh kept block.id e).1
 
-  judged_is_line : (judged : Result ReadBlock Refusal) → IsLine (answer_text (answer_to kept judged))
+  judged_is_line : (judged : Result ReadBlock Refusal) → IsLine (answer_text labels (answer_to kept judged))
   judged_is_line (Err refusal) = refused_is_line refusal
   judged_is_line (Ok block) = standing_is_line block (standing_of kept block.id) refl
 
 pub answers_are_lines : AnswersAreLines
 unfolding reply_of answer_of
-answers_are_lines bits kept (SaysBlock bytes) one = judged_is_line kept (valid_in bits bytes)
-answers_are_lines bits kept (SaysVote x y) one = vote_is_line x y (word (graph_of kept) (present kept) x y)
-answers_are_lines bits kept (SaysTx id) one = tx_is_line id (state_of kept id)
-answers_are_lines bits kept (SaysBalance lock) one = balance_is_line lock (balance_by_id kept lock) (small_balance kept one lock)
-answers_are_lines bits kept SaysPairs one = absurd one
-answers_are_lines bits kept SaysReport one = absurd one
+answers_are_lines labels bits kept (SaysBlock bytes) are one = judged_is_line labels are kept (valid_in bits bytes)
+answers_are_lines labels bits kept (SaysVote x y) are one =
+    vote_is_line (label_of labels.blocks x) (label_of labels.blocks y) (word (graph_of kept) (present kept) x y) (named_fits labels.blocks are.blocks.short x) (named_fits labels.blocks are.blocks.short y)
+answers_are_lines labels bits kept (SaysTx id) are one = tx_is_line (label_of labels.txs id) (state_of kept id) (named_fits labels.txs are.txs.short id)
+answers_are_lines labels bits kept (SaysBalance lock) are one =
+    balance_is_line (label_of labels.locks lock) (balance_by_id kept lock) (named_fits labels.locks are.locks.short lock) (small_balance kept one lock)
+answers_are_lines labels bits kept SaysPairs are one = absurd one
+answers_are_lines labels bits kept SaysReport are one = absurd one

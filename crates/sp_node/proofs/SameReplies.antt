@@ -1,22 +1,18 @@
 -- The same valid blocks in two orders: each question is answered by the same bytes.
-use Rattle.std.proofs.Common.{◌≡◌, ◌≤◌, ℕ, Bool, true, false, cond, ◌-◌, ◌++◌, [], ◌∷◌, List, length, refl, sym, ap, ap₂, ◌∙◌, eqb, inl, inr, arith}
+use Rattle.std.proofs.Common.{◌≡◌, ℕ, Bool, true, false, ◌-◌, ◌++◌, [], ◌∷◌, List, length, refl, sym, ap, ap₂, ◌∙◌, eqb, inl, inr, arith}
 use Rattle.std.specs.Prelude.{filter, not}
 use Rattle.std.specs.List.{flat_map}
-use Rattle.std.proofs.lemmas.Bool.{cases_Bool, false_from_ne_true, false≢true}
+use Rattle.std.proofs.lemmas.Bool.{cases_Bool, false≢true}
 use Rattle.sp_block.specs.Ascending.{ascending}
 use Rattle.sp_block.specs.Block.{ReadBlock}
 use Rattle.sp_block.proofs.Ascent.{ascending_permuted}
 use Rattle.sp_model.specs.Graph.{AreDistinct, has}
-use Rattle.sp_model.specs.Votes.{word}
-use Rattle.sp_model.specs.declared.word.Word.{Word}
 use Rattle.sp_model.proofs.Sets.{has-filter, has-filter_from}
-use Rattle.sp_pool.specs.Kept.{AreApart, graph_of, present}
-use Rattle.sp_carry.specs.declared.state.TxState.{TxState}
+use Rattle.sp_pool.specs.Kept.{AreApart, present}
 use Rattle.sp_carry.specs.Ledger.{is_accepted, IsPlain}
-use Rattle.sp_engine.specs.AnyOrder.{AreSameArrivals}
 use Rattle.sp_engine.specs.Arrivals.{kept_by_all}
 use Rattle.sp_engine.specs.Presence.{order_of}
-use Rattle.sp_engine.specs.Transactions.{balance_by_id, ledger_by_id, ledger_of, locks, state_of, tx_ids, tx_ids_in}
+use Rattle.sp_engine.specs.Transactions.{balance_by_id, ledger_by_id, ledger_of, locks, tx_ids, tx_ids_in}
 use Rattle.sp_engine.proofs.Alike.{same_accepted, same_balance, same_count, same_plain, same_present, same_present_count, same_state, same_tx_ids, same_word}
 use Rattle.sp_engine.proofs.BalancesOwn.{balances_agree}
 use Rattle.sp_engine.proofs.ByIds.{acceptance_agrees}
@@ -24,12 +20,15 @@ use Rattle.sp_engine.proofs.Counts.{AreDistinct-present, same_length}
 use Rattle.sp_engine.proofs.EachOnce.{each_is_once}
 use Rattle.sp_engine.proofs.PaidLocks.{locks_once, unpaid}
 use Rattle.sp_engine.proofs.SameKept.{AreAlike, same_kept}
-use Rattle.sp_report.specs.Lines.{balance_count_text, balance_text, blocks_text, hex_label, pair_count_text, tx_text, vote_text}
-use Rattle.sp_report.specs.Texts.{accepted_ids, all_accepted_text, all_paid_text, counts_text, paid_locks, paid_text, pair_text, pairs_of, pairs_of_ids_text, pairs_text, report_text}
+use Rattle.sp_names.specs.Labels.{AllLabels, in_order}
+use Rattle.sp_report.specs.Lines.{balance_count_text, balance_text, blocks_text, pair_count_text, tx_text, vote_text}
+use Rattle.sp_report.specs.Naming.{label_of}
+use Rattle.sp_report.specs.Texts.{accepted_ids, all_accepted_text, all_paid_text, counts_text, paid_locks, paid_text, pair_text, pairs_of, pairs_of_ids_text, pairs_text, present_ids, report_text}
+use Rattle.sp_report.proofs.NamedIds.{distinct_passing}
 use Rattle.sp_report.proofs.SortedIds.{permuted}
-use Rattle.sp_feed.specs.Kinds.{Said, SaysBlock, SaysVote, SaysTx, SaysBalance, SaysPairs, SaysReport}
-use Rattle.sp_node.specs.Answers.{IsQuestion, reply_of}
-use Rattle.sp_node.specs.Messages.{IsPlainFor, OrderIsNoMatter}
+use Rattle.sp_feed.specs.Kinds.{SaysBlock, SaysVote, SaysTx, SaysBalance, SaysPairs, SaysReport}
+use Rattle.sp_node.specs.Answers.{reply_of}
+use Rattle.sp_node.specs.Messages.{OrderIsNoMatter}
 
 -- ---- lists
 
@@ -47,14 +46,6 @@ flat_map_same : {A : Type 0} (f g : A → List ℕ) → ((x : A) → f x ≡ g x
 flat_map_same f g same [] = refl
 flat_map_same f g same (x ∷ xs) = ap₂ (λ (s t : List ℕ). s ++ t) (same x) (flat_map_same f g same xs)
 
-distinct_passing : (p : ℕ → Bool) (xs : List ℕ) → AreDistinct xs → AreDistinct (filter p xs)
-distinct_passing p [] once = tt
-distinct_passing p (x ∷ xs) once = at (p x) (distinct_passing p xs once.1)
-  where
-    at : (c : Bool) → AreDistinct (filter p xs) → AreDistinct (cond c (x ∷ filter p xs) (filter p xs))
-    at true rest = (false_from_ne_true (has (filter p xs) x) (λ there. false≢true (sym once.0 ∙ (has-filter p xs x there).0)), rest)
-    at false rest = rest
-
 -- those that pass a test, which is the same for both
 same_passing : (p q : ℕ → Bool) (xs ys : List ℕ) → ((z : ℕ) → p z ≡ q z) → ((z : ℕ) → p z ≡ true → has xs z ≡ has ys z) → (z : ℕ) → has (filter p xs) z ≡ has (filter q ys) z
 same_passing p q xs ys alike same z =
@@ -64,14 +55,19 @@ same_passing p q xs ys alike same z =
 
 -- ---- two lists of kept blocks with the same blocks
 
-module _ (kept others : List ReadBlock) (alike : AreAlike kept others) where
-  pub same_pairs : pairs_text kept ≡ pairs_text others
+module _ (labels : AllLabels) (kept others : List ReadBlock) (alike : AreAlike kept others) where
+  same_order : present_ids labels kept ≡ present_ids labels others
+  same_order =
+      ap (in_order labels.blocks)
+      (same_ascending (present kept) (present others) (AreDistinct-present kept alike.apart) (AreDistinct-present others alike.other_apart) (same_present kept others alike))
+
+  pub same_pairs : pairs_text labels kept ≡ pairs_text labels others
   unfolding pairs_of_ids_text
   same_pairs =
-      ap (pairs_of_ids_text kept)
-      (same_ascending (present kept) (present others) (AreDistinct-present kept alike.apart) (AreDistinct-present others alike.other_apart) (same_present kept others alike))
-      ∙ ap (λ (t : List ℕ). pair_count_text (length (pairs_of (ascending (present others)))) ++ t)
-      (flat_map_same (pair_text kept) (pair_text others) (λ pair. ap (vote_text (hex_label pair.0) (hex_label pair.1)) (sym (same_word kept others alike pair.0 pair.1))) (pairs_of (ascending (present others))))
+      ap (pairs_of_ids_text labels kept) same_order
+      ∙ ap (λ (t : List ℕ). pair_count_text (length (pairs_of (present_ids labels others))) ++ t)
+      (flat_map_same (pair_text labels kept) (pair_text labels others)
+      (λ pair. ap (vote_text (label_of labels.blocks pair.0) (label_of labels.blocks pair.1)) (sym (same_word kept others alike pair.0 pair.1))) (pairs_of (present_ids labels others)))
 
   same_counts : counts_text kept ≡ counts_text others
   same_counts = ap₂ (λ (up all : ℕ). blocks_text up (all - up)) (same_present_count kept others alike) (same_count kept others alike)
@@ -89,13 +85,13 @@ module _ (kept others : List ReadBlock) (alike : AreAlike kept others) where
         ∙ sym (same_balance kept others lock alike plain)
         ∙ sym (balances_agree others alike.other_apart (same_plain kept others alike plain) lock)
 
-    same_ids : accepted_ids kept ≡ accepted_ids others
+    same_ids : accepted_ids labels kept ≡ accepted_ids labels others
     same_ids =
         let p : ℕ → Bool = λ id. is_accepted (ledger_by_id kept) (present kept) id in
         let q : ℕ → Bool = λ id. is_accepted (ledger_by_id others) (present others) id in
-        same_ascending (filter p (tx_ids kept)) (filter q (tx_ids others))
+        ap (in_order labels.txs) (same_ascending (filter p (tx_ids kept)) (filter q (tx_ids others))
         (distinct_passing p (tx_ids kept) (each_is_once (tx_ids_in kept (order_of kept)))) (distinct_passing q (tx_ids others) (each_is_once (tx_ids_in others (order_of others))))
-        (same_passing p q (tx_ids kept) (tx_ids others) same_acceptance (λ z passes. same_tx_ids kept others alike z))
+        (same_passing p q (tx_ids kept) (tx_ids others) same_acceptance (λ z passes. same_tx_ids kept others alike z)))
 
     -- a lock under which anything is left is listed in both
     listed : (k : List ReadBlock) → AreApart k → (lock : ℕ) → not (eqb (balance_by_id k lock) 0) ≡ true → has (locks k) lock ≡ true
@@ -104,37 +100,37 @@ module _ (kept others : List ReadBlock) (alike : AreAlike kept others) where
       | inr e ↦ absurd (false≢true (sym (ap (λ (n : ℕ). not (eqb n 0)) (unpaid k apart lock e)) ∙ paid))
     ]
 
-    same_locks : paid_locks kept ≡ paid_locks others
+    same_locks : paid_locks labels kept ≡ paid_locks labels others
     same_locks =
         let p : ℕ → Bool = λ lock. not (eqb (balance_by_id kept lock) 0) in
         let q : ℕ → Bool = λ lock. not (eqb (balance_by_id others lock) 0) in
         let same : (lock : ℕ) → p lock ≡ q lock = λ lock. ap (λ (n : ℕ). not (eqb n 0)) (same_left lock) in
-        same_ascending (filter p (locks kept)) (filter q (locks others))
+        ap (in_order labels.locks) (same_ascending (filter p (locks kept)) (filter q (locks others))
         (distinct_passing p (locks kept) (locks_once kept)) (distinct_passing q (locks others) (locks_once others))
         (same_passing p q (locks kept) (locks others) same
-        (λ z passes. listed kept alike.apart z passes ∙ sym (listed others alike.other_apart z (sym (same z) ∙ passes))))
+        (λ z passes. listed kept alike.apart z passes ∙ sym (listed others alike.other_apart z (sym (same z) ∙ passes)))))
 
-    pub same_report : report_text kept ≡ report_text others
+    pub same_report : report_text labels kept ≡ report_text labels others
     unfolding report_text all_paid_text
     same_report =
-        ap₂ (λ (counts : List ℕ) (ids : List ℕ). counts ++ (all_accepted_text ids ++ all_paid_text kept (paid_locks kept))) same_counts same_ids
-        ∙ ap (λ (t : List ℕ). counts_text others ++ (all_accepted_text (accepted_ids others) ++ t))
-        (ap (all_paid_text kept) same_locks
-        ∙ ap (λ (t : List ℕ). balance_count_text (length (paid_locks others)) ++ t)
-        (flat_map_same (paid_text kept) (paid_text others) (λ lock. ap (balance_text (hex_label lock)) (same_left lock)) (paid_locks others)))
+        ap₂ (λ (counts : List ℕ) (ids : List ℕ). counts ++ (all_accepted_text labels ids ++ all_paid_text labels kept (paid_locks labels kept))) same_counts same_ids
+        ∙ ap (λ (t : List ℕ). counts_text others ++ (all_accepted_text labels (accepted_ids labels others) ++ t))
+        (ap (all_paid_text labels kept) same_locks
+        ∙ ap (λ (t : List ℕ). balance_count_text (length (paid_locks labels others)) ++ t)
+        (flat_map_same (paid_text labels kept) (paid_text labels others) (λ lock. ap (balance_text (label_of labels.locks lock)) (same_left lock)) (paid_locks labels others)))
 
 -- ---- the law
 
 pub order_is_no_matter : OrderIsNoMatter
 unfolding reply_of
-order_is_no_matter bits genesis arrivals others (SaysBlock bytes) question same plain = absurd question
-order_is_no_matter bits genesis arrivals others (SaysVote x y) question same plain =
-    ap (vote_text (hex_label x) (hex_label y)) (sym (same_word (kept_by_all bits genesis arrivals) (kept_by_all bits genesis others) (same_kept bits genesis arrivals others same) x y))
-order_is_no_matter bits genesis arrivals others (SaysTx id) question same plain =
-    ap (tx_text (hex_label id)) (sym (same_state (kept_by_all bits genesis arrivals) (kept_by_all bits genesis others) (same_kept bits genesis arrivals others same) id plain))
-order_is_no_matter bits genesis arrivals others (SaysBalance lock) question same plain =
-    ap (balance_text (hex_label lock)) (same_left (kept_by_all bits genesis arrivals) (kept_by_all bits genesis others) (same_kept bits genesis arrivals others same) plain lock)
-order_is_no_matter bits genesis arrivals others SaysPairs question same plain =
-    same_pairs (kept_by_all bits genesis arrivals) (kept_by_all bits genesis others) (same_kept bits genesis arrivals others same)
-order_is_no_matter bits genesis arrivals others SaysReport question same plain =
-    same_report (kept_by_all bits genesis arrivals) (kept_by_all bits genesis others) (same_kept bits genesis arrivals others same) plain
+order_is_no_matter labels bits genesis arrivals others (SaysBlock bytes) question same plain = absurd question
+order_is_no_matter labels bits genesis arrivals others (SaysVote x y) question same plain =
+    ap (vote_text (label_of labels.blocks x) (label_of labels.blocks y)) (sym (same_word (kept_by_all bits genesis arrivals) (kept_by_all bits genesis others) (same_kept bits genesis arrivals others same) x y))
+order_is_no_matter labels bits genesis arrivals others (SaysTx id) question same plain =
+    ap (tx_text (label_of labels.txs id)) (sym (same_state (kept_by_all bits genesis arrivals) (kept_by_all bits genesis others) (same_kept bits genesis arrivals others same) id plain))
+order_is_no_matter labels bits genesis arrivals others (SaysBalance lock) question same plain =
+    ap (balance_text (label_of labels.locks lock)) (same_left labels (kept_by_all bits genesis arrivals) (kept_by_all bits genesis others) (same_kept bits genesis arrivals others same) plain lock)
+order_is_no_matter labels bits genesis arrivals others SaysPairs question same plain =
+    same_pairs labels (kept_by_all bits genesis arrivals) (kept_by_all bits genesis others) (same_kept bits genesis arrivals others same)
+order_is_no_matter labels bits genesis arrivals others SaysReport question same plain =
+    same_report labels (kept_by_all bits genesis arrivals) (kept_by_all bits genesis others) (same_kept bits genesis arrivals others same) plain

@@ -8,6 +8,7 @@ use Rattle.sp_engine.specs.AnyOrder.{AreSameArrivals}
 use Rattle.sp_engine.specs.Arrivals.{kept_by_all}
 use Rattle.sp_engine.specs.Transactions.{ledger_of}
 use Rattle.sp_feed.specs.Kinds.{Said, SaysBlock, SaysVote, SaysTx, SaysBalance, SaysPairs, SaysReport}
+use Rattle.sp_names.specs.Labels.{AllLabels, AreAllLabels}
 use Rattle.sp_node.specs.Answers.{answers, arrivals_of, IsQuestion, kept_then, reply, reply_of}
 
 -- what is kept after one message after another is what is kept of all the bytes that arrived with them
@@ -17,9 +18,9 @@ KeptByMessages = (bits : ℕ) (genesis : ReadBlock) (messages : List Said) →
 
 -- the answers to a list are those to its front, and then those to the rest after what arrived with the front
 abbrev pub AnswersInTurn : Type 0
-AnswersInTurn = (genesis : ReadBlock) (bits : ℕ) (arrivals : List (List ℕ)) (front rest : List Said) →
-    answers genesis bits arrivals (front ++ rest)
-    ≡ answers genesis bits arrivals front ++ answers genesis bits (arrivals ++ flat_map arrivals_of front) rest
+AnswersInTurn = (labels : AllLabels) (genesis : ReadBlock) (bits : ℕ) (arrivals : List (List ℕ)) (front rest : List Said) →
+    answers labels genesis bits arrivals (front ++ rest)
+    ≡ answers labels genesis bits arrivals front ++ answers labels genesis bits (arrivals ++ flat_map arrivals_of front) rest
 
 -- byte 10 ends it, and it has at most 192 bytes
 pub record IsLine (bytes : List ℕ) : Type 0 where
@@ -36,9 +37,11 @@ HasOneLine kept (SaysBalance lock) = AreKept kept
 HasOneLine kept SaysPairs = ⊥
 HasOneLine kept SaysReport = ⊥
 
--- such a message is answered by one line
+-- such a message is answered by one line, where names have at most 64 bytes or ids stand for themselves
 abbrev pub AnswersAreLines : Type 0
-AnswersAreLines = (bits : ℕ) (kept : List ReadBlock) (message : Said) → HasOneLine kept message → IsLine (reply_of bits kept message)
+AnswersAreLines =
+    (labels : AllLabels) (bits : ℕ) (kept : List ReadBlock) (message : Said) → AreAllLabels labels → HasOneLine kept message →
+    IsLine (reply_of labels bits kept message)
 
 -- what an answer on transactions, balances or both needs: no two different transactions of the present blocks have one id
 abbrev pub IsPlainFor : List ReadBlock → Said → Type 0
@@ -50,9 +53,9 @@ IsPlainFor kept SaysPairs = Unit {0}
 IsPlainFor kept SaysReport = IsPlain (ledger_of kept) (present kept)
 
 -- Two lists of arrivals with the same valid blocks, at most 512 with genesis and all of different ids: each question is
--- answered alike after both
+-- answered alike after both, by one naming
 abbrev pub OrderIsNoMatter : Type 0
 OrderIsNoMatter =
-    (bits : ℕ) (genesis : ReadBlock) (arrivals others : List (List ℕ)) (question : Said) → IsQuestion question →
+    (labels : AllLabels) (bits : ℕ) (genesis : ReadBlock) (arrivals others : List (List ℕ)) (question : Said) → IsQuestion question →
     AreSameArrivals bits genesis arrivals others → IsPlainFor (kept_by_all bits genesis arrivals) question →
-    reply genesis bits arrivals question ≡ reply genesis bits others question
+    reply labels genesis bits arrivals question ≡ reply labels genesis bits others question

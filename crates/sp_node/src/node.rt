@@ -6,6 +6,7 @@ ghost use Rattle.sp_io.specs.Whole.{AppendsFront};
 ghost use Rattle.sp_feed.specs.Kinds.{SaysBalance, SaysBlock, SaysVote, SaysTx};
 ghost use Rattle.sp_feed.specs.Messages.{said_by};
 ghost use Rattle.sp_report.specs.Asks.{ask_text};
+ghost use Rattle.sp_report.specs.Naming.{labels_of};
 ghost use Rattle.sp_report.specs.Texts.{text_of};
 ghost use Rattle.sp_node.specs.Answers.{kept_then, reply_of};
 ghost use Rattle.sp_node.specs.Node.{HasNodeCause};
@@ -73,7 +74,7 @@ impl Node {
     pub fn message<K: Sink>(
         &mut self,
         message: &Message<'_>,
-        naming: &Naming,
+        naming: &Naming<'_>,
         sink: &mut K,
     ) -> Result<(), NodeFault>
         requires live { self.old.stopped ≡ false }
@@ -82,7 +83,7 @@ impl Node {
         // What answers the message is written, and a block that was to be kept is.
         ensures ok { OnOk result (IfSome (said_by message.now) (λ said.
             Appends (K.taken sink.old) (K.taken sink.new)
-            (reply_of self.old.bits self.old.kept said))) }
+            (reply_of (labels_of naming.now) self.old.bits self.old.kept said))) }
         ensures kept { OnOk result (IfSome (said_by message.now) (λ said.
             self.new.kept ≡ kept_then self.old.bits self.old.kept said)) }
         ensures bits { self.new.bits ≡ self.old.bits }
@@ -94,7 +95,7 @@ impl Node {
         // Where that failed, a front of the answer was; nothing, where memory was refused.
         ensures err { OnErr result (IfSome (said_by message.now) (λ said.
             AppendsFront (K.taken sink.old) (K.taken sink.new)
-            (reply_of self.old.bits self.old.kept said))) }
+            (reply_of (labels_of naming.now) self.old.bits self.old.kept said))) }
         ensures memory { result ≡ Err NodeFault.Memory → sink.new ≡ sink.old }
         ensures cause { IfErr result (HasNodeCause (K.faults sink.old) (K.faults sink.new)) }
         ensures quiet { result ≢ Err NodeFault.WriteFault → K.faults sink.new ≡ K.faults sink.old }
@@ -140,19 +141,19 @@ impl Node {
     fn arrive<K: Sink>(
         &mut self,
         bytes: &[u8],
-        naming: &Naming,
+        naming: &Naming<'_>,
         sink: &mut K,
     ) -> Result<(), NodeFault>
         requires { self.old.stopped ≡ false }
         ensures ok { OnOk result (Appends (K.taken sink.old) (K.taken sink.new)
-            (reply_of self.old.bits self.old.kept (SaysBlock bytes.now))) }
+            (reply_of (labels_of naming.now) self.old.bits self.old.kept (SaysBlock bytes.now))) }
         ensures kept { OnOk result (self.new.kept
             ≡ kept_then self.old.bits self.old.kept (SaysBlock bytes.now)) }
         ensures kept_unwritten { result ≡ Err NodeFault.WriteFault →
             self.new.kept ≡ kept_then self.old.bits self.old.kept (SaysBlock bytes.now) }
         ensures bits { self.new.bits ≡ self.old.bits }
         ensures err { OnErr result (AppendsFront (K.taken sink.old) (K.taken sink.new)
-            (reply_of self.old.bits self.old.kept (SaysBlock bytes.now))) }
+            (reply_of (labels_of naming.now) self.old.bits self.old.kept (SaysBlock bytes.now))) }
         ensures memory { result ≡ Err NodeFault.Memory → sink.new ≡ sink.old }
         ensures cause { IfErr result (HasNodeCause (K.faults sink.old) (K.faults sink.new)) }
         ensures quiet { result ≢ Err NodeFault.WriteFault → K.faults sink.new ≡ K.faults sink.old }
@@ -167,14 +168,19 @@ impl Node {
     }
 
     // Writes what the present blocks say of what is asked.
-    fn ask<K: Sink>(&mut self, ask: &Ask, naming: &Naming, sink: &mut K) -> Result<(), NodeFault>
+    fn ask<K: Sink>(
+        &mut self,
+        ask: &Ask,
+        naming: &Naming<'_>,
+        sink: &mut K,
+    ) -> Result<(), NodeFault>
         requires { self.old.stopped ≡ false }
         ensures ok { OnOk result
-            (Appends (K.taken sink.old) (K.taken sink.new) (ask_text self.old.kept ask.now)) }
+            (Appends (K.taken sink.old) (K.taken sink.new) (ask_text (labels_of naming.now) self.old.kept ask.now)) }
         ensures kept { self.new.kept ≡ self.old.kept }
         ensures bits { self.new.bits ≡ self.old.bits }
         ensures err { OnErr result
-            (AppendsFront (K.taken sink.old) (K.taken sink.new) (ask_text self.old.kept ask.now)) }
+            (AppendsFront (K.taken sink.old) (K.taken sink.new) (ask_text (labels_of naming.now) self.old.kept ask.now)) }
         ensures never { result ≢ Err NodeFault.Memory }
         ensures cause { IfErr result (HasNodeCause (K.faults sink.old) (K.faults sink.new)) }
         ensures quiet { result ≢ Err NodeFault.WriteFault → K.faults sink.new ≡ K.faults sink.old }
@@ -192,14 +198,19 @@ impl Node {
 
     // Writes a text over the present blocks.
     #[tactic(auto, using(sp_io::proofs::Stops::stops_at_start))]
-    fn tell<K: Sink>(&mut self, text: &Text, naming: &Naming, sink: &mut K) -> Result<(), NodeFault>
+    fn tell<K: Sink>(
+        &mut self,
+        text: &Text,
+        naming: &Naming<'_>,
+        sink: &mut K,
+    ) -> Result<(), NodeFault>
         requires { self.old.stopped ≡ false }
         ensures ok { OnOk result
-            (Appends (K.taken sink.old) (K.taken sink.new) (text_of self.old.kept text.now)) }
+            (Appends (K.taken sink.old) (K.taken sink.new) (text_of (labels_of naming.now) self.old.kept text.now)) }
         ensures kept { self.new.kept ≡ self.old.kept }
         ensures bits { self.new.bits ≡ self.old.bits }
         ensures err { OnErr result
-            (AppendsFront (K.taken sink.old) (K.taken sink.new) (text_of self.old.kept text.now)) }
+            (AppendsFront (K.taken sink.old) (K.taken sink.new) (text_of (labels_of naming.now) self.old.kept text.now)) }
         ensures memory { result ≡ Err NodeFault.Memory → sink.new ≡ sink.old }
         ensures cause { IfErr result (HasNodeCause (K.faults sink.old) (K.faults sink.new)) }
         ensures quiet { result ≢ Err NodeFault.WriteFault → K.faults sink.new ≡ K.faults sink.old }

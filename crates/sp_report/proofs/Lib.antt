@@ -2,3 +2,4 @@ pub mod Decimals
 pub mod LinesLeft
 pub mod PairTexts
 pub mod SortedIds
+pub mod NamedIds

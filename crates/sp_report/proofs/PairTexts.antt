@@ -5,30 +5,31 @@ use Rattle.std.proofs.lemmas.Grind.{flat_map-append}
 use Rattle.std.proofs.lemmas.List.{append-nil, at_drop_more, drop_all}
 use Rattle.std.proofs.lemmas.List.Folds.{flat_map-map}
 use Rattle.sp_block.specs.Block.{ReadBlock}
+use Rattle.sp_names.specs.Labels.{AllLabels}
 use Rattle.sp_report.specs.Texts.{pair_text, pairs_of, votes_text}
 
 -- those of all pairs
-abbrev pub all_votes : List ReadBlock → List ℕ → List ℕ
-all_votes kept ids = flat_map (pair_text kept) (pairs_of ids)
+abbrev pub all_votes : AllLabels → List ReadBlock → List ℕ → List ℕ
+all_votes labels kept ids = flat_map (pair_text labels kept) (pairs_of ids)
 
-pairs_step : (kept : List ReadBlock) (x : ℕ) (xs : List ℕ) → all_votes kept (x ∷ xs) ≡ votes_text kept x xs ++ all_votes kept xs
+pairs_step : (labels : AllLabels) (kept : List ReadBlock) (x : ℕ) (xs : List ℕ) → all_votes labels kept (x ∷ xs) ≡ votes_text labels kept x xs ++ all_votes labels kept xs
 unfolding pairs_of
-pairs_step kept x xs =
-    flat_map-append (pair_text kept) (map (λ y. (x, y)) xs) (pairs_of xs)
-    ∙ ap (λ t. t ++ all_votes kept xs) (flat_map-map (pair_text kept) (λ y. (x, y)) xs)
+pairs_step labels kept x xs =
+    flat_map-append (pair_text labels kept) (map (λ y. (x, y)) xs) (pairs_of xs)
+    ∙ ap (λ t. t ++ all_votes labels kept xs) (flat_map-map (pair_text labels kept) (λ y. (x, y)) xs)
 
 -- those of the first block that is left with each behind it, and then the others
-pub pairs_next : (kept : List ReadBlock) (ids : List ℕ) (i d x : ℕ) (others : List ℕ) → i < length ids → x ≡ get_or ids i d → others ≡ drop (i + 1) ids
-    → all_votes kept (drop i ids) ≡ votes_text kept x others ++ all_votes kept (drop (i + 1) ids)
-pairs_next kept ids i d x others h is e =
-    let rest = all_votes kept (drop (i + 1) ids) in
-    at_drop_more (all_votes kept) ids i d h ∙ pairs_step kept (get_or ids i d) (drop (i + 1) ids)
-    ∙ ap (λ (z : ℕ). votes_text kept z (drop (i + 1) ids) ++ rest) (sym is) ∙ ap (λ (zs : List ℕ). votes_text kept x zs ++ rest) (sym e)
+pub pairs_next : (labels : AllLabels) (kept : List ReadBlock) (ids : List ℕ) (i d x : ℕ) (others : List ℕ) → i < length ids → x ≡ get_or ids i d → others ≡ drop (i + 1) ids
+    → all_votes labels kept (drop i ids) ≡ votes_text labels kept x others ++ all_votes labels kept (drop (i + 1) ids)
+pairs_next labels kept ids i d x others h is e =
+    let rest = all_votes labels kept (drop (i + 1) ids) in
+    at_drop_more (all_votes labels kept) ids i d h ∙ pairs_step labels kept (get_or ids i d) (drop (i + 1) ids)
+    ∙ ap (λ (z : ℕ). votes_text labels kept z (drop (i + 1) ids) ++ rest) (sym is) ∙ ap (λ (zs : List ℕ). votes_text labels kept x zs ++ rest) (sym e)
 
 -- none is left
-pub no_votes : (kept : List ReadBlock) (ids : List ℕ) (i : ℕ) (page : List ℕ) → length ids ≤ i → page ++ all_votes kept (drop i ids) ≡ page
+pub no_votes : (labels : AllLabels) (kept : List ReadBlock) (ids : List ℕ) (i : ℕ) (page : List ℕ) → length ids ≤ i → page ++ all_votes labels kept (drop i ids) ≡ page
 unfolding pairs_of
-no_votes kept ids i page h = ap (λ (l : List ℕ). page ++ all_votes kept l) (drop_all i ids h) ∙ append-nil page
+no_votes labels kept ids i page h = ap (λ (l : List ℕ). page ++ all_votes labels kept l) (drop_all i ids h) ∙ append-nil page
 
 -- ---- how many pairs there are
 

@@ -6,10 +6,13 @@ use Rattle.sp_pool.specs.Kept.{graph_of, present}
 use Rattle.sp_engine.specs.Transactions.{balance_by_id, state_of}
 use Rattle.sp_report.specs.declared.ask.Ask.{Ask}
 use Rattle.sp_report.specs.declared.ask.Ask.TheVariants.{Vote, Tx, Balance}
-use Rattle.sp_report.specs.Lines.{balance_text, hex_label, tx_text, vote_text}
+use Rattle.sp_names.specs.Labels.{AllLabels}
+use Rattle.sp_report.specs.Lines.{balance_text, tx_text, vote_text}
+use Rattle.sp_report.specs.Naming.{label_of}
 
 -- what all present blocks say of the two, of the transaction, or of the lock
-abbrev pub ask_text : List ReadBlock → Ask → List ℕ
-ask_text kept (Vote x y) = vote_text (hex_label x) (hex_label y) (word (graph_of kept) (present kept) x y)
-ask_text kept (Tx id) = tx_text (hex_label id) (state_of kept id)
-ask_text kept (Balance lock) = balance_text (hex_label lock) (balance_by_id kept lock)
+abbrev pub ask_text : AllLabels → List ReadBlock → Ask → List ℕ
+ask_text labels kept (Vote x y) =
+    vote_text (label_of labels.blocks x) (label_of labels.blocks y) (word (graph_of kept) (present kept) x y)
+ask_text labels kept (Tx id) = tx_text (label_of labels.txs id) (state_of kept id)
+ask_text labels kept (Balance lock) = balance_text (label_of labels.locks lock) (balance_by_id kept lock)

@@ -1,3 +1,4 @@
+pub mod Naming
 pub mod Reasons
 pub mod Lines
 pub mod Asks

@@ -1,8 +1,6 @@
 -- The lines that answer messages, tell faults and make up texts. Each ends with byte 10; numbers are decimal.
 use Rattle.std.specs.Prelude.{ℕ, List, [], ◌∷◌, ◌++◌, codes}
 use Rattle.std.specs.Fmt.{decimal}
-use Rattle.hex.specs.Hex.{encode_lower}
-use Rattle.sp_ids.specs.Key.{bytes_of}
 use Rattle.sp_model.specs.declared.word.Word.{Word}
 use Rattle.sp_model.specs.declared.word.Word.TheVariants as word_is
 use Rattle.sp_carry.specs.declared.state.TxState.{TxState}
@@ -10,11 +8,9 @@ use Rattle.sp_carry.specs.declared.state.TxState.TheVariants as tx_is
 use Rattle.sp_engine.specs.declared.answer.Answer.{Answer}
 use Rattle.sp_engine.specs.declared.answer.Answer.TheVariants.{Kept, Held, Known, Refused, Full}
 use Rattle.sp_engine.specs.declared.answer.Refusal.{Refusal}
+use Rattle.sp_names.specs.Labels.{AllLabels}
+use Rattle.sp_report.specs.Naming.{label_of}
 use Rattle.sp_report.specs.Reasons.{reason}
-
--- an id as a label: its 32 bytes as 64 lower case hexadecimal digits, the first byte first
-unfoldable pub hex_label : ℕ → List ℕ
-hex_label id = encode_lower (bytes_of id)
 
 -- a kept block, with the number of blocks that became present
 unfoldable pub kept_text : List ℕ → ℕ → List ℕ
@@ -36,13 +32,13 @@ refused_text refusal = codes "refused " ++ reason refusal ++ 10 ∷ []
 unfoldable pub full_text : List ℕ
 full_text = codes "full" ++ 10 ∷ []
 
--- the line of an answer, with ids in hexadecimal
-abbrev pub answer_text : Answer → List ℕ
-answer_text (Kept id present) = kept_text (hex_label id) present
-answer_text (Held id) = waiting_text (hex_label id)
-answer_text (Known id) = known_text (hex_label id)
-answer_text (Refused refusal) = refused_text refusal
-answer_text Full = full_text
+-- the line of an answer
+abbrev pub answer_text : AllLabels → Answer → List ℕ
+answer_text labels (Kept id present) = kept_text (label_of labels.blocks id) present
+answer_text labels (Held id) = waiting_text (label_of labels.blocks id)
+answer_text labels (Known id) = known_text (label_of labels.blocks id)
+answer_text labels (Refused refusal) = refused_text refusal
+answer_text labels Full = full_text
 
 -- the word for what is said of two blocks
 abbrev pub word_text : Word → List ℕ

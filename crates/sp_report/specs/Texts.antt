@@ -1,19 +1,26 @@
--- The texts over the present blocks: each a list of lines, ids and locks ascending.
+-- The texts over the present blocks: each a list of lines, in the order of the naming. What has a name stands in the order
+-- of naming, and behind it the rest, ascending by id or lock: all of it where nothing has a name.
 use Rattle.std.specs.Prelude.{ℕ, ◌==◌, List, [], ◌∷◌, ◌++◌, ◌-◌, not, filter, length, map}
 use Rattle.std.specs.List.{flat_map}
 use Rattle.sp_block.specs.Ascending.{ascending}
 use Rattle.sp_block.specs.Block.{ReadBlock}
 use Rattle.sp_carry.specs.Ledger.{is_accepted}
 use Rattle.sp_carry.specs.declared.state.TxState.TheVariants.{Accepted}
+use Rattle.sp_names.specs.Labels.{AllLabels, in_order}
 use Rattle.sp_pool.specs.Kept.{present}
 use Rattle.sp_engine.specs.Transactions.{balance_by_id, ledger_by_id, locks, tx_ids}
 use Rattle.sp_report.specs.declared.ask.Ask.TheVariants.{Vote, Balance}
 use Rattle.sp_report.specs.declared.text.Text.{Text}
 use Rattle.sp_report.specs.declared.text.Text.TheVariants.{Pairs, Report}
 use Rattle.sp_report.specs.Asks.{ask_text}
-use Rattle.sp_report.specs.Lines.{accepted_count_text, balance_count_text, blocks_text, hex_label, pair_count_text, tx_text}
+use Rattle.sp_report.specs.Lines.{accepted_count_text, balance_count_text, blocks_text, pair_count_text, tx_text}
+use Rattle.sp_report.specs.Naming.{label_of}
 
 -- ---- pairs
+
+-- the present blocks, in the order of the naming
+abbrev pub present_ids : AllLabels → List ReadBlock → List ℕ
+present_ids labels kept = in_order labels.blocks (ascending (present kept))
 
 -- the pairs of a list, by the first of the two, then by the second
 unfoldable pub pairs_of : List ℕ → List (ℕ × ℕ)
@@ -21,56 +28,61 @@ pairs_of [] = []
 pairs_of (x ∷ xs) = map (λ y. (x, y)) xs ++ pairs_of xs
 
 -- what all present blocks say of a pair
-abbrev pub pair_text : List ReadBlock → ℕ × ℕ → List ℕ
-pair_text kept pair = ask_text kept (Vote pair.0 pair.1)
+abbrev pub pair_text : AllLabels → List ReadBlock → ℕ × ℕ → List ℕ
+pair_text labels kept pair = ask_text labels kept (Vote pair.0 pair.1)
 
 -- what they say of a block and each of some others
-abbrev pub votes_text : List ReadBlock → ℕ → List ℕ → List ℕ
-votes_text kept first others = flat_map (λ other. pair_text kept (first, other)) others
+abbrev pub votes_text : AllLabels → List ReadBlock → ℕ → List ℕ → List ℕ
+votes_text labels kept first others = flat_map (λ other. pair_text labels kept (first, other)) others
 
 -- how many pairs these ids have, and what is said of each
-unfoldable pub pairs_of_ids_text : List ReadBlock → List ℕ → List ℕ
-pairs_of_ids_text kept ids = pair_count_text (length (pairs_of ids)) ++ flat_map (pair_text kept) (pairs_of ids)
+unfoldable pub pairs_of_ids_text : AllLabels → List ReadBlock → List ℕ → List ℕ
+pairs_of_ids_text labels kept ids =
+    pair_count_text (length (pairs_of ids)) ++ flat_map (pair_text labels kept) (pairs_of ids)
 
--- the pairs of different present blocks, in each of them the one of the smaller id first
-abbrev pub pairs_text : List ReadBlock → List ℕ
-pairs_text kept = pairs_of_ids_text kept (ascending (present kept))
+-- the pairs of different present blocks, in each of them the one first that stands earlier in the order of the naming
+abbrev pub pairs_text : AllLabels → List ReadBlock → List ℕ
+pairs_text labels kept = pairs_of_ids_text labels kept (present_ids labels kept)
 
 -- ---- the report
 
--- the accepted transactions of the present blocks
-abbrev pub accepted_ids : List ReadBlock → List ℕ
-accepted_ids kept = ascending (filter (λ id. is_accepted (ledger_by_id kept) (present kept) id) (tx_ids kept))
+-- the accepted transactions of the present blocks, in the order of the naming
+abbrev pub accepted_ids : AllLabels → List ReadBlock → List ℕ
+accepted_ids labels kept =
+    in_order labels.txs (ascending (filter (λ id. is_accepted (ledger_by_id kept) (present kept) id) (tx_ids kept)))
 
--- the locks under which they leave something
-abbrev pub paid_locks : List ReadBlock → List ℕ
-paid_locks kept = ascending (filter (λ lock. not (balance_by_id kept lock == 0)) (locks kept))
+-- the locks under which they leave something, in the order of the naming
+abbrev pub paid_locks : AllLabels → List ReadBlock → List ℕ
+paid_locks labels kept =
+    in_order labels.locks (ascending (filter (λ lock. not (balance_by_id kept lock == 0)) (locks kept)))
 
 -- how many blocks are present, and how many wait
 abbrev pub counts_text : List ReadBlock → List ℕ
 counts_text kept = blocks_text (length (present kept)) (length kept - length (present kept))
 
 -- the line of an accepted transaction
-abbrev pub accepted_text : ℕ → List ℕ
-accepted_text id = tx_text (hex_label id) Accepted
+abbrev pub accepted_text : AllLabels → ℕ → List ℕ
+accepted_text labels id = tx_text (label_of labels.txs id) Accepted
 
 -- how many accepted transactions there are, and each of them
-unfoldable pub all_accepted_text : List ℕ → List ℕ
-all_accepted_text ids = accepted_count_text (length ids) ++ flat_map accepted_text ids
+unfoldable pub all_accepted_text : AllLabels → List ℕ → List ℕ
+all_accepted_text labels ids = accepted_count_text (length ids) ++ flat_map (accepted_text labels) ids
 
 -- the line of what is left under a lock
-abbrev pub paid_text : List ReadBlock → ℕ → List ℕ
-paid_text kept lock = ask_text kept (Balance lock)
+abbrev pub paid_text : AllLabels → List ReadBlock → ℕ → List ℕ
+paid_text labels kept lock = ask_text labels kept (Balance lock)
 
 -- how many balances there are, and each of them
-unfoldable pub all_paid_text : List ReadBlock → List ℕ → List ℕ
-all_paid_text kept locks = balance_count_text (length locks) ++ flat_map (paid_text kept) locks
+unfoldable pub all_paid_text : AllLabels → List ReadBlock → List ℕ → List ℕ
+all_paid_text labels kept locks = balance_count_text (length locks) ++ flat_map (paid_text labels kept) locks
 
 -- the blocks, the accepted transactions and the balances
-unfoldable pub report_text : List ReadBlock → List ℕ
-report_text kept = counts_text kept ++ (all_accepted_text (accepted_ids kept) ++ all_paid_text kept (paid_locks kept))
+unfoldable pub report_text : AllLabels → List ReadBlock → List ℕ
+report_text labels kept =
+    counts_text kept
+    ++ (all_accepted_text labels (accepted_ids labels kept) ++ all_paid_text labels kept (paid_locks labels kept))
 
 -- a text by its kind
-abbrev pub text_of : List ReadBlock → Text → List ℕ
-text_of kept Pairs = pairs_text kept
-text_of kept Report = report_text kept
+abbrev pub text_of : AllLabels → List ReadBlock → Text → List ℕ
+text_of labels kept Pairs = pairs_text labels kept
+text_of labels kept Report = report_text labels kept

@@ -5,6 +5,7 @@ ghost use Rattle.std.specs.Io.KnownBytes.{Appends};
 ghost use Rattle.sp_io.specs.Causes.{HasCause};
 ghost use Rattle.sp_io.specs.Whole.{AppendsFront};
 ghost use Rattle.sp_report.specs.Asks.{ask_text};
+ghost use Rattle.sp_report.specs.Naming.{labels_of};
 
 use crate::ask::Ask;
 use crate::line::Line;
@@ -14,17 +15,24 @@ use sp_engine::Engine;
 use sp_io::{Failed, Sink, write_whole};
 
 /// The line that answers a question.
-pub(crate) fn line_of(engine: &Engine, ask: &Ask, naming: &Naming) -> Line
+pub(crate) fn line_of(engine: &Engine, ask: &Ask, naming: &Naming<'_>) -> Line
     requires { engine.now.broken ≡ false }
-    ensures { result ≡ ask_text engine.now.kept ask.now }
+    ensures { result ≡ ask_text (labels_of naming.now) engine.now.kept ask.now }
 {
     match ask {
         Ask::Vote(x, y) => {
             let word = engine.vote(x, y);
-            vote_line(&label(naming, x), &label(naming, y), word)
+            vote_line(
+                label(naming, x).as_slice(),
+                label(naming, y).as_slice(),
+                word,
+            )
         }
-        Ask::Tx(id) => tx_line(&tx_label(naming, id), engine.tx_state(id)),
-        Ask::Balance(lock) => balance_line(&lock_label(naming, lock), engine.balance(lock)),
+        Ask::Tx(id) => tx_line(tx_label(naming, id).as_slice(), engine.tx_state(id)),
+        Ask::Balance(lock) => balance_line(
+            lock_label(naming, lock).as_slice(),
+            engine.balance(lock),
+        ),
     }
 }
 
@@ -36,14 +44,14 @@ pub(crate) fn line_of(engine: &Engine, ask: &Ask, naming: &Naming) -> Line
 pub fn ask_line<K: Sink>(
     engine: &Engine,
     ask: &Ask,
-    naming: &Naming,
+    naming: &Naming<'_>,
     sink: &mut K,
 ) -> Result<(), Failed>
     requires { engine.now.broken ≡ false }
     ensures ok { OnOk result
-        (Appends (K.taken sink.old) (K.taken sink.new) (ask_text engine.now.kept ask.now)) }
+        (Appends (K.taken sink.old) (K.taken sink.new) (ask_text (labels_of naming.now) engine.now.kept ask.now)) }
     ensures err { OnErr result
-        (AppendsFront (K.taken sink.old) (K.taken sink.new) (ask_text engine.now.kept ask.now)) }
+        (AppendsFront (K.taken sink.old) (K.taken sink.new) (ask_text (labels_of naming.now) engine.now.kept ask.now)) }
     ensures cause { HasCause (K.faults sink.old) (K.faults sink.new) result }
 {
     write_whole(sink, line_of(engine, ask, naming).as_slice())

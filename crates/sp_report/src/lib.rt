@@ -15,6 +15,7 @@ mod line;
 mod lines;
 mod listed;
 mod naming;
+mod ordered;
 mod pairs;
 mod reasons;
 mod report;
@@ -31,5 +32,6 @@ pub use lines::{
     known_line, pair_count_line, refused_line, tx_line, vote_line, waiting_line,
 };
 pub use naming::Naming;
+pub use ordered::present_ids;
 pub use text::{Text, TextFault};
 pub use texts::write_text;

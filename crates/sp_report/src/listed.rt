@@ -1,13 +1,14 @@
-//! What the texts list, in ascending order. All the memory that a text takes is taken here, before
-//! any of it is written.
+//! What the texts list, in ascending order: as it stands where ids are told in hexadecimal.
 
 ghost use Rattle.std.specs.Prelude.{◌≡◌, ◌≤◌, ◌==◌, ◌++◌, ◌∷◌, [], false, filter, if◌then◌else◌, IfOk, not, OnOk, vec_len};
+ghost use Rattle.std.specs.List.Sorted.{IsSorted};
+ghost use Rattle.std.specs.Ordering.{nat_cmp};
 ghost use Rattle.sp_block.specs.Ascending.{ascending};
 ghost use Rattle.sp_carry.specs.Ledger.{is_accepted};
 ghost use Rattle.sp_engine.specs.Presence.{order_of};
 ghost use Rattle.sp_engine.specs.Transactions.{balance_by_id, ledger_by_id, locks, tx_ids};
+ghost use Rattle.sp_model.specs.Graph.{AreDistinct};
 ghost use Rattle.sp_pool.specs.Kept.{present};
-ghost use Rattle.sp_report.specs.Texts as meant;
 
 use sp_engine::Engine;
 use sp_ids::{BlockId, Lock, Memory, TxId};
@@ -31,9 +32,11 @@ fn numbered_ids(alloc: Global, engine: &Engine) -> Result<Vec<BlockId>, Memory>
 /// # Errors
 ///
 /// `Memory` where there was none for them.
-pub(crate) fn present_ids(alloc: Global, engine: &Engine) -> Result<Vec<BlockId>, Memory>
+pub(crate) fn ascending_ids(alloc: Global, engine: &Engine) -> Result<Vec<BlockId>, Memory>
     requires { engine.now.broken ≡ false }
     ensures items { IfOk result (λ ids. ids.items ≡ ascending (present engine.now.kept)) }
+    ensures sorted { IfOk result (λ ids. IsSorted nat_cmp ids.items) }
+    ensures once { IfOk result (λ ids. AreDistinct ids.items) }
     ensures few { IfOk result (λ ids. vec_len ids ≤ 512) }
 {
     // Tell the proof what the order of presence is.
@@ -44,13 +47,13 @@ pub(crate) fn present_ids(alloc: Global, engine: &Engine) -> Result<Vec<BlockId>
     Ok(ids)
 }
 
-// Puts an id behind the others, where it is wanted.
-fn push_wanted(ids: &mut Vec<TxId>, id: TxId, wanted: bool) -> Result<(), Memory>
+// Puts a key behind the others, where it is wanted.
+fn push_wanted<K: Copy>(keys: &mut Vec<K>, key: K, wanted: bool) -> Result<(), Memory>
     ensures { OnOk result
-        (ids.new.items ≡ ids.old.items ++ (if wanted then id ∷ [] else [])) }
+        (keys.new.items ≡ keys.old.items ++ (if wanted then key ∷ [] else [])) }
 {
     if wanted {
-        ids.push(id)?;
+        keys.push(key)?;
     }
     Ok(())
 }
@@ -78,25 +81,20 @@ fn numbered_accepted(alloc: Global, engine: &Engine) -> Result<Vec<TxId>, Memory
 /// # Errors
 ///
 /// `Memory` where there was none for them.
-pub(crate) fn accepted_ids(alloc: Global, engine: &Engine) -> Result<Vec<TxId>, Memory>
+pub(crate) fn ascending_accepted(alloc: Global, engine: &Engine) -> Result<Vec<TxId>, Memory>
     requires { engine.now.broken ≡ false }
-    ensures items { IfOk result (λ ids. ids.items ≡ meant.accepted_ids engine.now.kept) }
+    ensures items { IfOk result (λ ids. ids.items ≡ ascending (filter
+        (λ id. is_accepted (ledger_by_id engine.now.kept) (present engine.now.kept) id)
+        (tx_ids engine.now.kept))) }
+    ensures sorted { IfOk result (λ ids. IsSorted nat_cmp ids.items) }
+    ensures once { IfOk result (λ ids. AreDistinct ids.items) }
     ensures few { IfOk result (λ ids. vec_len ids ≤ 131072) }
 {
+    // Tell the proof that no id is listed twice.
+    let _count = engine.tx_count();
     let mut accepted = numbered_accepted(alloc, engine)?;
     accepted.sort_unstable();
     Ok(accepted)
-}
-
-// Puts a lock behind the others, where something is left under it.
-fn push_paid(paid: &mut Vec<Lock>, lock: Lock, balance: u128) -> Result<(), Memory>
-    ensures { OnOk result
-        (paid.new.items ≡ paid.old.items ++ (if not (balance == 0) then lock ∷ [] else [])) }
-{
-    if balance != 0 {
-        paid.push(lock)?;
-    }
-    Ok(())
 }
 
 // The locks under which something is left, in the order in which they were numbered.
@@ -110,7 +108,7 @@ fn numbered_paid(alloc: Global, engine: &Engine) -> Result<Vec<Lock>, Memory>
     let mut paid = Vec::new(alloc);
     'number: for number in 0..count {
         let (lock, balance) = engine.lock_at(number);
-        push_paid(&mut paid, lock, balance)?;
+        push_wanted(&mut paid, lock, balance != 0)?;
     }
     Ok(paid)
 }
@@ -121,11 +119,16 @@ fn numbered_paid(alloc: Global, engine: &Engine) -> Result<Vec<Lock>, Memory>
 /// # Errors
 ///
 /// `Memory` where there was none for them.
-pub(crate) fn paid_locks(alloc: Global, engine: &Engine) -> Result<Vec<Lock>, Memory>
+pub(crate) fn ascending_paid(alloc: Global, engine: &Engine) -> Result<Vec<Lock>, Memory>
     requires { engine.now.broken ≡ false }
-    ensures items { IfOk result (λ paid. paid.items ≡ meant.paid_locks engine.now.kept) }
+    ensures items { IfOk result (λ paid. paid.items ≡ ascending (filter
+        (λ lock. not (balance_by_id engine.now.kept lock == 0)) (locks engine.now.kept))) }
+    ensures sorted { IfOk result (λ paid. IsSorted nat_cmp paid.items) }
+    ensures once { IfOk result (λ paid. AreDistinct paid.items) }
     ensures few { IfOk result (λ paid. vec_len paid ≤ 2097152) }
 {
+    // Tell the proof that no lock is listed twice.
+    let _count = engine.lock_count();
     let mut paid = numbered_paid(alloc, engine)?;
     paid.sort_unstable();
     Ok(paid)

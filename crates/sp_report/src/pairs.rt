@@ -5,6 +5,7 @@ ghost use Rattle.std.specs.List.{flat_map};
 ghost use Rattle.std.specs.Io.KnownBytes.{Appends};
 ghost use Rattle.sp_io.specs.Causes.{HasCause};
 ghost use Rattle.sp_io.specs.Whole.{AppendsFront, Wrote};
+ghost use Rattle.sp_report.specs.Naming.{labels_of};
 ghost use Rattle.sp_report.specs.Texts.{pair_text, pairs_of, pairs_of_ids_text, votes_text};
 
 use crate::ask::Ask;
@@ -18,7 +19,7 @@ use sp_io::{Failed, Page, Sink};
 // Writes what is said of a block and each of the others.
 fn push_votes<K: Sink>(
     engine: &Engine,
-    naming: &Naming,
+    naming: &Naming<'_>,
     first: &BlockId,
     others: &[BlockId],
     page: &mut Page,
@@ -26,9 +27,9 @@ fn push_votes<K: Sink>(
 ) -> Result<(), Failed>
     requires { engine.now.broken ≡ false }
     ensures ok { OnOk result (Wrote (K.taken sink.old) (K.taken sink.new)
-        (page.old ++ votes_text engine.now.kept first.now others.now) page.new) }
+        (page.old ++ votes_text (labels_of naming.now) engine.now.kept first.now others.now) page.new) }
     ensures err { OnErr result (AppendsFront (K.taken sink.old) (K.taken sink.new)
-        (page.old ++ votes_text engine.now.kept first.now others.now)) }
+        (page.old ++ votes_text (labels_of naming.now) engine.now.kept first.now others.now)) }
     ensures cause { HasCause (K.faults sink.old) (K.faults sink.new) result }
 {
     'other: for other in others {
@@ -41,16 +42,16 @@ fn push_votes<K: Sink>(
 // Writes what is said of each pair of these, by the first of the two, then by the second.
 fn push_pairs<K: Sink>(
     engine: &Engine,
-    naming: &Naming,
+    naming: &Naming<'_>,
     ids: &[BlockId],
     page: &mut Page,
     sink: &mut K,
 ) -> Result<(), Failed>
     requires { engine.now.broken ≡ false }
     ensures ok { OnOk result (Wrote (K.taken sink.old) (K.taken sink.new)
-        (page.old ++ flat_map (pair_text engine.now.kept) (pairs_of ids.now)) page.new) }
+        (page.old ++ flat_map (pair_text (labels_of naming.now) engine.now.kept) (pairs_of ids.now)) page.new) }
     ensures err { OnErr result (AppendsFront (K.taken sink.old) (K.taken sink.new)
-        (page.old ++ flat_map (pair_text engine.now.kept) (pairs_of ids.now))) }
+        (page.old ++ flat_map (pair_text (labels_of naming.now) engine.now.kept) (pairs_of ids.now))) }
     ensures cause { HasCause (K.faults sink.old) (K.faults sink.new) result }
 {
     'place: for place in 0..ids.len() {
@@ -78,16 +79,16 @@ fn pair_count(ids: &[BlockId]) -> u32
 /// `Failed` where a call of the sink fails. The sink keeps what it took before.
 pub(crate) fn write_pairs<K: Sink>(
     engine: &Engine,
-    naming: &Naming,
+    naming: &Naming<'_>,
     ids: &[BlockId],
     sink: &mut K,
 ) -> Result<(), Failed>
     requires whole { engine.now.broken ≡ false }
     requires few { length ids.now ≤ 65535 }
     ensures ok { OnOk result (Appends (K.taken sink.old) (K.taken sink.new)
-        (pairs_of_ids_text engine.now.kept ids.now)) }
+        (pairs_of_ids_text (labels_of naming.now) engine.now.kept ids.now)) }
     ensures err { OnErr result (AppendsFront (K.taken sink.old) (K.taken sink.new)
-        (pairs_of_ids_text engine.now.kept ids.now)) }
+        (pairs_of_ids_text (labels_of naming.now) engine.now.kept ids.now)) }
     ensures cause { HasCause (K.faults sink.old) (K.faults sink.new) result }
 {
     let line = pair_count_line(pair_count(ids));

@@ -5,6 +5,7 @@ ghost use Rattle.std.specs.List.{flat_map};
 ghost use Rattle.std.specs.Io.KnownBytes.{Appends};
 ghost use Rattle.sp_io.specs.Causes.{HasCause};
 ghost use Rattle.sp_io.specs.Whole.{AppendsFront, Wrote};
+ghost use Rattle.sp_report.specs.Naming.{labels_of};
 ghost use Rattle.sp_report.specs.Texts.{accepted_text, all_accepted_text, all_paid_text, counts_text, paid_text};
 
 use crate::ask::Ask;
@@ -25,23 +26,23 @@ fn counts_line(engine: &Engine) -> Line
 }
 
 // The line of an accepted transaction.
-fn accepted_line(naming: &Naming, id: &TxId) -> Line
-    ensures { result ≡ accepted_text id.now }
+fn accepted_line(naming: &Naming<'_>, id: &TxId) -> Line
+    ensures { result ≡ accepted_text (labels_of naming.now) id.now }
 {
-    tx_line(&tx_label(naming, id), TxState::Accepted)
+    tx_line(tx_label(naming, id).as_slice(), TxState::Accepted)
 }
 
 // Writes the line of each of these accepted transactions.
 fn push_accepted<K: Sink>(
-    naming: &Naming,
+    naming: &Naming<'_>,
     ids: &[TxId],
     page: &mut Page,
     sink: &mut K,
 ) -> Result<(), Failed>
     ensures ok { OnOk result (Wrote (K.taken sink.old) (K.taken sink.new)
-        (page.old ++ flat_map accepted_text ids.now) page.new) }
+        (page.old ++ flat_map (accepted_text (labels_of naming.now)) ids.now) page.new) }
     ensures err { OnErr result (AppendsFront (K.taken sink.old) (K.taken sink.new)
-        (page.old ++ flat_map accepted_text ids.now)) }
+        (page.old ++ flat_map (accepted_text (labels_of naming.now)) ids.now)) }
     ensures cause { HasCause (K.faults sink.old) (K.faults sink.new) result }
 {
     'id: for id in ids {
@@ -53,16 +54,16 @@ fn push_accepted<K: Sink>(
 
 // Writes how many accepted transactions there are, and the line of each.
 fn push_all_accepted<K: Sink>(
-    naming: &Naming,
+    naming: &Naming<'_>,
     ids: &[TxId],
     page: &mut Page,
     sink: &mut K,
 ) -> Result<(), Failed>
     requires { length ids.now ≤ 131072 }
     ensures ok { OnOk result (Wrote (K.taken sink.old) (K.taken sink.new)
-        (page.old ++ all_accepted_text ids.now) page.new) }
+        (page.old ++ all_accepted_text (labels_of naming.now) ids.now) page.new) }
     ensures err { OnErr result (AppendsFront (K.taken sink.old) (K.taken sink.new)
-        (page.old ++ all_accepted_text ids.now)) }
+        (page.old ++ all_accepted_text (labels_of naming.now) ids.now)) }
     ensures cause { HasCause (K.faults sink.old) (K.faults sink.new) result }
 {
     let line = accepted_count_line(ids.len() as u32);
@@ -73,16 +74,16 @@ fn push_all_accepted<K: Sink>(
 // Writes what is left under each of these locks.
 fn push_paid<K: Sink>(
     engine: &Engine,
-    naming: &Naming,
+    naming: &Naming<'_>,
     locks: &[Lock],
     page: &mut Page,
     sink: &mut K,
 ) -> Result<(), Failed>
     requires { engine.now.broken ≡ false }
     ensures ok { OnOk result (Wrote (K.taken sink.old) (K.taken sink.new)
-        (page.old ++ flat_map (paid_text engine.now.kept) locks.now) page.new) }
+        (page.old ++ flat_map (paid_text (labels_of naming.now) engine.now.kept) locks.now) page.new) }
     ensures err { OnErr result (AppendsFront (K.taken sink.old) (K.taken sink.new)
-        (page.old ++ flat_map (paid_text engine.now.kept) locks.now)) }
+        (page.old ++ flat_map (paid_text (labels_of naming.now) engine.now.kept) locks.now)) }
     ensures cause { HasCause (K.faults sink.old) (K.faults sink.new) result }
 {
     'lock: for lock in locks {
@@ -95,7 +96,7 @@ fn push_paid<K: Sink>(
 // Writes how many balances there are, and each of them.
 fn push_all_paid<K: Sink>(
     engine: &Engine,
-    naming: &Naming,
+    naming: &Naming<'_>,
     locks: &[Lock],
     page: &mut Page,
     sink: &mut K,
@@ -103,9 +104,9 @@ fn push_all_paid<K: Sink>(
     requires whole { engine.now.broken ≡ false }
     requires few { length locks.now ≤ 2097152 }
     ensures ok { OnOk result (Wrote (K.taken sink.old) (K.taken sink.new)
-        (page.old ++ all_paid_text engine.now.kept locks.now) page.new) }
+        (page.old ++ all_paid_text (labels_of naming.now) engine.now.kept locks.now) page.new) }
     ensures err { OnErr result (AppendsFront (K.taken sink.old) (K.taken sink.new)
-        (page.old ++ all_paid_text engine.now.kept locks.now)) }
+        (page.old ++ all_paid_text (labels_of naming.now) engine.now.kept locks.now)) }
     ensures cause { HasCause (K.faults sink.old) (K.faults sink.new) result }
 {
     let line = balance_count_line(locks.len() as u32);
@@ -121,7 +122,7 @@ fn push_all_paid<K: Sink>(
 /// `Failed` where a call of the sink fails. The sink keeps what it took before.
 pub(crate) fn write_report<K: Sink>(
     engine: &Engine,
-    naming: &Naming,
+    naming: &Naming<'_>,
     ids: &[TxId],
     locks: &[Lock],
     sink: &mut K,
@@ -131,10 +132,10 @@ pub(crate) fn write_report<K: Sink>(
     requires few_locks { length locks.now ≤ 2097152 }
     ensures ok { OnOk result (Appends (K.taken sink.old) (K.taken sink.new)
         (counts_text engine.now.kept
-        ++ (all_accepted_text ids.now ++ all_paid_text engine.now.kept locks.now))) }
+        ++ (all_accepted_text (labels_of naming.now) ids.now ++ all_paid_text (labels_of naming.now) engine.now.kept locks.now))) }
     ensures err { OnErr result (AppendsFront (K.taken sink.old) (K.taken sink.new)
         (counts_text engine.now.kept
-        ++ (all_accepted_text ids.now ++ all_paid_text engine.now.kept locks.now))) }
+        ++ (all_accepted_text (labels_of naming.now) ids.now ++ all_paid_text (labels_of naming.now) engine.now.kept locks.now))) }
     ensures cause { HasCause (K.faults sink.old) (K.faults sink.new) result }
 {
     let line = counts_line(engine);

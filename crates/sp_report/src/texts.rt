@@ -4,10 +4,11 @@ ghost use Rattle.std.specs.Prelude.{◌≡◌, ◌≢◌, ◌≤◌, Err, false,
 ghost use Rattle.std.specs.Io.KnownBytes.{Appends};
 ghost use Rattle.sp_io.specs.Causes.{Rose};
 ghost use Rattle.sp_io.specs.Whole.{AppendsFront};
+ghost use Rattle.sp_report.specs.Naming.{labels_of};
 ghost use Rattle.sp_report.specs.Texts.{pairs_text, report_text, text_of};
 
-use crate::listed::{accepted_ids, paid_locks, present_ids};
 use crate::naming::Naming;
+use crate::ordered::{accepted_ids, paid_locks, present_ids};
 use crate::pairs::write_pairs;
 use crate::report::write_report;
 use crate::text::{Text, TextFault};
@@ -20,20 +21,20 @@ use std::alloc::Global;
 fn write_all_pairs<K: Sink>(
     alloc: Global,
     engine: &Engine,
-    naming: &Naming,
+    naming: &Naming<'_>,
     sink: &mut K,
 ) -> Result<(), TextFault>
     requires { engine.now.broken ≡ false }
     ensures ok { OnOk result
-        (Appends (K.taken sink.old) (K.taken sink.new) (pairs_text engine.now.kept)) }
+        (Appends (K.taken sink.old) (K.taken sink.new) (pairs_text (labels_of naming.now) engine.now.kept)) }
     ensures err { OnErr result
-        (AppendsFront (K.taken sink.old) (K.taken sink.new) (pairs_text engine.now.kept)) }
+        (AppendsFront (K.taken sink.old) (K.taken sink.new) (pairs_text (labels_of naming.now) engine.now.kept)) }
     ensures cause { result ≡ Err TextFault.WriteFault → Rose (K.faults sink.old) (K.faults sink.new) }
     ensures memory { result ≡ Err TextFault.Memory → sink.new ≡ sink.old }
     ensures quiet { result ≢ Err TextFault.WriteFault → K.faults sink.new ≡ K.faults sink.old }
     ensures later { K.faults sink.old ≤ K.faults sink.new }
 {
-    let ids = present_ids(alloc, engine)?;
+    let ids = present_ids(alloc, engine, naming)?;
     write_pairs(engine, naming, ids.as_slice(), sink)?;
     Ok(())
 }
@@ -43,21 +44,21 @@ fn write_all_pairs<K: Sink>(
 fn write_whole_report<K: Sink>(
     alloc: Global,
     engine: &Engine,
-    naming: &Naming,
+    naming: &Naming<'_>,
     sink: &mut K,
 ) -> Result<(), TextFault>
     requires { engine.now.broken ≡ false }
     ensures ok { OnOk result
-        (Appends (K.taken sink.old) (K.taken sink.new) (report_text engine.now.kept)) }
+        (Appends (K.taken sink.old) (K.taken sink.new) (report_text (labels_of naming.now) engine.now.kept)) }
     ensures err { OnErr result
-        (AppendsFront (K.taken sink.old) (K.taken sink.new) (report_text engine.now.kept)) }
+        (AppendsFront (K.taken sink.old) (K.taken sink.new) (report_text (labels_of naming.now) engine.now.kept)) }
     ensures cause { result ≡ Err TextFault.WriteFault → Rose (K.faults sink.old) (K.faults sink.new) }
     ensures memory { result ≡ Err TextFault.Memory → sink.new ≡ sink.old }
     ensures quiet { result ≢ Err TextFault.WriteFault → K.faults sink.new ≡ K.faults sink.old }
     ensures later { K.faults sink.old ≤ K.faults sink.new }
 {
-    let ids = accepted_ids(alloc, engine)?;
-    let locks = paid_locks(alloc, engine)?;
+    let ids = accepted_ids(alloc, engine, naming)?;
+    let locks = paid_locks(alloc, engine, naming)?;
     write_report(engine, naming, ids.as_slice(), locks.as_slice(), sink)?;
     Ok(())
 }
@@ -73,15 +74,15 @@ pub fn write_text<K: Sink>(
     alloc: Global,
     engine: &Engine,
     text: &Text,
-    naming: &Naming,
+    naming: &Naming<'_>,
     sink: &mut K,
 ) -> Result<(), TextFault>
     requires { engine.now.broken ≡ false }
     ensures ok { OnOk result
-        (Appends (K.taken sink.old) (K.taken sink.new) (text_of engine.now.kept text.now)) }
+        (Appends (K.taken sink.old) (K.taken sink.new) (text_of (labels_of naming.now) engine.now.kept text.now)) }
 
     ensures err { OnErr result
-        (AppendsFront (K.taken sink.old) (K.taken sink.new) (text_of engine.now.kept text.now)) }
+        (AppendsFront (K.taken sink.old) (K.taken sink.new) (text_of (labels_of naming.now) engine.now.kept text.now)) }
     ensures cause { result ≡ Err TextFault.WriteFault → Rose (K.faults sink.old) (K.faults sink.new) }
     ensures memory { result ≡ Err TextFault.Memory → sink.new ≡ sink.old }
     ensures quiet { result ≢ Err TextFault.WriteFault → K.faults sink.new ≡ K.faults sink.old }

@@ -2,13 +2,16 @@
 //! their own because a crate with tests is proved twice.
 //!
 //! `feed` tests what is read of a feed, `report` the lines that answer, and `node` a message and its
-//! line. `fixtures` makes what the last two stand on, and `rows` judges a table's row.
+//! line, each by ids, and `names` both by names. `fixtures` makes what they stand on, and `rows` judges
+//! a table's row.
 #![tactic(auto)]
 
 #[cfg(test)]
 mod feed;
 #[cfg(test)]
 mod fixtures;
+#[cfg(test)]
+mod names;
 #[cfg(test)]
 mod node;
 #[cfg(test)]

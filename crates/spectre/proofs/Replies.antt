@@ -23,6 +23,7 @@ use Rattle.sp_feed.proofs.WholeFeeds.{all_end, all_memory, fault_onto, needs_nex
 use Rattle.sp_feed.proofs.Joining.{split_front, took_then}
 use Rattle.sp_io.specs.Whole.{AppendsAtLeast, AppendsFront, Wrote}
 use Rattle.sp_io.proofs.Writing.{appends_then, at_least, at_least_then, wrote_none, wrote_stops}
+use Rattle.sp_names.specs.Labels.{no_labels}
 use Rattle.sp_node.specs.declared.fault.NodeFault.{NodeFault}
 use Rattle.sp_node.specs.declared.fault.NodeFault.TheVariants as nodes
 use Rattle.sp_node.specs.Node.{HasNodeCause}
@@ -43,7 +44,7 @@ appends_none : (a : Option (List ℕ)) → Appends a a []
 appends_none None = tt
 appends_none (Some ws) = sym (append-nil ws)
 
-lines_are : (genesis : ReadBlock) (bits : ℕ) (messages : List Said) → block_in true genesis.bytes ≡ Ok genesis → lines_under (Some (head_of bits genesis.bytes)) messages ≡ answers genesis bits [] messages
+lines_are : (genesis : ReadBlock) (bits : ℕ) (messages : List Said) → block_in true genesis.bytes ≡ Ok genesis → lines_under (Some (head_of bits genesis.bytes)) messages ≡ answers no_labels genesis bits [] messages
 lines_are genesis bits messages spelled = ap (λ r. lines_by r bits messages) spelled
 
 -- what a feed with these messages writes for them
@@ -83,7 +84,7 @@ answered_next {mid = mid} {old = old} {seen = seen} {bits = bits} a g front rest
       | inl s ↦ a.answered front s.0 s.1 s.2
       | inr s ↦ (let head = head_of bits a.genesis.bytes in
           let none : rest_of feed_limit mid.taken s.0 ≡ no_more (Truncated (mid.taken + length s.0)) = g.needs s.0 rest s.2 l in
-          let is : replied front ≡ answers a.genesis bits [] a.messages =
+          let is : replied front ≡ answers no_labels a.genesis bits [] a.messages =
           ap replied s.1 ∙ replied_is (a.so_far.given ++ s.0) _ (a.so_far.says s.0 ∙ ap (onto head a.so_far.messages) none)
           ∙ ap (lines_under (Some head)) (append-nil a.so_far.messages ∙ sym a.so_far.seen) ∙ lines_are a.genesis bits a.messages a.spelled in
           at_least old seen (replied front) (subst (λ (t : List ℕ). Appends old seen t) (sym is) a.wrote))
@@ -92,7 +93,7 @@ answered_next {mid = mid} {old = old} {seen = seen} {bits = bits} a g front rest
 -- one message more was answered
 pub one_more : {start mid now : Moment} {old seen new : Option (List ℕ)} {bits bits' : ℕ} {kept kept' : List ReadBlock} {X : Type 0} {view : X → Option Said} {x : X} (m : Said)
     → Answering start mid old seen bits kept → GivesNext feed_limit mid now view (Ok x) → view x ≡ Some m
-    → Appends seen new (reply_of bits kept m) → kept' ≡ kept_then bits kept m → bits' ≡ bits → Answering start now old new bits' kept'
+    → Appends seen new (reply_of no_labels bits kept m) → kept' ≡ kept_then bits kept m → bits' ≡ bits → Answering start now old new bits' kept'
 unfolding so_far_more
 one_more {start = start} {mid = mid} {now = now} {old = old} {seen = seen} {new = new} {bits = bits} {bits' = bits'} {kept = kept} {kept' = kept'} m a g e wrote k b =
     let arrivals = flat_map arrivals_of a.messages in
@@ -103,9 +104,9 @@ one_more {start = start} {mid = mid} {now = now} {old = old} {seen = seen} {new 
       messages = a.messages ++ m ∷ [];
       so_far = so_far_more m (a.messages ++ m ∷ []) a.so_far g e refl;
       kept_is = k ∙ ap (λ (l : List ReadBlock). kept_then bits l m) a.kept_is ∙ kept_then_by_all bits a.genesis arrivals m ∙ ap (kept_by_all bits a.genesis) (sym more);
-      wrote = subst (λ (t : List ℕ). Appends old new t) (sym (answers-push a.genesis bits [] a.messages m))
-          (appends_then old seen new (answers a.genesis bits [] a.messages) (reply a.genesis bits arrivals m) a.wrote (subst (λ (l : List ReadBlock). Appends seen new (reply_of bits l m)) a.kept_is wrote));
-      answered = λ front rest e l. at_least_then old seen new (replied front) (reply_of bits kept m) (answered_next a g front rest e l) wrote;
+      wrote = subst (λ (t : List ℕ). Appends old new t) (sym (answers-push no_labels a.genesis bits [] a.messages m))
+          (appends_then old seen new (answers no_labels a.genesis bits [] a.messages) (reply no_labels a.genesis bits arrivals m) a.wrote (subst (λ (l : List ReadBlock). Appends seen new (reply_of no_labels bits l m)) a.kept_is wrote));
+      answered = λ front rest e l. at_least_then old seen new (replied front) (reply_of no_labels bits kept m) (answered_next a g front rest e l) wrote;
     })
 
 -- the end was read
@@ -195,7 +196,7 @@ stop_says nodes.Memory start now old new given h = h
 
 -- a message wasn't answered
 pub not_answered : {start mid now : Moment} {old seen new : Option (List ℕ)} {bits : ℕ} {kept : List ReadBlock} {X : Type 0} {view : X → Option Said} {x : X} (fault : NodeFault) (m : Said)
-    → Answering start mid old seen bits kept → GivesNext feed_limit mid now view (Ok x) → view x ≡ Some m → AppendsFront seen new (reply_of bits kept m) → Replies start now old new (Err (of_node fault))
+    → Answering start mid old seen bits kept → GivesNext feed_limit mid now view (Ok x) → view x ≡ Some m → AppendsFront seen new (reply_of no_labels bits kept m) → Replies start now old new (Err (of_node fault))
 unfolding so_far_more
 not_answered {start = start} {mid = mid} {now = now} {old = old} {seen = seen} {new = new} {bits = bits} {kept = kept} fault m a g e front =
     let head = head_of bits a.genesis.bytes in
@@ -208,16 +209,16 @@ not_answered {start = start} {mid = mid} {now = now} {old = old} {seen = seen} {
       answered = λ part rest k l. at_least_then old seen new (replied part) front.1.front (answered_next a g part rest k l) front.1.appended;
       says = stop_says fault start now old new s.given (λ more.
           let rest = rest_of feed_limit now.taken more in
-          let here : List ℕ = reply a.genesis bits arrivals m in
-          let behind : List ℕ = answers a.genesis bits (flat_map arrivals_of (a.messages ++ m ∷ [])) rest.messages in
-          let whole : replied (s.given ++ more) ≡ answers a.genesis bits [] a.messages ++ (here ++ behind) =
+          let here : List ℕ = reply no_labels a.genesis bits arrivals m in
+          let behind : List ℕ = answers no_labels a.genesis bits (flat_map arrivals_of (a.messages ++ m ∷ [])) rest.messages in
+          let whole : replied (s.given ++ more) ≡ answers no_labels a.genesis bits [] a.messages ++ (here ++ behind) =
           replied_is (s.given ++ more) _ (s.says more) ∙ ap (λ (l : List Said). lines_under (Some head) (l ++ rest.messages)) (sym s.seen)
           ∙ lines_are a.genesis bits ((a.messages ++ m ∷ []) ++ rest.messages) a.spelled
-          ∙ answers-append a.genesis bits [] (a.messages ++ m ∷ []) rest.messages
-          ∙ ap (λ (t : List ℕ). t ++ behind) (answers-push a.genesis bits [] a.messages m)
-          ∙ append_assoc (answers a.genesis bits [] a.messages) here behind in
-          let w : Wrote old seen (replied (s.given ++ more)) (here ++ behind) = record { front = answers a.genesis bits [] a.messages; appended = a.wrote; split = whole } in
-          wrote_stops here behind w (subst (λ (l : List ReadBlock). AppendsFront seen new (reply_of bits l m)) a.kept_is front));
+          ∙ answers-append no_labels a.genesis bits [] (a.messages ++ m ∷ []) rest.messages
+          ∙ ap (λ (t : List ℕ). t ++ behind) (answers-push no_labels a.genesis bits [] a.messages m)
+          ∙ append_assoc (answers no_labels a.genesis bits [] a.messages) here behind in
+          let w : Wrote old seen (replied (s.given ++ more)) (here ++ behind) = record { front = answers no_labels a.genesis bits [] a.messages; appended = a.wrote; split = whole } in
+          wrote_stops here behind w (subst (λ (l : List ReadBlock). AppendsFront seen new (reply_of no_labels bits l m)) a.kept_is front));
     }
 
 pub stop_cause : (e : NodeFault) (before mid now : ℕ) → mid ≡ before → HasNodeCause mid now e → HasWriteCause before now (of_node e)

@@ -6,6 +6,7 @@ use Rattle.sp_engine.specs.Blocks.{block_in}
 use Rattle.sp_feed.specs.Feed.{End, Feed, feed, Malformed, TooLong, Truncated, Whole}
 use Rattle.sp_feed.specs.Format.{Head}
 use Rattle.sp_feed.specs.Kinds.{Said}
+use Rattle.sp_names.specs.Labels.{no_labels}
 use Rattle.sp_node.specs.Answers.{answers}
 use Rattle.sp_report.specs.Lines.{malformed_text, too_long_text, truncated_text}
 
@@ -14,7 +15,7 @@ abbrev pub feed_limit : ℕ
 feed_limit = 4294967295
 
 abbrev pub lines_by : Result ReadBlock BlockFault → ℕ → List Said → List ℕ
-lines_by (Ok genesis) bits messages = answers genesis bits [] messages
+lines_by (Ok genesis) bits messages = answers no_labels genesis bits [] messages
 lines_by (Err fault) bits messages = []
 
 -- one line for each message, over the genesis block that the head spells

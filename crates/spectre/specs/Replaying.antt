@@ -13,6 +13,7 @@ use Rattle.sp_feed.specs.Format.{head_of}
 use Rattle.sp_feed.specs.Kinds.{Said}
 use Rattle.sp_feed.specs.Reads.{Moment, Took}
 use Rattle.sp_feed.specs.declared.fault.FeedFault.TheVariants as faults
+use Rattle.sp_names.specs.Labels.{no_labels}
 use Rattle.sp_node.specs.Answers.{answers, arrivals_of}
 use Rattle.spectre.specs.Replay.{fed, feed_limit, replied}
 use Rattle.spectre.specs.Taken.{AreAnswered, AreNeeded}
@@ -51,7 +52,7 @@ pub record Answering (start now : Moment) (old new : Option (List ℕ)) (bits : 
   pub messages : List Said
   pub so_far : SoFar feed_limit start now (head_of bits genesis.bytes) [] messages
   pub kept_is : kept ≡ kept_by_all bits genesis (flat_map arrivals_of messages)
-  pub wrote : Appends old new (answers genesis bits [] messages)
+  pub wrote : Appends old new (answers no_labels genesis bits [] messages)
   pub answered : AreAnswered old new so_far.given
 
 -- the sink's count rose at a failed write

@@ -2,6 +2,7 @@ use Rattle.std.proofs.Common.{◌++◌, length, ◌∙◌}
 use Rattle.std.specs.List.{flat_map}
 use Rattle.sp_io.proofs.Pages.{head_goes, head_stops, rest_goes, rest_stops}
 use Rattle.sp_io.proofs.Stops.{on_err}
+use Rattle.sp_report.specs.Naming.{labels_of}
 use Rattle.sp_report.specs.Lines.{accepted_count_text}
 use Rattle.sp_report.specs.Texts.{accepted_text, all_accepted_text}
 use Rattle.sp_report.proofs.report.push_all_accepted.Goals as goal
@@ -10,14 +11,14 @@ pub returns-in_err-push-clause-err : goal.returns-in_err-push-clause-err
 unfolding all_accepted_text
 returns-in_err-push-clause-err g c =
     on_err c.from_residual.result _
-    (head_stops c.args.page.now c.as_slice.result.now (accepted_count_text (length c.args.ids.now)) (flat_map accepted_text c.args.ids.now) (c.as_slice.ensures.bytes ∙ c.accepted_count_line-line.ensures) c.in_err-push.ensures.err)
+    (head_stops c.args.page.now c.as_slice.result.now (accepted_count_text (length c.args.ids.now)) (flat_map (accepted_text (labels_of c.args.naming.now)) c.args.ids.now) (c.as_slice.ensures.bytes ∙ c.accepted_count_line-line.ensures) c.in_err-push.ensures.err)
 
 pub returns-clause-ok : goal.returns-clause-ok
 unfolding all_accepted_text
 returns-clause-ok g c =
     let taken = g.K.Sink.taken in
     let head = accepted_count_text (length c.args.ids.now) in
-    let rest = flat_map accepted_text c.args.ids.now in
+    let rest = flat_map (accepted_text (labels_of c.args.naming.now)) c.args.ids.now in
     let w = head_goes c.args.page.now c.as_slice.result.now head rest (c.as_slice.ensures.bytes ∙ c.accepted_count_line-line.ensures) c.in_ok-push.ensures.ok in
     rest_goes (taken c.args.sink.now) (taken c.push.new.sink) (taken c.push_accepted.new.sink) (c.args.page.now ++ (head ++ rest)) (c.push.new.self ++ rest) c.push_accepted.new.page c.push_accepted.result w c.push_accepted.ensures.ok
 
@@ -26,6 +27,6 @@ unfolding all_accepted_text
 returns-clause-err g c =
     let taken = g.K.Sink.taken in
     let head = accepted_count_text (length c.args.ids.now) in
-    let rest = flat_map accepted_text c.args.ids.now in
+    let rest = flat_map (accepted_text (labels_of c.args.naming.now)) c.args.ids.now in
     let w = head_goes c.args.page.now c.as_slice.result.now head rest (c.as_slice.ensures.bytes ∙ c.accepted_count_line-line.ensures) c.in_ok-push.ensures.ok in
     rest_stops (taken c.args.sink.now) (taken c.push.new.sink) (taken c.push_accepted.new.sink) (c.args.page.now ++ (head ++ rest)) (c.push.new.self ++ rest) c.push_accepted.result w c.push_accepted.ensures.err

@@ -1,4 +1,3 @@
-use Rattle.std.proofs.Common.{◌≡◌}
 use Rattle.sp_engine.proofs.AllKept.{genesis_is_first}
 use Rattle.sp_engine.proofs.Granted.{none_conflict, sources_by_id}
 use Rattle.sp_engine.specs.Arrivals.{kept_by_all}

@@ -5,6 +5,7 @@ use Rattle.sp_io.specs.Whole.{AppendsFront}
 use Rattle.sp_feed.specs.Kinds.{Said}
 use Rattle.sp_feed.specs.Reader.{last_of}
 use Rattle.sp_feed.proofs.WholeFeeds.{behind_open, from_limit, tells}
+use Rattle.sp_names.specs.Labels.{no_labels}
 use Rattle.sp_node.specs.Answers.{kept_then, reply_of}
 use Rattle.spectre.specs.declared.replay.ReplayFault.TheVariants.{Feed}
 use Rattle.spectre.proofs.Replies.{at_end, at_fault, not_answered, one_more, quiet_next, quiet_node, stop_cause}
@@ -52,7 +53,7 @@ messages-preserved g c =
       unended = λ e. let no : None ≡ Some s.0 = sym (ap last_of e) ∙ is in cc;
       live = c.in_ok-message-in_default.ensures.stopped;
       answering = λ start old h. one_more s.0 (c.messages.invariant.answering start old h) (from_limit c.messages.invariant.limit (c.in_ok-next.ensures.gives c.messages.invariant.unended)) is
-          (subst (λ (o : Option Said). IfSome o (λ said. Appends (g.K.Sink.taken c.messages.sink) (g.K.Sink.taken c.message.new.sink) (reply_of bits kept said))) s.1 c.in_ok-message-in_default.ensures.ok)
+          (subst (λ (o : Option Said). IfSome o (λ said. Appends (g.K.Sink.taken c.messages.sink) (g.K.Sink.taken c.message.new.sink) (reply_of no_labels bits kept said))) s.1 c.in_ok-message-in_default.ensures.ok)
           (subst (λ (o : Option Said). IfSome o (λ said. c.message.new.self.kept ≡ kept_then bits kept said)) s.1 c.in_ok-message-in_default.ensures.kept)
           c.in_ok-message-in_default.ensures.bits;
       read_quiet = c.in_ok-next.ensures.quiet ∙ c.messages.invariant.read_quiet;
@@ -66,7 +67,7 @@ returns-in_err-message-in_default g c =
     let is : last_of c.next.new.self.stage ≡ Some s.0 = sym c.message-message.ensures ∙ s.1 in
     let bits = c.messages.node.bits in
     let kept = c.messages.node.kept in
-    let front = subst (λ (o : Option Said). IfSome o (λ said. AppendsFront (g.K.Sink.taken c.messages.sink) (g.K.Sink.taken c.message.new.sink) (reply_of bits kept said))) s.1 c.in_err-message-in_default.ensures.err in
+    let front = subst (λ (o : Option Said). IfSome o (λ said. AppendsFront (g.K.Sink.taken c.messages.sink) (g.K.Sink.taken c.message.new.sink) (reply_of no_labels bits kept said))) s.1 c.in_err-message-in_default.ensures.err in
     rw (p.1, p.2) (record {
       replies = λ start old h. not_answered _ s.0 (c.messages.invariant.answering start old h) (from_limit c.messages.invariant.limit (c.in_ok-next.ensures.gives c.messages.invariant.unended)) is front;
       cause = stop_cause _ (g.K.Sink.faults c.args.sink.now) (g.K.Sink.faults c.messages.sink) (g.K.Sink.faults c.message.new.sink) c.messages.invariant.write_quiet c.in_err-message-in_default.ensures.cause;

@@ -1,0 +1,20 @@
+use Rattle.std.proofs.Common.{ap, ◌∙◌}
+use Rattle.sp_block.specs.Ascending.{ascending}
+use Rattle.sp_block.proofs.Ascent.{sort_is_ascending}
+use Rattle.std.proofs.Common.{ℕ, List, subst, sym}
+use Rattle.sp_model.specs.Graph.{AreDistinct}
+use Rattle.sp_engine.specs.Transactions.{balance_by_id, locks}
+use Rattle.std.specs.Prelude.{◌==◌, filter, not}
+use Rattle.sp_report.proofs.NamedIds.{ascending_once, distinct_passing}
+use Rattle.sp_report.proofs.listed.ascending_paid.Goals as goal
+
+pub returns-clause-items : goal.returns-clause-items
+returns-clause-items c =
+    sort_is_ascending c.in_ok-paid.paid.items c.sort_unstable.new.self.items c.sort_unstable.ensures.permutation c.sort_unstable.ensures.sorted
+    ∙ ap ascending c.in_ok-paid.ensures.items
+
+pub returns-clause-once : goal.returns-clause-once
+returns-clause-once c =
+    let kept = c.args.engine.now.kept in
+    let p = λ (lock : ℕ). not (balance_by_id kept lock == 0) in
+    subst (λ (l : List ℕ). AreDistinct l) (sym (returns-clause-items c)) (ascending_once (filter p (locks kept)) (distinct_passing p (locks kept) c.lock_count-count.ensures.once))
