@@ -1,0 +1,17 @@
+pub mod Commands
+pub mod Things
+pub mod Words
+pub mod Numbers
+pub mod Pieces
+pub mod Forms
+pub mod Known
+pub mod Kept
+pub mod Reach
+pub mod Judging
+pub mod Spent
+pub mod Making
+pub mod Room
+pub mod Scene
+pub mod Told
+pub mod Source
+pub mod Feeds

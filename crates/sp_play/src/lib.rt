@@ -1,0 +1,40 @@
+//! Scenarios: a small language for blocks, transactions and questions, read whole into the feed
+//! that it stands for.
+#![tactic(auto)]
+
+mod command;
+mod copies;
+mod drafts;
+mod entries;
+mod feeding;
+mod forms;
+mod found;
+mod frames;
+mod judging;
+mod known;
+mod limits;
+mod lookups;
+mod namings;
+mod numbers;
+mod out;
+mod paid;
+mod pieces;
+mod place_list;
+mod places;
+mod saying;
+mod scans;
+mod scene;
+mod source;
+mod spelling;
+mod spends;
+mod stage;
+mod thing;
+mod txs;
+mod whole;
+mod why;
+mod words;
+
+pub use numbers::number_of;
+pub use source::{ScenarioFault, read_scenario};
+pub use whole::Scene;
+pub use why::{LineFault, Why};
