@@ -23,13 +23,14 @@ use Rattle.sp_feed.proofs.WholeFeeds.{all_end, all_memory, fault_onto, needs_nex
 use Rattle.sp_feed.proofs.Joining.{split_front, took_then}
 use Rattle.sp_io.specs.Whole.{AppendsAtLeast, AppendsFront, Wrote}
 use Rattle.sp_io.proofs.Writing.{appends_then, at_least, at_least_then, wrote_none, wrote_stops}
-use Rattle.sp_names.specs.Labels.{no_labels}
 use Rattle.sp_node.specs.declared.fault.NodeFault.{NodeFault}
 use Rattle.sp_node.specs.declared.fault.NodeFault.TheVariants as nodes
 use Rattle.sp_node.specs.Node.{HasNodeCause}
+use Rattle.sp_names.specs.Labels.{no_labels}
 use Rattle.sp_node.specs.Answers.{answers, arrivals_of, kept_then, reply, reply_of}
 use Rattle.sp_node.proofs.AnswerLists.{answers-append, answers-push, kept_then_by_all}
-use Rattle.spectre.specs.Replay.{fed, feed_limit, lines_by, lines_under, message_lines, replied}
+use Rattle.spectre.specs.Scenes.{lines_by}
+use Rattle.spectre.specs.Replay.{fed, feed_limit, lines_under, message_lines, replied}
 use Rattle.spectre.specs.Replaying.{Answering, HasWriteCause, Replies, SaysReply}
 use Rattle.spectre.specs.Taken.{AreAnswered, AreNeeded}
 use Rattle.spectre.specs.declared.replay.ReplayFault.TheVariants.{Feed, Memory, WriteFault}
@@ -45,7 +46,7 @@ appends_none None = tt
 appends_none (Some ws) = sym (append-nil ws)
 
 lines_are : (genesis : ReadBlock) (bits : ℕ) (messages : List Said) → block_in true genesis.bytes ≡ Ok genesis → lines_under (Some (head_of bits genesis.bytes)) messages ≡ answers no_labels genesis bits [] messages
-lines_are genesis bits messages spelled = ap (λ r. lines_by r bits messages) spelled
+lines_are genesis bits messages spelled = ap (λ r. lines_by no_labels r bits messages) spelled
 
 -- what a feed with these messages writes for them
 replied_is : (input : List ℕ) (f : FeedOf) → fed input ≡ f → replied input ≡ message_lines f

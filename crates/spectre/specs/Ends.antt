@@ -1,11 +1,7 @@
--- How the playing of a scenario and a run can end.
-use Rattle.std.specs.Prelude.{◌≡◌, ◌<◌, ℕ, true, List, [], ◌++◌, Option, Some, None, IsSome, IsNone}
+-- How a scene and a run can end.
+use Rattle.std.specs.Prelude.{◌≡◌, ℕ, IsSome, IsNone, Result, Ok, Err}
 use Rattle.sp_io.specs.Causes.{Rose}
-use Rattle.sp_model.specs.Graph.{has}
-use Rattle.spectre.specs.Scenario.{scene, scene_from}
-use Rattle.spectre.specs.Lines.{line, answers, fault_text}
-use Rattle.spectre.specs.declared.scenario.message.Message.{Message}
-use Rattle.spectre.specs.declared.scenario.message.Message.TheVariants.{Block, Vote}
+use Rattle.sp_play.specs.Scene.{Scene}
 use Rattle.spectre.specs.declared.status.Status.{Status}
 use Rattle.spectre.specs.declared.status.Status.TheVariants as status
 use Rattle.spectre.specs.declared.ending.Ending.{Ending}
@@ -13,26 +9,10 @@ use Rattle.spectre.specs.declared.ending.Ending.TheVariants.{Whole, Faulty}
 use Rattle.spectre.specs.declared.ending.Stop.{Stop}
 use Rattle.spectre.specs.declared.ending.Stop.TheVariants.{WriteFault, Memory}
 
--- a message that so many blocks allow: there is room for one more, and each block that it names is there
-abbrev pub Fits : ℕ → Option Message → Type 0
-Fits count None = Unit {0}
-Fits count (Some (Block name parents)) = (count < 64) × ((parent : ℕ) → has parents parent ≡ true → parent < count)
-Fits count (Some (Vote x y)) = (x < count) × (y < count)
-
--- what a line writes
-abbrev pub text_of : List (List ℕ) → List (List ℕ) → Option Message → List ℕ
-text_of names blocks None = []
-text_of names blocks (Some message) = line names blocks message
-
--- what the lines from one with this number on write, after blocks of these names and parents
-unfoldable pub text_left : List (List ℕ) → List (List ℕ) → ℕ → List (List ℕ) → List ℕ
-text_left names blocks number lines =
-    let rest = scene_from names number lines in answers names blocks rest.messages ++ fault_text rest.fault
-
--- a scenario is whole where it has no fault
-abbrev pub EndsAs : List ℕ → Ending → Type 0
-EndsAs text Whole = IsNone (scene text).fault
-EndsAs text Faulty = IsSome (scene text).fault
+-- a scene is whole where it has no fault
+abbrev pub EndsAs : Scene → Ending → Type 0
+EndsAs scene Whole = IsNone scene.fault
+EndsAs scene Faulty = IsSome scene.fault
 
 -- a write failed and the sink's count rose, or memory was refused
 abbrev pub HasStopCause : ℕ → ℕ → Stop → Type 0
@@ -83,3 +63,25 @@ Replays status.OtherChain = ⊥
 Replays status.Memory = Unit {0}
 Replays status.Damaged = ⊥
 Replays status.TooLong = Unit {0}
+
+-- the status of what was done with a scene
+abbrev pub status_by : Result Ending Stop → Status
+status_by (Ok Whole) = status.Done
+status_by (Ok Faulty) = status.Malformed
+status_by (Err WriteFault) = status.WriteFault
+status_by (Err Memory) = status.Memory
+
+-- the statuses that a scenario can end with which was made of numbers
+abbrev pub Makes : Status → Type 0
+Makes status.Done = Unit {0}
+Makes status.Usage = ⊥
+Makes status.Malformed = Unit {0}
+Makes status.Truncated = ⊥
+Makes status.ReadFault = ⊥
+Makes status.WriteFault = Unit {0}
+Makes status.DiskFault = ⊥
+Makes status.NotJournal = ⊥
+Makes status.OtherChain = ⊥
+Makes status.Memory = Unit {0}
+Makes status.Damaged = ⊥
+Makes status.TooLong = ⊥

@@ -1,15 +1,16 @@
--- Which fault the input of a command has, what of it stays unread, and what was written where a
+-- Which fault the input of a job has, what of it stays unread, and what was written where a
 -- read failed.
 use Rattle.std.specs.Prelude.{◌<◌, ◌≤◌, ℕ, List, [], drop, length, Option, Some, None, IsSome, IsNone}
 use Rattle.sp_feed.specs.Feed.{End, Malformed, TooLong, Truncated, Whole}
 use Rattle.sp_feed.specs.declared.fault.FeedFault.{FeedFault}
 use Rattle.sp_feed.specs.declared.fault.FeedFault.TheVariants as faults
 use Rattle.sp_report.specs.Lines.{malformed_text, too_long_text, truncated_text}
-use Rattle.spectre.specs.Words.{scenario_limit}
-use Rattle.spectre.specs.Scenario.{scene}
+use Rattle.sp_make.specs.Made.{made}
+use Rattle.sp_play.specs.Scene.{scene}
+use Rattle.sp_play.specs.Source.{scenario_limit}
 use Rattle.spectre.specs.Replay.{fed, feed_limit}
-use Rattle.spectre.specs.declared.call.Command.{Command}
-use Rattle.spectre.specs.declared.call.Command.TheVariants.{Play, Replay}
+use Rattle.spectre.specs.declared.job.Job.{Job}
+use Rattle.spectre.specs.declared.job.Job.TheVariants.{Replay, Play, Build, Make, Drill}
 use Rattle.spectre.specs.declared.status.Status.{Status}
 use Rattle.spectre.specs.declared.status.Status.TheVariants as status
 
@@ -46,41 +47,69 @@ rest_behind (Malformed at) = []
 rest_behind (Truncated at) = []
 rest_behind (TooLong taken) = []
 
--- the input of a command has no fault
-abbrev pub IsFaultless : Option Command → List ℕ → Type 0
+-- a scenario that was taken has no fault, has one, or goes on after as many bytes as are taken
+
+pub record IsWholeScene (input : List ℕ) : Type 0 where
+  pub right : IsNone (scene input).fault
+  pub short : length input < scenario_limit
+
+pub record IsFaultyScene (input : List ℕ) : Type 0 where
+  pub wrong : IsSome (scene input).fault
+  pub short : length input < scenario_limit
+
+-- the input of a job has no fault; where it takes none, what it makes has none
+abbrev pub IsFaultless : Option Job → List ℕ → Type 0
 IsFaultless None input = ⊥
-IsFaultless (Some Play) input = IsNone (scene input).fault × (length input < scenario_limit)
 IsFaultless (Some Replay) input = EndsWhole (fed input).end
+IsFaultless (Some Play) input = IsWholeScene input
+IsFaultless (Some Build) input = IsWholeScene input
+IsFaultless (Some (Make n seed width)) input = Unit {0}
+IsFaultless (Some (Drill n seed width)) input = IsNone (scene (made n seed width)).fault
 
 -- it has a faulty line, or a malformed field
-abbrev pub IsMalformed : Option Command → List ℕ → Type 0
+abbrev pub IsMalformed : Option Job → List ℕ → Type 0
 IsMalformed None input = ⊥
-IsMalformed (Some Play) input = IsSome (scene input).fault × (length input < scenario_limit)
 IsMalformed (Some Replay) input = EndsMalformed (fed input).end
+IsMalformed (Some Play) input = IsFaultyScene input
+IsMalformed (Some Build) input = IsFaultyScene input
+IsMalformed (Some (Make n seed width)) input = ⊥
+IsMalformed (Some (Drill n seed width)) input = IsSome (scene (made n seed width)).fault
 
 -- it ends before the frame `E` is whole
-abbrev pub IsTruncated : Option Command → List ℕ → Type 0
+abbrev pub IsTruncated : Option Job → List ℕ → Type 0
 IsTruncated None input = ⊥
-IsTruncated (Some Play) input = ⊥
 IsTruncated (Some Replay) input = EndsTruncated (fed input).end
+IsTruncated (Some Play) input = ⊥
+IsTruncated (Some Build) input = ⊥
+IsTruncated (Some (Make n seed width)) input = ⊥
+IsTruncated (Some (Drill n seed width)) input = ⊥
 
 -- it goes on after as many bytes as are taken
-abbrev pub IsTooLong : Option Command → List ℕ → Type 0
+abbrev pub IsTooLong : Option Job → List ℕ → Type 0
 IsTooLong None input = ⊥
-IsTooLong (Some Play) input = scenario_limit ≤ length input
 IsTooLong (Some Replay) input = EndsTooLong (fed input).end
+IsTooLong (Some Play) input = scenario_limit ≤ length input
+IsTooLong (Some Build) input = scenario_limit ≤ length input
+IsTooLong (Some (Make n seed width)) input = ⊥
+IsTooLong (Some (Drill n seed width)) input = ⊥
 
 -- what a run that is done leaves of the input
-abbrev pub unread : Option Command → List ℕ → List ℕ
+abbrev pub unread : Option Job → List ℕ → List ℕ
 unread None input = input
-unread (Some Play) input = []
 unread (Some Replay) input = rest_behind (fed input).end
+unread (Some Play) input = []
+unread (Some Build) input = []
+unread (Some (Make n seed width)) input = input
+unread (Some (Drill n seed width)) input = input
 
 -- what a run leaves of input that is too long: all that follows the bytes of the limit
-abbrev pub beyond : Option Command → List ℕ → List ℕ
+abbrev pub beyond : Option Job → List ℕ → List ℕ
 beyond None input = input
-beyond (Some Play) input = drop scenario_limit input
 beyond (Some Replay) input = drop feed_limit input
+beyond (Some Play) input = drop scenario_limit input
+beyond (Some Build) input = drop scenario_limit input
+beyond (Some (Make n seed width)) input = input
+beyond (Some (Drill n seed width)) input = input
 
 -- the line of a feed's fault, and the status that it gives
 abbrev pub feed_fault_text : FeedFault → List ℕ

@@ -1,27 +1,21 @@
 -- What a feed writes: one line for each message, and the line of its fault.
-use Rattle.std.specs.Prelude.{ℕ, true, List, [], ◌++◌, Option, Some, None, Result, Ok, Err}
-use Rattle.sp_block.specs.Block.{ReadBlock}
-use Rattle.sp_block.specs.declared.fault.BlockFault.{BlockFault}
+use Rattle.std.specs.Prelude.{ℕ, true, List, [], ◌++◌, Option, Some, None}
 use Rattle.sp_engine.specs.Blocks.{block_in}
 use Rattle.sp_feed.specs.Feed.{End, Feed, feed, Malformed, TooLong, Truncated, Whole}
 use Rattle.sp_feed.specs.Format.{Head}
 use Rattle.sp_feed.specs.Kinds.{Said}
 use Rattle.sp_names.specs.Labels.{no_labels}
-use Rattle.sp_node.specs.Answers.{answers}
 use Rattle.sp_report.specs.Lines.{malformed_text, too_long_text, truncated_text}
+use Rattle.spectre.specs.Scenes.{lines_by}
 
 -- the most bytes that are taken of a feed
 abbrev pub feed_limit : ℕ
 feed_limit = 4294967295
 
-abbrev pub lines_by : Result ReadBlock BlockFault → ℕ → List Said → List ℕ
-lines_by (Ok genesis) bits messages = answers no_labels genesis bits [] messages
-lines_by (Err fault) bits messages = []
-
 -- one line for each message, over the genesis block that the head spells
 abbrev pub lines_under : Option Head → List Said → List ℕ
 lines_under None messages = []
-lines_under (Some head) messages = lines_by (block_in true head.genesis) head.bits messages
+lines_under (Some head) messages = lines_by no_labels (block_in true head.genesis) head.bits messages
 
 abbrev pub message_lines : Feed → List ℕ
 message_lines f = lines_under f.head f.messages

@@ -1,11 +1,11 @@
-//! How the playing of a scenario ends, shared by the functions that write and by `run`, which turns
-//! it into a status.
+//! How the taking of a scenario ends, shared by the functions that write and by those that turn it
+//! into a status.
 
 use sp_ids::Memory as Refused;
 use sp_io::Failed;
-use std::alloc::{AllocError, AllocFailed};
+use sp_node::NodeFault;
 
-/// How a scenario that was played to its end, or to its first fault, ended.
+/// How a scenario that was taken to its end, or to its first fault, ended.
 #[derive(Clone, Copy, Debug, PartialEq, Eq)]
 pub enum Ending {
     /// It has no fault.
@@ -14,7 +14,7 @@ pub enum Ending {
     Faulty,
 }
 
-/// Why the playing of a scenario stopped.
+/// Why it stopped before that.
 #[derive(Clone, Copy, Debug, PartialEq, Eq)]
 pub enum Stop {
     /// A write failed.
@@ -45,24 +45,16 @@ impl From<Refused> for Stop {
     }
 }
 
-impl<T: Drop> From<AllocFailed<T>> for Stop {
+impl From<NodeFault> for Stop {
     ghost use Rattle.std.specs.Prelude.{◌≡◌};
-    ghost use Rattle.spectre.specs.declared.ending.Stop.TheVariants as stops;
+    ghost use Rattle.spectre.specs.Stops.{stop_of};
 
-    ghost from_gives = { λ _ e. e ≡ stops.Memory };
+    ghost from_gives = { λ fault e. e ≡ stop_of fault };
 
-    fn from(_refused: AllocFailed<T>) -> Stop {
-        Stop::Memory
-    }
-}
-
-impl From<AllocError> for Stop {
-    ghost use Rattle.std.specs.Prelude.{◌≡◌};
-    ghost use Rattle.spectre.specs.declared.ending.Stop.TheVariants as stops;
-
-    ghost from_gives = { λ _ e. e ≡ stops.Memory };
-
-    fn from(_refused: AllocError) -> Stop {
-        Stop::Memory
+    fn from(fault: NodeFault) -> Stop {
+        match fault {
+            NodeFault::WriteFault => Stop::WriteFault,
+            NodeFault::Memory => Stop::Memory,
+        }
     }
 }

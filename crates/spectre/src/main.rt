@@ -1,26 +1,34 @@
-//! The ledger's program. `play` reads a scenario from standard input, and `replay` a feed, and each
-//! writes its answers to standard output; `run` in `command.rt` is all that the program does and
-//! carries the theorem, and `main` hands it the real ends.
+//! The ledger's program. Its commands answer a feed or a scenario, write the feed of a scenario, and
+//! make scenarios of numbers; `run` in `command.rt` is all that the program does and carries the
+//! theorem, and `main` hands it the real ends.
 #![tactic(auto)]
 
-mod call;
 mod command;
+mod commands;
+mod counting;
+mod counts;
+mod drill;
 mod ending;
+mod genesis;
+mod job;
 mod laws;
 mod lines;
+mod made;
 mod play;
+mod purpose;
 mod replay;
-mod scenario;
+mod scene;
 mod status;
+mod summary;
 #[cfg(test)]
 mod tests;
-mod votes;
 
 ghost use Rattle.std.specs.Prelude.{◌⊎◌, ◌≡◌, IfErr};
 ghost use Rattle.std.specs.Process.{exit_status};
 ghost use Rattle.spectre.specs.Codes.{code_of};
 
 use command::run;
+use commands::{USAGE, help_text, rows_in};
 use sp_io::{StdSink, StdSource};
 use status::Status;
 use std::process::ExitCode;
@@ -52,6 +60,16 @@ fn exit_of(status: Status) -> ExitCode
     ExitCode::from(status.code())
 }
 
+/// Prints the usage line and the list of commands; the line alone where memory is refused for the
+/// list.
+fn print_usage(rt: &(impl Eprint + AllocGlobal)) {
+    let _ = eprintln!(rt; "{USAGE}");
+    if let Ok(text) = help_text(rt.alloc()) {
+        let rows = rows_in(&text);
+        let _ = eprint!(rt; "{rows}");
+    }
+}
+
 fn main(rt: HostRuntime) -> ExitCode {
     let status = match words_of_call(&rt) {
         Ok(words) => {
@@ -62,7 +80,7 @@ fn main(rt: HostRuntime) -> ExitCode {
         Err(status) => status,
     };
     if status == Status::Usage {
-        let _ = eprintln!(rt; "usage: spectre play | replay");
+        print_usage(&rt);
     }
     exit_of(status)
 }

@@ -5,17 +5,16 @@ ghost use Rattle.std.specs.Prelude.{◌≡◌, ◌≢◌, ◌∷◌, [], ℕ, tr
 ghost use Rattle.std.specs.Io.KnownBytes.{Appends, Consumes};
 ghost use Rattle.sp_io.specs.Causes.{Rose};
 ghost use Rattle.sp_io.specs.Whole.{AppendsFront};
-ghost use Rattle.sp_engine.specs.Blocks.{block_in};
 ghost use Rattle.sp_feed.specs.Calls.{GivesHead};
 ghost use Rattle.sp_feed.specs.Reader.{Behind, head_in, is_open};
 ghost use Rattle.sp_feed.specs.Reads.{Moment, moment};
-ghost use Rattle.sp_node.specs.Node.{state};
 ghost use Rattle.spectre.specs.Ends.{Replays};
 ghost use Rattle.spectre.specs.Faults.{EndsMalformed, EndsTooLong, EndsTruncated, EndsWhole, feed_fault_text, rest_behind, status_of};
 ghost use Rattle.spectre.specs.Replay.{fed, feed_limit, replayed, replied};
 ghost use Rattle.spectre.specs.Replaying.{Answering, HasWriteCause, Replies};
 ghost use Rattle.spectre.specs.Taken.{TakesFeed};
 
+use crate::genesis::node_of;
 use crate::status::Status;
 use sp_feed::{FeedFault, FeedHead, FeedReader, HeadFault, Message};
 use sp_ids::Memory as Refused;
@@ -83,17 +82,6 @@ impl From<Refused> for ReplayFault {
     fn from(_refused: Refused) -> ReplayFault {
         ReplayFault::Memory
     }
-}
-
-/// A node on the head of a feed, whose genesis block is the one that its bytes spell.
-fn node_of(alloc: Global, head: FeedHead) -> Result<Node, Refused>
-    ensures node { IfOk result (λ node. node ≡ state head.bits (head.genesis ∷ [])) }
-    ensures genesis { block_in true head.genesis.bytes ≡ Ok head.genesis }
-{
-    let FeedHead { bits, genesis } = head;
-    // Tells the proof what its bytes spell.
-    let _id = genesis.id;
-    Node::plain(alloc, FeedHead { bits, genesis })
 }
 
 /// Answers each message behind the head. It owns neither the reader nor the node, so that its proof

@@ -1,18 +1,22 @@
 //! Tests of the whole program by its top call, over sources and sinks in memory: what the contracts
 //! rest on and can't say, that the definitions are the rules. Every expected answer was worked out
-//! by hand from the rules.
+//! by hand from the rules, or by another program where its file says so.
 //!
 //! A test is a table of runs, and `tries` compares each run whole. Since tests are proved too, the
 //! program is called in one place, and what a run ends as is plain data.
 
+mod alike;
 mod answered;
 mod balances;
+mod built;
 mod faults;
 mod feed_bytes;
 mod feeds;
 mod lengths;
 mod lines;
+mod made;
 mod orders;
+mod pages;
 mod paired;
 mod payments;
 mod pieces;
@@ -22,9 +26,9 @@ mod spends;
 mod streams;
 mod transfers;
 mod words;
+mod worked;
 
 use crate::command::run;
-use crate::scenario::why::Why;
 use crate::status::Status;
 use sp_io::{Calls, Fails, MemSink, MemSource, Sink, Source};
 use std::alloc::Global;
@@ -34,9 +38,6 @@ use std::test::Fail;
 /// A text that is read, and what is answered. Its row in its table names it: each constant more in a
 /// table has its price in the proof of the test that reads it.
 pub type Case = (&'static [u8], &'static [u8]);
-
-/// A text that breaks a rule, and which one.
-pub type Broken = (&'static [u8], Why);
 
 pub const SAMPLE: &[u8] = b"block A on G\nblock B on G\nblock C on A\nvote A B\n";
 
@@ -196,21 +197,14 @@ fn is_as(ended: &Ended, wanted: &Wanted) -> bool {
     rests && ended.status == wanted.status && behind(&ended.output, wanted.lines) == wanted.output
 }
 
-fn agrees(
-    rt: &impl Abort,
-    name: &str,
-    at: usize,
-    ended: &Ended,
-    wanted: &Wanted,
-) -> Result<(), Fail> {
-    let written = str::from_utf8(&ended.output)?;
+fn agrees(rt: &impl Abort, name: &str, at: usize, ended: &Ended, wanted: &Wanted) {
+    let written = str::from_utf8(&ended.output).unwrap_or("what is no text\n");
     assert!(rt;
         is_as(ended, wanted),
         "{name}, {at}: {:?} after\n{written}and then {:?}",
         ended.status,
         ended.rest
     );
-    Ok(())
 }
 
 /// Runs the program, and compares what the run ends as with what is wanted.
@@ -223,7 +217,8 @@ pub fn tries(
     wanted: &Wanted,
 ) -> Result<(), Fail> {
     let ended = ran(alloc, trial)?;
-    agrees(rt, name, at, &ended, wanted)
+    agrees(rt, name, at, &ended, wanted);
+    Ok(())
 }
 
 /// The one text and then the other.
@@ -268,24 +263,4 @@ pub fn plays_all(
         plays(rt, alloc, name, at, input, status, output)?;
     }
     Ok(())
-}
-
-/// The word of a reason, by hand from the rules.
-fn word_of(why: Why) -> &'static str {
-    match why {
-        Why::Byte => "byte",
-        Why::Command => "command",
-        Why::Form => "form",
-        Why::Name => "name",
-        Why::Taken => "taken",
-        Why::Unknown => "unknown",
-        Why::Repeat => "repeat",
-        Why::Many => "many",
-    }
-}
-
-/// The line of the fault of a line.
-pub fn fault_at(alloc: Global, line: u8, why: Why) -> Result<String, Fail> {
-    let word = word_of(why);
-    Ok(format!(in alloc; "fault line {line} {word}\n")?)
 }

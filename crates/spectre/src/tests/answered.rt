@@ -1,39 +1,9 @@
-//! Scenarios without a fault, with all that is written.
+//! Scenarios without a fault, with all that is written: how lines, words and names may be spelled.
 
 use crate::tests::{Case, SAMPLE, SAMPLE_ANSWERS};
 
 /// Scenarios without a fault.
-pub const ANSWERED: [Case; 23] = [
-    // two blocks side by side
-    (
-        b"block A on G\nblock B on G\nvote A B\n",
-        b"kept A present 1\nkept B present 1\nvote A B tie\n",
-    ),
-    // a block on one of the two
-    (
-        b"block A on G\nblock B on G\nvote A B\nblock C on A\nvote A B\nvote B A\n",
-        b"kept A present 1\nkept B present 1\nvote A B tie\nkept C present 1\nvote A B before\nvote B A after\n",
-    ),
-    // two more blocks on the other
-    (
-        b"block A on G\nblock B on G\nvote A B\nblock C on A\nvote A B\nvote B A\nblock D on B\nblock E on B\nvote A B\n",
-        b"kept A present 1\nkept B present 1\nvote A B tie\nkept C present 1\nvote A B before\nvote B A after\nkept D present 1\nkept E present 1\nvote A B after\n",
-    ),
-    // an ancestor is before, and a block is the same as itself
-    (
-        b"block A on G\nblock B on A\nvote A B\nvote G A\nvote A A\n",
-        b"kept A present 1\nkept B present 1\nvote A B before\nvote G A before\nvote A A same\n",
-    ),
-    // a block on both keeps their tie
-    (
-        b"block A on G\nblock B on G\nvote A B\nblock C on A B\nvote A B\n",
-        b"kept A present 1\nkept B present 1\nvote A B tie\nkept C present 1\nvote A B tie\n",
-    ),
-    // three blocks, each before the next
-    (
-        b"block A on G\nblock B on G\nblock C on G\nblock X1 on A\nblock Y1 on X1 B\nblock X2 on B\nblock Y2 on X2 C\nblock X3 on C\nblock Y3 on X3 A\nvote A B\nvote B C\nvote C A\n",
-        b"kept A present 1\nkept B present 1\nkept C present 1\nkept X1 present 1\nkept Y1 present 1\nkept X2 present 1\nkept Y2 present 1\nkept X3 present 1\nkept Y3 present 1\nvote A B before\nvote B C before\nvote C A before\n",
-    ),
+pub const ANSWERED: [Case; 22] = [
     // the sample
     (SAMPLE, SAMPLE_ANSWERS),
     // nothing
@@ -97,5 +67,30 @@ pub const ANSWERED: [Case; 23] = [
     (
         b"block A on G\nblock B on G A\nblock C on B G A\nvote C A\nvote B C\n",
         b"kept A present 1\nkept B present 1\nkept C present 1\nvote C A after\nvote B C before\n",
+    ),
+    // words are no names: a lock may have a key word, or the name of a block
+    (
+        b"grant g 7 to to 8 to G 9 to #\ntx p spends g.0 with to pays 3 to with\nbalance to\nbalance G\nbalance #\nblock A on G carries p\nbalance to\nbalance with\n",
+        b"balance to 7\nbalance G 8\nbalance # 9\nkept A present 1\nbalance to 0\nbalance with 3\n",
+    ),
+    // a word of 64 bytes
+    (
+        b"balance 0123456789abcdefghijklmnopqrstuvwxyzABCDEFGHIJKLMNOPQRSTUVWXYZ.:\n",
+        b"balance 0123456789abcdefghijklmnopqrstuvwxyzABCDEFGHIJKLMNOPQRSTUVWXYZ.: 0\n",
+    ),
+    // the end of the spends is the first word that says so behind a spend
+    (
+        b"grant pay 7 to pays\ntx p spends pay.0 with pays pays 7 to pays\nstate p\nblock A on G carries p\nstate p\nbalance pays\n",
+        b"tx p absent\nkept A present 1\ntx p accepted\nbalance pays 7\n",
+    ),
+    // no work is asked for, and the most that is granted
+    (
+        b"#\n\nbits 0\ngrant g 9223372036854775807 to a\nbalance a\nreport\n",
+        b"balance a 9223372036854775807\nblocks 1 waiting 0\naccepted 1\ntx g accepted\nbalances 1\nbalance a 9223372036854775807\n",
+    ),
+    // a report in the order of naming, of locks that of standing
+    (
+        b"grant z 5 to y 6 to x\ngrant a 7 to x\nbalance w\nreport\n",
+        b"balance w 0\nblocks 1 waiting 0\naccepted 2\ntx z accepted\ntx a accepted\nbalances 2\nbalance y 5\nbalance x 13\n",
     ),
 ];

@@ -46,14 +46,14 @@ const NAMES: [(u8, &str); 24] = [
 /// A feed in hexadecimal digits, its words divided by blanks and line ends, and all that is written.
 /// A name is a word of its own in the feed, where it stands for 32 bytes; in the answers it stands
 /// for 64 digits.
-struct Paid {
-    name: &'static str,
-    feed: &'static [u8],
-    answers: &'static [u8],
+pub struct Paid {
+    pub name: &'static str,
+    pub feed: &'static [u8],
+    pub answers: &'static [u8],
 }
 
 /// A grant, and nothing else.
-const GRANT: Paid = Paid {
+pub const GRANT: Paid = Paid {
     name: "a grant, and a lock that has none",
     feed: b"5350435452463031 00
         42 3e000000 01 0000000000000000 0000000000000000 00 0100 00 01 6400000000000000 L
@@ -95,7 +95,7 @@ const SPENT_TWICE: Paid = Paid {
 /// I dave has 27; after J the two tie, and 9 are left; K decides for I, and then he has 54. M on J
 /// makes a tie again, and O on M decides for J: then only 9 and 27 are left, the 18 are gone, and
 /// erin has her 20.
-const THREE_PAYMENTS: Paid = Paid {
+pub const THREE_PAYMENTS: Paid = Paid {
     name: "three payments to a lock, of which one is rejected later",
     feed: b"5350435452463031 00
         42 8e000000 01 0000000000000000 0000000000000000 00 0100
@@ -170,7 +170,7 @@ fn put_word(out: &mut Vec<u8>, word: &[u8]) -> Result<(), Fail> {
 }
 
 /// The bytes of a feed.
-fn bytes_of(alloc: Global, feed: &[u8]) -> Result<Vec<u8>, Fail> {
+pub fn bytes_of(alloc: Global, feed: &[u8]) -> Result<Vec<u8>, Fail> {
     let mut out = Vec::new(alloc);
     for word in str::from_utf8(feed)?.split_ascii_whitespace() {
         put_word(&mut out, word.as_bytes())?;
@@ -191,7 +191,7 @@ fn in_digits(alloc: Global, text: &[u8]) -> Result<Vec<u8>, Fail> {
     Ok(out)
 }
 
-fn replays(rt: &impl Abort, alloc: Global, paid: &Paid) -> Result<(), Fail> {
+pub fn replays(rt: &impl Abort, alloc: Global, paid: &Paid) -> Result<(), Fail> {
     let input = bytes_of(alloc, paid.feed)?;
     let output = in_digits(alloc, paid.answers)?;
     let trial = Trial {

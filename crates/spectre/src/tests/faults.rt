@@ -1,139 +1,75 @@
-//! Scenarios that break a rule: each reason, and lines that break two rules at once, which show the
-//! order of judgement.
+//! Scenarios that break a rule: each reason but `work`, with the number of its line, and lines that break two
+//! rules at once, which show the order of judgement.
 
-use crate::scenario::why::Why;
-use crate::tests::{Broken, Case};
+use crate::tests::Case;
 
-/// Scenarios whose first line breaks a rule.
+/// Scenarios at fault. The lines before are answered, and none after.
 #[rattlefmt::skip]
-pub const FIRST_LINES: [Broken; 55] = [
+pub const FAULTS: [Case; 33] = [
     // byte: 127
-    (b"vote G\x7f G\n", Why::Byte),
-    // byte: 128
-    (b"block A\x80 on G\n", Why::Byte),
-    // byte: two returns before the line end
-    (b"vote G G\r\r\n", Why::Byte),
-    // byte: a return within a line
-    (b"vote G\rG\n", Why::Byte),
-    // byte: a return before a blank
-    (b"vote G G\r \n", Why::Byte),
-    // byte: a return before the sign of a comment
-    (b"\r# a\n", Why::Byte),
-    // command
-    (b"votes G G\n", Why::Command),
-    // command: a capital
-    (b"Vote G G\n", Why::Command),
-    // command: a key word
-    (b"on A on G\n", Why::Command),
-    // form: a vote on one block
-    (b"vote G\n", Why::Form),
-    // form: a vote on three blocks
-    (b"vote G G G\n", Why::Form),
-    // form: a block without a name
-    (b"block\n", Why::Form),
-    // form: a block without parents
-    (b"block A on\n", Why::Form),
-    // form: a block without its key word
-    (b"block A G G\n", Why::Form),
-    // form: a key word at another place
-    (b"block A G on\n", Why::Form),
-    // form: a key word in capitals
-    (b"block A ON G\n", Why::Form),
-    // form: a block that carries
-    (b"block A on G carries p\n", Why::Form),
-    // name: 33 bytes
-    (b"block abcdefghijklmnopqrstuvwxyz0123456 on G\n", Why::Name),
-    // name: a dot
-    (b"block A.0 on G\n", Why::Name),
-    // name: the sign of a comment
-    (b"block #A on G\n", Why::Name),
-    // name: the key word on
-    (b"block on on G\n", Why::Name),
-    // name: the key word carries
-    (b"block carries on G\n", Why::Name),
-    // name: the key word spends
-    (b"block spends on G\n", Why::Name),
-    // name: the key word with
-    (b"block with on G\n", Why::Name),
-    // name: the key word pays
-    (b"block pays on G\n", Why::Name),
-    // name: the key word to
-    (b"block to on G\n", Why::Name),
-    // taken: the name of genesis
-    (b"block G on G\n", Why::Taken),
-    // unknown: a vote alone
-    (b"vote A B\n", Why::Unknown),
-    // unknown: the second block of a vote
-    (b"vote G g\n", Why::Unknown),
-    // unknown: a block on itself
-    (b"block A on A\n", Why::Unknown),
-    // unknown: a name of 33 bytes as a parent
-    (b"block A on abcdefghijklmnopqrstuvwxyz0123456\n", Why::Unknown),
-    // unknown: a key word as a parent
-    (b"block A on G on\n", Why::Unknown),
-    // unknown: a key word in a vote
-    (b"vote carries G\n", Why::Unknown),
-    // unknown: a name that comes later
-    (b"vote A G\nblock A on G\n", Why::Unknown),
-    // random bytes that may stand in a line
-    (b"Qm \t~}|\n\xfe", Why::Command),
-    // an earlier unknown before a later command
-    (b"vote G A\nplay\n", Why::Unknown),
-    // byte before command
-    (b"blok\x01 A on G\n", Why::Byte),
-    // byte before form
-    (b"vote \x1f\n", Why::Byte),
-    // byte at the end before repeat
-    (b"block A on G G \x00\n", Why::Byte),
-    // command before name
-    (b"Block A! on G\n", Why::Command),
-    // command before form and repeat
-    (b"bloc A! in G G\n", Why::Command),
-    // form before name
-    (b"block A! in G\n", Why::Form),
-    // form, by carries, before taken
-    (b"block G on G carries G\n", Why::Form),
-    // form, by carries, before unknown
-    (b"block A on B carries\n", Why::Form),
-    // form, by carries, before repeat
-    (b"block A on G G carries G\n", Why::Form),
-    // form, by carries as a parent, before name
-    (b"block to on carries\n", Why::Form),
-    // form before unknown
-    (b"vote A B C\n", Why::Form),
-    // name before unknown
-    (b"block A! on B\n", Why::Name),
-    // name before repeat
-    (b"block to on G G\n", Why::Name),
-    // taken before unknown
-    (b"block G on B\n", Why::Taken),
-    // taken before repeat
-    (b"block G on G G\n", Why::Taken),
-    // unknown before a later repeat
-    (b"block A on B G G\n", Why::Unknown),
-    // unknown before the repeat that encloses it
-    (b"block A on G B G\n", Why::Unknown),
-    // unknown before its own repeat
-    (b"block A on B B\n", Why::Unknown),
-    // repeat before a later unknown
-    (b"block A on G G B\n", Why::Repeat),
-];
-
-/// Scenarios of which a later line breaks a rule.
-#[rattlefmt::skip]
-pub const LATER_LINES: [Case; 7] = [
+    (b"vote G\x7f G\n", b"fault line 1 byte\n"),
     // byte: two returns at the end of the text
     (b"vote G G\n\r\r", b"vote G G same\nfault line 2 byte\n"),
+    // byte: random bytes that begin with skipped lines
+    (b"\n#\x9e\n\n\xd3\x07bl\n~", b"fault line 4 byte\n"),
+    // command
+    (b"votes G G\n", b"fault line 1 command\n"),
+    // late: the second line that sets the work
+    (b"# a\nbits 0\nbits 0\n", b"fault line 3 late\n"),
+    // late: a grant behind a block
+    (b"block A on G\ngrant g 1 to a\n", b"kept A present 1\nfault line 2 late\n"),
+    // form
+    (b"vote G G\nvote G", b"vote G G same\nfault line 2 form\n"),
+    // name: a key word
+    (b"block to on G\n", b"fault line 1 name\n"),
+    // name: a dot, of a transaction
+    (b"grant g.0 1 to a\n", b"fault line 1 name\n"),
     // taken: the name of an earlier block
     (b"block A on G\nblock A on G\n", b"kept A present 1\nfault line 2 taken\n"),
+    // taken: transactions share the names of blocks
+    (b"grant A 1 to a\nmake A on G\n", b"fault line 2 taken\n"),
+    // taken: the name of genesis
+    (b"vote G G\n\n#\nblock G on G\nvote G G\n", b"vote G G same\nfault line 4 taken\n"),
+    // unknown: skipped lines are numbered
+    (b"\n \t\n# a\n\r\nvote A B\n", b"fault line 5 unknown\n"),
+    // unknown: a vote alone
+    (b"vote A B\n", b"fault line 1 unknown\n"),
+    // unknown: a transaction where a block is due
+    (b"grant g 1 to a\nvote G g\n", b"fault line 2 unknown\n"),
+    // unknown: no such output
+    (b"grant g 1 to a\ntx p spends g.1 pays 1 to b\n", b"fault line 2 unknown\n"),
+    // unknown: the first word behind on is a parent
+    (b"block A on carries\n", b"fault line 1 unknown\n"),
     // repeat
     (b"block A on G\nblock B on G A G\n", b"kept A present 1\nfault line 2 repeat\n"),
-    // skipped lines are numbered
-    (b"\n \t\n# a\n\r\nvote A B\n", b"fault line 5 unknown\n"),
-    // the lines before are answered, and none after
-    (b"vote G G\n\n#\nblock G on G\nvote G G\n", b"vote G G same\nfault line 4 taken\n"),
-    // a last line without its line end
-    (b"vote G G\nvote G", b"vote G G same\nfault line 2 form\n"),
-    // random bytes that begin with skipped lines
-    (b"\n#\x9e\n\n\xd3\x07bl\n~", b"fault line 4 byte\n"),
+    // number: out of its range
+    (b"bits 65\n", b"fault line 1 number\n"),
+    // number: the sum is 2^63
+    (b"grant g 9223372036854775807 to a 1 to b\n", b"fault line 1 number\n"),
+    // word: 65 bytes
+    (b"balance 0123456789abcdefghijklmnopqrstuvwxyzABCDEFGHIJKLMNOPQRSTUVWXYZ.:!\n", b"fault line 1 word\n"),
+    // many: 17 outputs
+    (b"grant g 1 to a 1 to a 1 to a 1 to a 1 to a 1 to a 1 to a 1 to a 1 to a 1 to a 1 to a 1 to a 1 to a 1 to a 1 to a 1 to a 1 to a\n", b"fault line 1 many\n"),
+    // twin
+    (b"grant g 1 to a\nbalance a\ntx p spends g.0 pays 1 to b\ntx q spends g.0 pays 1 to b\n", b"balance a 1\nfault line 4 twin\n"),
+    // byte before command
+    (b"blok\x01 A on G\n", b"fault line 1 byte\n"),
+    // command before name
+    (b"Block A! on G\n", b"fault line 1 command\n"),
+    // late before form
+    (b"vote G G\nbits\n", b"vote G G same\nfault line 2 late\n"),
+    // form before name
+    (b"block A! in G\n", b"fault line 1 form\n"),
+    // name before unknown
+    (b"block A! on B\n", b"fault line 1 name\n"),
+    // taken before repeat
+    (b"block G on G G\n", b"fault line 1 taken\n"),
+    // unknown before its own repeat
+    (b"block A on B B\n", b"fault line 1 unknown\n"),
+    // repeat before a later unknown
+    (b"block A on G G B\n", b"fault line 1 repeat\n"),
+    // an earlier unknown before a later number
+    (b"tx p spends G.0 pays 0 to a\n", b"fault line 1 unknown\n"),
+    // an earlier unknown before a later command
+    (b"vote G A\nplay\n", b"fault line 1 unknown\n"),
 ];

@@ -1,4 +1,5 @@
-//! Texts around the limit of a scenario's bytes, and large line numbers.
+//! What takes long: texts around the limit of a scenario's bytes, large line numbers, and a block that
+//! asks for more work than is tried.
 
 use crate::status::Status;
 use crate::tests::{Ends, Rest, Trial, WIDE, Wanted, tries};
@@ -35,7 +36,7 @@ struct Long {
 const LAST: &[u8] = b"vote G G\nvote A B\n";
 
 #[rattlefmt::skip]
-const LONG: [Long; 8] = [
+const LONG: [Long; 9] = [
     Long { line_ends: 8, text: b"vote A B", ends: WIDE, status: Status::Malformed, output: b"fault line 9 unknown\n", rest: Some(NOTHING) },
     Long { line_ends: 9, text: b"vote A B", ends: WIDE, status: Status::Malformed, output: b"fault line 10 unknown\n", rest: Some(NOTHING) },
     Long { line_ends: 65_535, text: b"vote A B", ends: WIDE, status: Status::Malformed, output: b"fault line 65536 unknown\n", rest: Some(NOTHING) },
@@ -46,6 +47,8 @@ const LONG: [Long; 8] = [
     // Of a longer text the rest stays unread. Where its line can't be written whole, the write is
     // at fault.
     Long { line_ends: LIMIT - 8, text: b"vote G G\n", ends: NARROW, status: Status::WriteFault, output: b"fault", rest: Some((Some(1), Some(0), *b"\n\0\0\0\0\0\0", false)) },
+    // Of each nonce below 1,048,576 the block's id is tried.
+    Long { line_ends: 0, text: b"bits 64\nblock A on G\n", ends: WIDE, status: Status::Malformed, output: b"fault line 2 work\n", rest: Some(NOTHING) },
 ];
 
 fn text_of(alloc: Global, long: &Long) -> Result<Vec<u8>, Fail> {

@@ -1,12 +1,10 @@
 //! The tables of scenarios, and each byte as a line of its own.
 
-use crate::scenario::why::Why;
 use crate::status::Status;
 use crate::tests::answered::ANSWERED;
-use crate::tests::faults::{FIRST_LINES, LATER_LINES};
-use crate::tests::{fault_at, plays, plays_all};
-use std::alloc::Global;
-use std::process::Abort;
+use crate::tests::faults::FAULTS;
+use crate::tests::worked::WORKED;
+use crate::tests::{plays, plays_all};
 use std::test::Fail;
 
 /// What a line that is this one byte ends in.
@@ -18,37 +16,11 @@ fn alone(byte: u8) -> (Status, &'static [u8]) {
     }
 }
 
-/// The first line of a text is at fault.
-fn breaks(rt: &impl Abort, alloc: Global, at: usize, input: &[u8], why: Why) -> Result<(), Fail> {
-    let output = fault_at(alloc, 1, why)?;
-    plays(
-        rt,
-        alloc,
-        "first line",
-        at,
-        input,
-        Status::Malformed,
-        output.as_bytes(),
-    )
-}
-
 #[test]
-fn answers(rt: HostRuntime) -> Result<(), Fail> {
-    plays_all(&rt, rt.alloc(), "answered", &ANSWERED, Status::Done)
-}
-
-#[test]
-fn faults(rt: HostRuntime) -> Result<(), Fail> {
-    for (at, (input, why)) in FIRST_LINES.iter().enumerate() {
-        breaks(&rt, rt.alloc(), at, input, *why)?;
-    }
-    plays_all(
-        &rt,
-        rt.alloc(),
-        "later line",
-        &LATER_LINES,
-        Status::Malformed,
-    )
+fn scenarios(rt: HostRuntime) -> Result<(), Fail> {
+    plays_all(&rt, rt.alloc(), "answered", &ANSWERED, Status::Done)?;
+    plays_all(&rt, rt.alloc(), "worked", &WORKED, Status::Done)?;
+    plays_all(&rt, rt.alloc(), "at fault", &FAULTS, Status::Malformed)
 }
 
 #[test]

@@ -1,8 +1,9 @@
-//! Scenarios and feeds in pieces, and with each call of the source and of the sink failing in turn.
+//! Each command in pieces, and with each call of the source and of the sink failing in turn.
 
 use crate::status::Status;
 use crate::tests::feed_bytes::{END, feed_of, in_full};
 use crate::tests::streams::{Stream, try_all};
+use crate::tests::worked::TIE;
 use crate::tests::{SAMPLE, SAMPLE_ANSWERS};
 use std::alloc::Global;
 use std::process::Abort;
@@ -121,6 +122,70 @@ fn stream_of<'a>(flow: &Flow, input: &'a [u8], output: &'a [u8]) -> Stream<'a> {
         output,
         growth: flow.growth,
     }
+}
+
+/// Runs that read nothing, so that none is lost where each read fails.
+const MADE: [Stream; 4] = [
+    Stream {
+        name: "two blocks that are made",
+        words: b"make\n2\n1\n2\n",
+        input: SAMPLE,
+        reads: 0,
+        status: Status::Done,
+        output: b"block b1 on G\nblock b2 on G b1\n",
+        growth: &[],
+    },
+    Stream {
+        name: "nothing that is made",
+        words: b"make\n0\n0\n1\n",
+        input: SAMPLE,
+        reads: 0,
+        status: Status::Done,
+        output: b"",
+        growth: &[],
+    },
+    Stream {
+        name: "a summary",
+        words: b"drill\n3\n0\n1\n",
+        input: SAMPLE,
+        reads: 0,
+        status: Status::Done,
+        output: b"blocks 4 waiting 0\npairs 6 before 6 after 0 tie 0\naccepted 0\nbalances 0\n",
+        growth: &[],
+    },
+    Stream {
+        name: "a fault alone",
+        words: b"build",
+        input: b"block A on G\nvote A B\n",
+        reads: 23,
+        status: Status::Malformed,
+        output: b"fault line 2 unknown\n",
+        growth: &[],
+    },
+];
+
+#[test]
+fn made(rt: HostRuntime) -> Result<(), Fail> {
+    for stream in &MADE {
+        try_all(&rt, rt.alloc(), stream)?;
+    }
+    Ok(())
+}
+
+/// A scenario is read to its end before the first byte of its feed is written.
+#[test]
+fn built(rt: HostRuntime) -> Result<(), Fail> {
+    let output = feed_of(rt.alloc(), 0, b"A\nB\nAB\n", END)?;
+    let stream = Stream {
+        name: "the feed of two blocks and a question",
+        words: b"build",
+        input: TIE,
+        reads: 36,
+        status: Status::Done,
+        output: &output,
+        growth: &[],
+    };
+    try_all(&rt, rt.alloc(), &stream)
 }
 
 #[test]

@@ -3,9 +3,10 @@
 
 use crate::status::Status;
 use crate::tests::feed_bytes::{feed_of, head_of, in_full, put_child};
+use crate::tests::pages::{Paged, fails_in_turn};
 use crate::tests::paired::{Ordered, put_id, put_pairs};
 use crate::tests::streams::{Stream, try_all};
-use crate::tests::{Ended, Ends, Rest, Trial, WIDE, Wanted, joined, ran, tries};
+use crate::tests::{Ends, Rest, Trial, WIDE, Wanted, joined, tries};
 use sp_ids::BlockId;
 use std::alloc::Global;
 use std::process::Abort;
@@ -158,56 +159,6 @@ fn chain_of_eight(alloc: Global) -> Result<Chain, Fail> {
     Ok(chain)
 }
 
-/// How much a run wrote up to a write that failed, none where all of it was written.
-fn written(rt: &impl Abort, ended: &Ended, whole: &[u8]) -> Option<usize> {
-    let output = ended.output.as_slice();
-    if ended.status == Status::Done {
-        assert!(rt; output == whole, "another whole");
-        return None;
-    }
-    assert!(rt; ended.status == Status::WriteFault, "{:?}", ended.status);
-    assert!(rt; whole.starts_with(output), "no front");
-    Some(output.len())
-}
-
-/// Runs with a sink of which this write fails.
-fn fails_at(
-    rt: &impl Abort,
-    alloc: Global,
-    chain: &Chain,
-    taken: u16,
-    call: u32,
-) -> Result<Option<usize>, Fail> {
-    let trial = Trial {
-        words: b"replay",
-        input: &chain.feed,
-        ends: Ends {
-            taken,
-            bad_write: Some(call),
-            ..WIDE
-        },
-    };
-    let ended = ran(alloc, &trial)?;
-    Ok(written(rt, &ended, &chain.answers))
-}
-
-/// Each write fails in turn, and each time more is written before it than the time before, nothing
-/// before the first; until so many were made, and none is left to fail.
-fn fails_in_turn(rt: &impl Abort, alloc: Global, chain: &Chain, taken: u16) -> Result<u32, Fail> {
-    let mut least = 0;
-    for call in 0..200u32 {
-        let Some(length) = fails_at(rt, alloc, chain, taken, call)? else {
-            return Ok(call);
-        };
-        assert!(rt;
-            least <= length && (0 < call || length == 0),
-            "{length} bytes before write {call} of {taken} bytes"
-        );
-        least = length.saturating_add(1);
-    }
-    Err("no end of the writes".into())
-}
-
 /// The most bytes that a write takes, and how many there are at least: the lines of eight blocks,
 /// two pages of pairs and one of a report are written apart.
 const WRITES: [(u16, u32); 3] = [(65535, 11), (1000, 15), (61, 102)];
@@ -215,8 +166,13 @@ const WRITES: [(u16, u32); 3] = [(65535, 11), (1000, 15), (61, 102)];
 #[test]
 fn pages(rt: HostRuntime) -> Result<(), Fail> {
     let chain = chain_of_eight(rt.alloc())?;
+    let paged = Paged {
+        words: b"replay",
+        input: &chain.feed,
+        output: &chain.answers,
+    };
     for (taken, least) in WRITES {
-        let count = fails_in_turn(&rt, rt.alloc(), &chain, taken)?;
+        let count = fails_in_turn(&rt, rt.alloc(), &paged, taken)?;
         assert!(rt; least <= count, "{count} writes of {taken} bytes");
     }
     Ok(())

@@ -1,41 +1,16 @@
-//! 63 blocks in several shapes with a question on each pair, and the line of a 64th block.
+//! Blocks in several shapes with a question on each pair, and the most parents that a block may have.
 
-use crate::scenario::why::Why;
 use crate::status::Status;
-use crate::tests::{Broken, fault_at, joined, plays};
+use crate::tests::plays;
 use std::alloc::Global;
 use std::cmp::Ordering;
 use std::process::Abort;
 use std::test::Fail;
 
-/// The 64th line, and what is wrong with it.
-#[rattlefmt::skip]
-const SIXTY_FOURTH: [Broken; 11] = [
-    // many
-    (b"block c on b63\n", Why::Many),
-    // many, on several parents
-    (b"block c on G b1 b2 b3\n", Why::Many),
-    // repeat before many
-    (b"block c on G b63 G\n", Why::Repeat),
-    // unknown before many
-    (b"block c on c\n", Why::Unknown),
-    // taken before many
-    (b"block b63 on G\n", Why::Taken),
-    // name before many
-    (b"block c! on G\n", Why::Name),
-    // form before many
-    (b"block c on\n", Why::Form),
-    // form, by carries, before many
-    (b"block c on G carries G\n", Why::Form),
-    // byte before many
-    (b"block c\x7f on G\n", Why::Byte),
-    // command
-    (b"blocks c on G\n", Why::Command),
-    // unknown, in a vote
-    (b"vote b63 b64\n", Why::Unknown),
-];
+/// How many blocks a shape has, genesis among them; even, so that one of two chains is longer.
+const COUNT: u8 = 40;
 
-/// Which earlier blocks each of 63 blocks stands on.
+/// Which earlier blocks each block of a shape stands on.
 #[derive(Clone, Copy)]
 enum Shape {
     /// The one before.
@@ -46,8 +21,8 @@ enum Shape {
     Ladder,
     /// All before.
     Full,
-    /// The one before the one before, so that the odd ones are a chain of 32, and the even ones a
-    /// chain of 31.
+    /// The one before the one before, so that the odd ones are a chain of 20, and the even ones a
+    /// chain of 19.
     TwoChains,
 }
 
@@ -133,13 +108,13 @@ fn put_block(scene: &mut Scene, shape: Shape, block: u8) -> Result<(), Fail> {
     Ok(())
 }
 
-/// The lines that make 63 blocks.
+/// The lines that make the blocks.
 fn blocks_of(alloc: Global, shape: Shape) -> Result<Scene, Fail> {
     let mut scene = Scene {
         text: String::new(alloc),
         answers: String::new(alloc),
     };
-    for block in 1..64u8 {
+    for block in 1..COUNT {
         put_block(&mut scene, shape, block)?;
     }
     Ok(scene)
@@ -163,15 +138,15 @@ fn put_vote(scene: &mut Scene, shape: Shape, x: u8, y: u8) -> Result<(), Fail> {
 
 /// A question on each two blocks.
 fn put_votes(scene: &mut Scene, shape: Shape) -> Result<(), Fail> {
-    for x in 0..64u8 {
-        for y in 0..64u8 {
+    for x in 0..COUNT {
+        for y in 0..COUNT {
             put_vote(scene, shape, x, y)?;
         }
     }
     Ok(())
 }
 
-/// Plays 63 blocks of a shape, and the questions.
+/// Plays the blocks of a shape, and the questions.
 fn plays_shape(rt: &impl Abort, alloc: Global, at: usize, shape: Shape) -> Result<(), Fail> {
     let mut scene = blocks_of(alloc, shape)?;
     put_votes(&mut scene, shape)?;
@@ -180,42 +155,45 @@ fn plays_shape(rt: &impl Abort, alloc: Global, at: usize, shape: Shape) -> Resul
 }
 
 #[test]
-fn sixty_four_blocks(rt: HostRuntime) -> Result<(), Fail> {
+fn forty_blocks(rt: HostRuntime) -> Result<(), Fail> {
     for (at, shape) in SHAPES.iter().enumerate() {
         plays_shape(&rt, rt.alloc(), at, *shape)?;
     }
     Ok(())
 }
 
-/// A line behind 63 blocks is at fault.
-fn breaks(
-    rt: &impl Abort,
-    alloc: Global,
-    at: usize,
-    scene: &Scene,
-    line: &[u8],
-    why: Why,
-) -> Result<(), Fail> {
-    let text = joined(alloc, scene.text.as_bytes(), line)?;
-    let fault = fault_at(alloc, 64, why)?;
-    let answers = joined(alloc, scene.answers.as_bytes(), fault.as_bytes())?;
-    plays(
-        rt,
-        alloc,
-        "64th line",
-        at,
-        &text,
-        Status::Malformed,
-        &answers,
-    )
-}
-
-/// What is wrong with the line behind 63 blocks.
-#[test]
-fn sixty_fourth_lines(rt: HostRuntime) -> Result<(), Fail> {
-    let scene = blocks_of(rt.alloc(), Shape::Ladder)?;
-    for (at, (line, why)) in SIXTY_FOURTH.iter().enumerate() {
-        breaks(&rt, rt.alloc(), at, &scene, line, *why)?;
+/// Names the blocks from `b1` to this one.
+fn put_names(text: &mut String, last: u8) -> Result<(), Fail> {
+    for block in 1..=last {
+        text.push_str(" ")?;
+        put_name(text, block)?;
     }
     Ok(())
+}
+
+/// 64 blocks on genesis that aren't sent, one on all of them that is; and then one on genesis besides.
+fn crowd(alloc: Global) -> Result<String, Fail> {
+    let mut text = String::new(alloc);
+    for block in 1..65u8 {
+        writeln!(text, "make b{block} on G")?;
+    }
+    text.push_str("block c on")?;
+    put_names(&mut text, 64)?;
+    text.push_str("\nblock d on G")?;
+    put_names(&mut text, 64)?;
+    Ok(text)
+}
+
+#[test]
+fn sixty_four_parents(rt: HostRuntime) -> Result<(), Fail> {
+    let text = crowd(rt.alloc())?;
+    plays(
+        &rt,
+        rt.alloc(),
+        "parents",
+        0,
+        text.as_bytes(),
+        Status::Malformed,
+        b"kept c waiting\nfault line 66 many\n",
+    )
 }

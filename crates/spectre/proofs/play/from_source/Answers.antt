@@ -1,0 +1,67 @@
+use Rattle.std.proofs.Common.{◌<◌, ℕ, List, IsNone, IsSome, ap, sym, subst, length, arith}
+use Rattle.std.specs.Io.KnownBytes.{Appends}
+use Rattle.sp_io.specs.Whole.{AppendsFront}
+use Rattle.sp_play.specs.Scene.{scene}
+use Rattle.sp_play.specs.Source.{scenario_limit}
+use Rattle.spectre.specs.Faults.{IsFaultyScene, IsWholeScene}
+use Rattle.spectre.specs.Output.{source_output}
+use Rattle.spectre.specs.Scenes.{scene_output}
+use Rattle.spectre.proofs.Outputs.{is_short, on_input, on_limit, on_nothing, on_played, on_too_long, output_short}
+use Rattle.spectre.proofs.play.from_source.Goals as goal
+
+pub returns-in-Err-TooLong-clause-write_fault : goal.returns-in-Err-TooLong-clause-write_fault
+returns-in-Err-TooLong-clause-write_fault g c = λ e.
+    let a = g.K.Sink.taken c.args.sink.now in
+    let b = g.K.Sink.taken c.write_too_long.new.sink in
+    let cause = rw c.in-Err-TooLong.field-0-is at c.in-Err-TooLong.ensures.cause in
+    on_too_long c.args.purpose (AppendsFront a b) (g.S.Source.left c.args.source.now) (g.S.Source.left c.read_scenario.new.source) cause.1 (c.write_too_long.ensures.write_fault e)
+
+pub returns-in-Err-TooLong-clause-too_long_end : goal.returns-in-Err-TooLong-clause-too_long_end
+returns-in-Err-TooLong-clause-too_long_end g c = λ _.
+    let cause = rw c.in-Err-TooLong.field-0-is at c.in-Err-TooLong.ensures.cause in
+    on_limit (g.S.Source.left c.args.source.now) (g.S.Source.left c.read_scenario.new.source) cause.1
+
+pub returns-in-Err-Memory-clause-memory : goal.returns-in-Err-Memory-clause-memory
+returns-in-Err-Memory-clause-memory g c = λ _. on_nothing c.args.purpose (g.K.Sink.taken c.args.sink.now) (g.S.Source.left c.args.source.now)
+
+pub returns-in-Err-WriteFault-clause-write_fault : goal.returns-in-Err-WriteFault-clause-write_fault
+returns-in-Err-WriteFault-clause-write_fault g c = λ _.
+    let a = g.K.Sink.taken c.args.sink.now in
+    let b = g.K.Sink.taken c.on_text.new.sink in
+    let short : length c.in-Ok.text.items < scenario_limit = omega (arith, ap length c.deref.ensures.value, c.deref.ensures.len, c.in-Ok.ensures.short) in
+    let P : List ℕ → Type 0 = λ text. AppendsFront a b (scene_output c.args.purpose (scene text)) in
+    on_played c.args.purpose (AppendsFront a b) (g.S.Source.left c.args.source.now) (g.S.Source.left c.read_scenario.new.source) c.in-Ok.text.items c.in-Ok.ensures.bytes c.in-Ok.ensures.end short (subst P c.deref.ensures.value c.in-Err-WriteFault.ensures.err)
+
+pub returns-clause-memory : goal.returns-clause-memory
+returns-clause-memory g c = λ _.
+    let a = g.K.Sink.taken c.args.sink.now in
+    let b = g.K.Sink.taken c.on_text.new.sink in
+    let short : length c.in-Ok.text.items < scenario_limit = omega (arith, ap length c.deref.ensures.value, c.deref.ensures.len, c.in-Ok.ensures.short) in
+    let P : List ℕ → Type 0 = λ text. AppendsFront a b (scene_output c.args.purpose (scene text)) in
+    on_played c.args.purpose (AppendsFront a b) (g.S.Source.left c.args.source.now) (g.S.Source.left c.read_scenario.new.source) c.in-Ok.text.items c.in-Ok.ensures.bytes c.in-Ok.ensures.end short (subst P c.deref.ensures.value c.in-Err-Memory-on_text.ensures.err)
+
+pub returns-in-Ok-Whole-clause-done : goal.returns-in-Ok-Whole-clause-done
+returns-in-Ok-Whole-clause-done g c = λ _.
+    let a = g.K.Sink.taken c.args.sink.now in
+    let b = g.K.Sink.taken c.on_text.new.sink in
+    let text = c.in-Ok.text.items in
+    let short : length text < scenario_limit = omega (arith, ap length c.deref.ensures.value, c.deref.ensures.len, c.in-Ok.ensures.short) in
+    let wrote = subst (λ (t : List ℕ). Appends a b (scene_output c.args.purpose (scene t))) c.deref.ensures.value c.in-Ok-Whole.ensures.ok in
+    let ends = rw c.in-Ok-Whole.field-0-is at c.in-Ok-Whole.ensures.ending in
+    on_input (λ (input : List ℕ). Appends a b (source_output c.args.purpose input) × IsWholeScene input) (g.S.Source.left c.args.source.now) (g.S.Source.left c.read_scenario.new.source) text c.in-Ok.ensures.bytes c.in-Ok.ensures.end (
+      subst (λ (t : List ℕ). Appends a b t) (sym (output_short c.args.purpose text (is_short (length text) short))) wrote,
+      record { right = subst (λ (t : List ℕ). IsNone (scene t).fault) c.deref.ensures.value ends; short = short },
+    )
+
+pub returns-in-Ok-Faulty-clause-malformed : goal.returns-in-Ok-Faulty-clause-malformed
+returns-in-Ok-Faulty-clause-malformed g c = λ _.
+    let a = g.K.Sink.taken c.args.sink.now in
+    let b = g.K.Sink.taken c.on_text.new.sink in
+    let text = c.in-Ok.text.items in
+    let short : length text < scenario_limit = omega (arith, ap length c.deref.ensures.value, c.deref.ensures.len, c.in-Ok.ensures.short) in
+    let wrote = subst (λ (t : List ℕ). Appends a b (scene_output c.args.purpose (scene t))) c.deref.ensures.value c.in-Ok-Faulty.ensures.ok in
+    let ends = rw c.in-Ok-Faulty.field-0-is at c.in-Ok-Faulty.ensures.ending in
+    on_input (λ (input : List ℕ). Appends a b (source_output c.args.purpose input) × IsFaultyScene input) (g.S.Source.left c.args.source.now) (g.S.Source.left c.read_scenario.new.source) text c.in-Ok.ensures.bytes c.in-Ok.ensures.end (
+      subst (λ (t : List ℕ). Appends a b t) (sym (output_short c.args.purpose text (is_short (length text) short))) wrote,
+      record { wrong = subst (λ (t : List ℕ). IsSome (scene t).fault) c.deref.ensures.value ends; short = short },
+    )

@@ -1,0 +1,16 @@
+use Rattle.std.proofs.Common.{◌≡◌, [], ◌∷◌, false}
+use Rattle.sp_block.specs.Block.{ReadBlock}
+use Rattle.sp_report.specs.Naming.{labels_of}
+use Rattle.spectre.proofs.Played.{Played}
+use Rattle.spectre.proofs.scene.answer_scene.Given as goal
+
+abbrev pub invariant-place : goal.invariant-place
+invariant-place g l =
+    let taken = g.K.Sink.taken in
+    record {
+      live : l.node.stopped ≡ false;
+      bits : l.node.bits ≡ l.fn.node.bits;
+      played : (genesis : ReadBlock) → l.fn.node.kept ≡ genesis ∷ [] →
+          Played (taken l.fn.sink) (taken l.sink) (labels_of l.naming) genesis l.fn.node.bits l.node.kept l.scene.messages l.place;
+      quiet : g.K.Sink.faults l.sink ≡ g.K.Sink.faults l.fn.sink;
+    }

@@ -1,0 +1,77 @@
+-- Which job the words of the command line are, and what each job takes.
+use Rattle.std.specs.Prelude.{◌≡◌, ◌≤◌, ℕ, ◌-◌, ◌^◌, ◌==◌, if◌then◌else◌, List, [], Option, Some, None, Result, Ok, Err, length, slice_index_or, codes, map, string_bytes, String}
+use Rattle.std.specs.Global.{Global}
+use Rattle.std.specs.Str.{bytes_eq}
+use Rattle.sp_play.specs.Numbers.{number_in}
+use Rattle.sp_play.specs.declared.why.Why.{Why}
+use Rattle.spectre.specs.declared.job.Job.{Job}
+use Rattle.spectre.specs.declared.job.Job.TheVariants.{Replay, Play, Build, Make, Drill}
+
+-- the words after the program's name, as lists of bytes
+abbrev pub texts : List (String Global) → List (List ℕ)
+texts words = map string_bytes words
+
+abbrev pub word_at : List (List ℕ) → ℕ → List ℕ
+word_at words i = slice_index_or words i []
+
+-- a job that is a single word
+unfoldable pub job_named : List ℕ → Option Job
+job_named word =
+    if bytes_eq word (codes "replay") then Some Replay else
+    if bytes_eq word (codes "play") then Some Play else
+    if bytes_eq word (codes "build") then Some Build else None
+
+-- a job with three numbers
+unfoldable pub job_with : List ℕ → ℕ → ℕ → ℕ → Option Job
+job_with word n seed width =
+    if bytes_eq word (codes "make") then Some (Make n seed width) else
+    if bytes_eq word (codes "drill") then Some (Drill n seed width) else None
+
+-- the same, where each of them is one
+abbrev pub job_by : List ℕ → Result ℕ Why → Result ℕ Why → Result ℕ Why → Option Job
+job_by word (Ok n) (Ok seed) (Ok width) = job_with word n seed width
+job_by word (Ok n) (Ok seed) (Err why) = None
+job_by word (Ok n) (Err why) width = None
+job_by word (Err why) seed width = None
+
+-- N is 0 to 511, SEED any number of 64 bits, WIDTH 1 to 16
+unfoldable pub job_of_numbers : List (List ℕ) → Option Job
+job_of_numbers words =
+    job_by (word_at words 0) (number_in 0 511 (word_at words 1)) (number_in 0 (2 ^ 64 - 1) (word_at words 2)) (number_in 1 16 (word_at words 3))
+
+-- `replay`, `play`, `build`, `make N SEED WIDTH` and `drill N SEED WIDTH`; no other words are a job
+abbrev pub job_in : List (List ℕ) → Option Job
+job_in words =
+    if length words == 1 then job_named (word_at words 0) else
+    if length words == 4 then job_of_numbers words else None
+
+-- a scenario is made of numbers in these ranges
+pub record AreNumbers (n width : ℕ) : Type 0 where
+  pub few : n ≤ 511
+  pub some : 1 ≤ width
+  pub narrow : width ≤ 16
+
+abbrev pub IsJob : Job → Type 0
+IsJob Replay = Unit {0}
+IsJob Play = Unit {0}
+IsJob Build = Unit {0}
+IsJob (Make n seed width) = AreNumbers n width
+IsJob (Drill n seed width) = AreNumbers n width
+
+-- a job takes a scenario, a feed or nothing
+
+abbrev pub TakesScenario : Option Job → Type 0
+TakesScenario None = ⊥
+TakesScenario (Some Replay) = ⊥
+TakesScenario (Some Play) = Unit {0}
+TakesScenario (Some Build) = Unit {0}
+TakesScenario (Some (Make n seed width)) = ⊥
+TakesScenario (Some (Drill n seed width)) = ⊥
+
+abbrev pub TakesNothing : Option Job → Type 0
+TakesNothing None = Unit {0}
+TakesNothing (Some Replay) = ⊥
+TakesNothing (Some Play) = ⊥
+TakesNothing (Some Build) = ⊥
+TakesNothing (Some (Make n seed width)) = Unit {0}
+TakesNothing (Some (Drill n seed width)) = Unit {0}

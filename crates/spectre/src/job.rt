@@ -1,0 +1,108 @@
+//! The words of the command line: which job they ask for.
+
+ghost use Rattle.std.specs.Prelude.{◌≡◌, ◌≤◌, IfErr, IfOk, IfSome, IsNone, length, Some};
+ghost use Rattle.spectre.specs.Jobs.{AreNumbers, IsJob, job_in, texts};
+ghost use Rattle.spectre.specs.Jobs as meant;
+
+use sp_play::number_of;
+use thiserror::Error;
+
+/// What the program is asked to do.
+#[derive(Clone, Copy, Debug, PartialEq, Eq)]
+pub enum Job {
+    /// To answer a feed.
+    Replay,
+    /// To answer a scenario.
+    Play,
+    /// To write the feed of a scenario.
+    Build,
+    /// To write a scenario that is made of numbers: how many blocks it has, 511 at most; a seed; and
+    /// from how many blocks before it a block's parents are drawn, 1 to 16.
+    Make { n: u16, seed: u64, width: u8 },
+    /// To play such a scenario, and to write a summary alone.
+    Drill { n: u16, seed: u64, width: u8 },
+}
+
+/// Why the words ask for no job.
+#[derive(Clone, Copy, Debug, PartialEq, Eq, Error)]
+pub enum JobFault {
+    /// They are none of the forms of a command.
+    #[error("these words are no command of spectre")]
+    Usage,
+}
+
+/// The job that a single word asks for.
+#[tactic(auto, unfolding(crate::specs::Jobs::job_named))]
+fn job_named(word: &[u8]) -> Option<Job>
+    ensures value { result ≡ meant.job_named word.now }
+    ensures ranges { IfSome result IsJob }
+{
+    if word == b"replay".as_slice() {
+        Some(Job::Replay)
+    } else if word == b"play".as_slice() {
+        Some(Job::Play)
+    } else if word == b"build".as_slice() {
+        Some(Job::Build)
+    } else {
+        None
+    }
+}
+
+/// The job that a word and three numbers ask for.
+#[tactic(auto, unfolding(crate::specs::Jobs::job_with))]
+fn job_with(word: &[u8], n: u16, seed: u64, width: u8) -> Option<Job>
+    requires { AreNumbers n width }
+    ensures value { result ≡ meant.job_with word.now n seed width }
+    ensures ranges { IfSome result IsJob }
+{
+    if word == b"make".as_slice() {
+        Some(Job::Make { n, seed, width })
+    } else if word == b"drill".as_slice() {
+        Some(Job::Drill { n, seed, width })
+    } else {
+        None
+    }
+}
+
+/// The job that four words ask for.
+#[tactic(auto, unfolding(crate::specs::Jobs::job_of_numbers))]
+fn job_of_numbers(words: &[String]) -> Option<Job>
+    requires { length words.now ≡ 4 }
+    ensures value { result ≡ meant.job_of_numbers (texts words.now) }
+    ensures ranges { IfSome result IsJob }
+{
+    let n = number_of(0, 511, words[1].as_bytes())?;
+    let seed = number_of(0, u64::MAX, words[2].as_bytes())?;
+    let width = number_of(1, 16, words[3].as_bytes())?;
+    job_with(words[0].as_bytes(), n as u16, seed, width as u8)
+}
+
+/// The job that some words ask for, if they are so many.
+fn job_of(words: &[String]) -> Option<Job>
+    ensures value { result ≡ job_in (texts words.now) }
+    ensures ranges { IfSome result IsJob }
+{
+    match words.len() {
+        1 => job_named(words[0].as_bytes()),
+        4 => job_of_numbers(words),
+        _ => None,
+    }
+}
+
+/// The job that the words after the program's name ask for: `replay`, `play`, `build`,
+/// `make N SEED WIDTH` or `drill N SEED WIDTH`. The numbers are decimal digits without a leading zero
+/// unless the number is 0. It takes no memory.
+///
+/// # Errors
+///
+/// `Usage` where the words are anything else.
+pub fn read_job(words: &[String]) -> Result<Job, JobFault>
+    ensures job { IfOk result (λ job. job_in (texts words.now) ≡ Some job) }
+    ensures usage { IfErr result (λ _. IsNone (job_in (texts words.now))) }
+    ensures ranges { IfOk result IsJob }
+{
+    match job_of(words) {
+        Some(job) => Ok(job),
+        None => Err(JobFault::Usage),
+    }
+}

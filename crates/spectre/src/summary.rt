@@ -1,0 +1,49 @@
+//! The four lines of a summary.
+
+ghost use Rattle.std.specs.Prelude.{◌≡◌, OnErr, OnOk};
+ghost use Rattle.std.specs.Io.KnownBytes.{Appends};
+ghost use Rattle.sp_io.specs.Causes.{HasCause};
+ghost use Rattle.sp_io.specs.Whole.{AppendsFront};
+ghost use Rattle.spectre.specs.Summary.{counts_text, tally_text};
+
+use crate::counts::{Counts, Tally};
+use sp_io::{Failed, Page, Sink};
+use sp_report::{Line, accepted_count_line, balance_count_line, blocks_line};
+
+// The line of how many pairs there are, and how often each word is said of one.
+#[tactic(auto, unfolding(crate::specs::Summary::tally_text))]
+fn tally_line(pairs: u32, tally: &Tally) -> Line
+    ensures { result ≡ tally_text pairs tally.now }
+{
+    let mut line = Line::new();
+    line.push_bytes(b"pairs ");
+    line.push_number(u64::from(pairs));
+    line.push_bytes(b" before ");
+    line.push_number(u64::from(tally.before));
+    line.push_bytes(b" after ");
+    line.push_number(u64::from(tally.after));
+    line.push_bytes(b" tie ");
+    line.push_number(u64::from(tally.tie));
+    line.push_byte(b'\n');
+    line
+}
+
+/// Writes the four lines, through a page and without taking memory.
+///
+/// # Errors
+///
+/// `Failed` where a call of the sink fails. The sink keeps what it took before.
+pub fn write_counts<K: Sink>(counts: &Counts, sink: &mut K) -> Result<(), Failed>
+    ensures ok { OnOk result
+        (Appends (K.taken sink.old) (K.taken sink.new) (counts_text counts.now)) }
+    ensures err { OnErr result
+        (AppendsFront (K.taken sink.old) (K.taken sink.new) (counts_text counts.now)) }
+    ensures cause { HasCause (K.faults sink.old) (K.faults sink.new) result }
+{
+    let mut page = Page::new();
+    page.push(blocks_line(counts.present, counts.waiting).as_slice(), sink)?;
+    page.push(tally_line(counts.pairs, &counts.tally).as_slice(), sink)?;
+    page.push(accepted_count_line(counts.accepted).as_slice(), sink)?;
+    page.push(balance_count_line(counts.paid).as_slice(), sink)?;
+    page.flush(sink)
+}
