@@ -1,0 +1,96 @@
+#!/usr/bin/env python3
+"""Runs the command lines that stand in documents and compares what they write with what stands there.
+
+    python3 examples/compare.py [DOCUMENT ..]
+
+Without a document it is examples/README.md. In a document a block of code (indented by four blanks, or
+between two lines of three backquotes) counts whose first line begins with `$ `. Each such line is run by
+the shell from the top of the repository; the lines behind it, up to the next of its kind, are what it
+writes to standard output. A line `..` stands for any lines, or for none. Where the environment names a
+program as SPECTRE it takes the place of `bin/spectre`. The status is 1 where an output differs, and 2
+where there is nothing to run.
+"""
+
+import difflib
+import os
+import pathlib
+import re
+import subprocess
+import sys
+from typing import NamedTuple
+
+ROOT = pathlib.Path(__file__).resolve().parent.parent
+PROGRAM = "bin/spectre"
+ANY = ".."
+
+
+class Example(NamedTuple):
+    document: str
+    number: int  # of the command's line
+    command: str
+    expected: list
+
+
+def blocks_of(text):
+    """The blocks of code: lists of numbered lines, without what sets them off."""
+    block, fenced = [], False
+    for number, line in enumerate(text.splitlines(), start=1):
+        if line.startswith("```"):
+            fenced = not fenced
+        elif fenced or line.startswith("    "):
+            block.append((number, line if fenced else line[4:]))
+            continue
+        if block:
+            yield block
+        block = []
+    if block:
+        yield block
+
+
+def examples_in(document, text):
+    """The command lines of a document, each with what stands behind it."""
+    for block in blocks_of(text):
+        if not block[0][1].startswith("$ "):
+            continue
+        for number, line in block:
+            if line.startswith("$ "):
+                example = Example(document, number, line[2:], [])
+                yield example
+            else:
+                example.expected.append(line)
+
+
+def fits(expected, written):
+    """Whether lines are the expected ones, `..` standing for any."""
+    pattern = "".join("(?:.*\n)*" if line == ANY else re.escape(line) + "\n" for line in expected)
+    return re.fullmatch(pattern, "".join(line + "\n" for line in written)) is not None
+
+
+def run(example):
+    command = example.command.replace(PROGRAM, os.environ.get("SPECTRE", PROGRAM))
+    done = subprocess.run(["sh", "-c", command], cwd=ROOT, stdout=subprocess.PIPE, stdin=subprocess.DEVNULL)
+    return done.stdout.decode("utf-8", "replace").splitlines()
+
+
+def report(example):
+    """Runs an example, says how it went, and answers whether it fits."""
+    written = run(example)
+    good = fits(example.expected, written)
+    verdict = "ok     " if good else "DIFFERS"
+    print(f"{verdict} {example.document}:{example.number}: {example.command}", flush=True)
+    if not good:
+        for line in difflib.unified_diff(example.expected, written, "document", "written", lineterm=""):
+            print("    " + line)
+    return good
+
+
+def main(documents):
+    texts = [(document, (ROOT / document).read_text()) for document in documents or ["examples/README.md"]]
+    examples = [example for document, text in texts for example in examples_in(document, text)]
+    results = [report(example) for example in examples]
+    print(f"{results.count(True)} fit, {results.count(False)} differ")
+    return 2 if not results else 0 if all(results) else 1
+
+
+if __name__ == "__main__":
+    sys.exit(main(sys.argv[1:]))

@@ -1,0 +1,1 @@
+"""What examples/draw.py is made of: the scenario, its answers, the layout and the drawing."""
