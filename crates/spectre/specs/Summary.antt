@@ -76,8 +76,8 @@ counts_of kept ids =
 -- the four lines of these numbers
 unfoldable pub counts_text : Counts → List ℕ
 counts_text counts =
-    blocks_text counts.present counts.waiting
-    ++ (tally_text counts.pairs counts.tally ++ (accepted_count_text counts.accepted ++ balance_count_text counts.paid))
+    (blocks_text counts.present counts.waiting ++ tally_text counts.pairs counts.tally)
+    ++ (accepted_count_text counts.accepted ++ balance_count_text counts.paid)
 
 -- the pairs go by the order in which the blocks were named
 abbrev pub summary : AllLabels → List ReadBlock → List ℕ

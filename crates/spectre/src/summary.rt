@@ -1,9 +1,9 @@
 //! The four lines of a summary.
 
-ghost use Rattle.std.specs.Prelude.{◌≡◌, OnErr, OnOk};
+ghost use Rattle.std.specs.Prelude.{◌≡◌, ◌++◌, OnErr, OnOk};
 ghost use Rattle.std.specs.Io.KnownBytes.{Appends};
 ghost use Rattle.sp_io.specs.Causes.{HasCause};
-ghost use Rattle.sp_io.specs.Whole.{AppendsFront};
+ghost use Rattle.sp_io.specs.Whole.{AppendsFront, Wrote};
 ghost use Rattle.spectre.specs.Summary.{counts_text, tally_text};
 
 use crate::counts::{Counts, Tally};
@@ -28,6 +28,23 @@ fn tally_line(pairs: u32, tally: &Tally) -> Line
     line
 }
 
+// Puts two lines on a page.
+fn push_two<K: Sink>(
+    first: &Line,
+    second: &Line,
+    page: &mut Page,
+    sink: &mut K,
+) -> Result<(), Failed>
+    ensures ok { OnOk result (Wrote (K.taken sink.old) (K.taken sink.new)
+        (page.old ++ (first.now ++ second.now)) page.new) }
+    ensures err { OnErr result (AppendsFront (K.taken sink.old) (K.taken sink.new)
+        (page.old ++ (first.now ++ second.now))) }
+    ensures cause { HasCause (K.faults sink.old) (K.faults sink.new) result }
+{
+    page.push(first.as_slice(), sink)?;
+    page.push(second.as_slice(), sink)
+}
+
 /// Writes the four lines, through a page and without taking memory.
 ///
 /// # Errors
@@ -40,10 +57,12 @@ pub fn write_counts<K: Sink>(counts: &Counts, sink: &mut K) -> Result<(), Failed
         (AppendsFront (K.taken sink.old) (K.taken sink.new) (counts_text counts.now)) }
     ensures cause { HasCause (K.faults sink.old) (K.faults sink.new) result }
 {
+    let blocks = blocks_line(counts.present, counts.waiting);
+    let pairs = tally_line(counts.pairs, &counts.tally);
+    let accepted = accepted_count_line(counts.accepted);
+    let paid = balance_count_line(counts.paid);
     let mut page = Page::new();
-    page.push(blocks_line(counts.present, counts.waiting).as_slice(), sink)?;
-    page.push(tally_line(counts.pairs, &counts.tally).as_slice(), sink)?;
-    page.push(accepted_count_line(counts.accepted).as_slice(), sink)?;
-    page.push(balance_count_line(counts.paid).as_slice(), sink)?;
+    push_two(&blocks, &pairs, &mut page, sink)?;
+    push_two(&accepted, &paid, &mut page, sink)?;
     page.flush(sink)
 }
