@@ -1,0 +1,9 @@
+pub mod Runs
+pub mod Partly
+pub mod Recorded
+pub mod Outcomes
+pub mod Within
+pub mod Counts
+pub mod Calls
+pub mod Moves
+pub mod UntoldCalls

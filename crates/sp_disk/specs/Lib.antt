@@ -1,0 +1,9 @@
+pub mod Images
+pub mod Moments
+pub mod Pending
+pub mod History
+pub mod Sound
+pub mod Kept
+pub mod Asked
+pub mod Untold
+pub mod Examples

@@ -1,0 +1,21 @@
+-- A disk that tells nothing of what it holds.
+use Rattle.std.specs.Prelude.{ℕ, None}
+use Rattle.sp_form.specs.Bytes.{IsBytes}
+use Rattle.sp_disk.specs.Moments.{IsMoment, Moment}
+
+abbrev pub untold : ℕ → Moment
+untold faults = record {
+  reads = None;
+  images = IsBytes;
+  clock = 0;
+  since = λ t. IsBytes;
+  faults = faults;
+}
+
+pub untold_is_moment : (faults : ℕ) → IsMoment (untold faults)
+untold_is_moment faults = record {
+  bytes = λ image left. left;
+  reads = tt;
+  counts = λ t image le left. left;
+  only = λ image left. left;
+}

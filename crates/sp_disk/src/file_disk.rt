@@ -1,0 +1,212 @@
+//! The edge where a file of the operating system is a disk. What it holds, and what a crash leaves of
+//! it, is trusted here, and nowhere above.
+
+ghost use Rattle.std.specs.Prelude.{◌≡◌, ◌+◌, ◌^◌, ◌<◌, ◌≤◌, length, IfOk, IfSome, None, Ok};
+ghost use Rattle.sp_io.specs.Causes.{CountsFault, HasCause};
+ghost use Rattle.sp_disk.specs.Moments.{GivesFrom, Looks, Syncs, Writes};
+ghost use Rattle.sp_disk.specs.Untold.{untold, untold_is_moment};
+
+use crate::disk::Disk;
+use sp_io::Failed;
+use std::fs::{Files, OpenFile, OpenOptions};
+use std::io;
+use std::io::{Read, Seek, SeekFrom, Write};
+
+/// A file of the operating system as a disk. It tells nothing of its bytes, so contracts say of it only
+/// that its calls are safe, that each failed one is counted, and that no other one is.
+///
+/// Of the real file this is assumed, and shown by no proof and no test:
+///
+/// - The file holds what was written, and a read gives it, as long as nobody else writes the file, cuts
+///   it, moves it or puts another one in its place.
+/// - After a sync that succeeds (`fsync` on Unix) its bytes and its length last over a crash, and so does
+///   the folder's entry of a file that was made by this disk; the folder isn't synced here.
+/// - A crash between two syncs changes no byte outside the written ranges, and leaves a length from the
+///   one at the last sync to the greatest that the writes reach.
+///
+/// Want of memory in the system counts as a fault of the call.
+#[derive(Drop)]
+pub struct FileDisk<'a, R: Files> {
+    rt: &'a R,
+    path: &'a str,
+    make: bool,
+    file: Option<R::File>,
+    faults: u64,
+}
+
+impl<'a, R: Files> FileDisk<'a, R> {
+    /// The file of this path, which is opened at the first call, and made then where `make` says so
+    /// and it isn't there.
+    pub fn new(rt: &'a R, path: &'a str, make: bool) -> FileDisk<'a, R>
+        ensures untold { (⟦<FileDisk<'a, R> as Disk>⟧.now result).reads ≡ None }
+        ensures faults { (⟦<FileDisk<'a, R> as Disk>⟧.now result).faults ≡ 0 }
+        ensures path { result.path.now ≡ path.now }
+        ensures make { result.make ≡ make }
+    {
+        FileDisk {
+            rt,
+            path,
+            make,
+            file: None,
+            faults: 0,
+        }
+    }
+
+    fn open(&mut self) -> io::Result<()>
+        ensures { self.new.faults ≡ self.old.faults }
+    {
+        if self.file.is_none() {
+            let mut how = OpenOptions::new();
+            how.read(true).write(true).create(self.make);
+            self.file = Some(self.rt.open_file(&how, self.path)?);
+        }
+        Ok(())
+    }
+
+    fn file_len(&mut self) -> io::Result<u64>
+        ensures { self.new.faults ≡ self.old.faults }
+    {
+        self.open()?;
+        match &self.file {
+            Some(file) => Ok(file.metadata()?.len()),
+            None => Ok(0),
+        }
+    }
+
+    fn file_sync(&mut self) -> io::Result<()>
+        ensures { self.new.faults ≡ self.old.faults }
+    {
+        self.open()?;
+        match &self.file {
+            Some(file) => file.sync_all(),
+            None => Ok(()),
+        }
+    }
+
+    fn file_read(&mut self, at: u64, out: &mut [u8]) -> io::Result<usize>
+        ensures bound { IfOk result (λ n. n ≤ length out.new) }
+        ensures faults { self.new.faults ≡ self.old.faults }
+    {
+        self.open()?;
+        match &mut self.file {
+            Some(file) => {
+                file.seek(SeekFrom::Start(at))?;
+                read_whole(file, out)
+            }
+            None => Ok(0),
+        }
+    }
+
+    fn file_write(&mut self, at: u64, bytes: &[u8]) -> io::Result<()>
+        ensures { self.new.faults ≡ self.old.faults }
+    {
+        self.open()?;
+        match &mut self.file {
+            Some(file) => {
+                file.seek(SeekFrom::Start(at))?;
+                file.write_all(bytes)
+            }
+            None => Ok(()),
+        }
+    }
+}
+
+/// Reads until `out` is full or the file ends.
+fn read_whole<F: Read>(file: &mut F, out: &mut [u8]) -> io::Result<usize>
+    ensures bound { IfOk result (λ n. n ≤ length out.new) }
+    ensures length { length out.new ≡ length out.old }
+{
+    let mut count = 0;
+    'pieces: while count < out.len() {
+        let got = file.read(&mut out[count..])?;
+        if got == 0 {
+            return Ok(count);
+        }
+        count += got;
+    }
+    Ok(count)
+}
+
+/// Counts a fault where a call failed. The count stays at 2^64 - 1 once it is there.
+fn count<T: Drop, E: Drop>(outcome: Result<T, E>, faults: &mut u64) -> Result<T, Failed>
+    ensures counted { CountsFault faults.old faults.new result }
+    ensures later { faults.old ≤ faults.new }
+    ensures same { IfOk result (λ found. outcome ≡ Ok found) }
+{
+    match outcome {
+        Ok(found) => Ok(found),
+        Err(_) => {
+            *faults = faults.saturating_add(1);
+            Err(Failed)
+        }
+    }
+}
+
+#[tactic(auto, using(crate::proofs::UntoldCalls::untold_looks, crate::proofs::UntoldCalls::untold_syncs, crate::proofs::UntoldCalls::untold_writes))]
+impl<'a, R: Files> Disk for FileDisk<'a, R> {
+    ghost now = { λ d. untold d.faults };
+
+    ghost is_moment = { λ d. untold_is_moment d.faults };
+
+    /// The number of bytes that the system says the file has.
+    ///
+    /// # Errors
+    ///
+    /// `Failed` where the file can't be opened, or the system doesn't say its length.
+    fn len(&mut self) -> Result<u64, Failed>
+        ensures length { IfOk result (λ n. IfSome (⟦<FileDisk<'a, R> as Disk>⟧.now self.old).reads (λ bytes. n ≡ length bytes)) }
+        ensures looks { Looks (⟦<FileDisk<'a, R> as Disk>⟧.now self.old) (⟦<FileDisk<'a, R> as Disk>⟧.now self.new) }
+        ensures cause { HasCause (⟦<FileDisk<'a, R> as Disk>⟧.now self.old).faults (⟦<FileDisk<'a, R> as Disk>⟧.now self.new).faults result }
+        ensures fault { CountsFault (⟦<FileDisk<'a, R> as Disk>⟧.now self.old).faults (⟦<FileDisk<'a, R> as Disk>⟧.now self.new).faults result }
+    {
+        let outcome = self.file_len();
+        count(outcome, &mut self.faults)
+    }
+
+    /// Reads until `out` is full or the file ends.
+    ///
+    /// # Errors
+    ///
+    /// `Failed` where the file can't be opened, the place is past those that the system knows, or a read
+    /// fails; what then stands in `out` is left open.
+    fn read_at(&mut self, at: u64, out: &mut [u8]) -> Result<usize, Failed>
+        ensures bound { IfOk result (λ n. n ≤ length out.new) }
+        ensures bytes { IfSome (⟦<FileDisk<'a, R> as Disk>⟧.now self.old).reads (λ bytes. GivesFrom at bytes out.old out.new result) }
+        ensures looks { Looks (⟦<FileDisk<'a, R> as Disk>⟧.now self.old) (⟦<FileDisk<'a, R> as Disk>⟧.now self.new) }
+        ensures cause { HasCause (⟦<FileDisk<'a, R> as Disk>⟧.now self.old).faults (⟦<FileDisk<'a, R> as Disk>⟧.now self.new).faults result }
+        ensures fault { CountsFault (⟦<FileDisk<'a, R> as Disk>⟧.now self.old).faults (⟦<FileDisk<'a, R> as Disk>⟧.now self.new).faults result }
+    {
+        let outcome = self.file_read(at, out);
+        count(outcome, &mut self.faults)
+    }
+
+    /// Writes all bytes at the place, behind the end too.
+    ///
+    /// # Errors
+    ///
+    /// `Failed` where the file can't be opened or a write fails; any part of the bytes may stand then.
+    fn write_at(&mut self, at: u64, bytes: &[u8]) -> Result<(), Failed>
+        requires place { IfSome (⟦<FileDisk<'a, R> as Disk>⟧.now self.old).reads (λ before. at ≤ length before) }
+        requires end { at + length bytes.now < 2 ^ 63 }
+        ensures writes { Writes at bytes.now (⟦<FileDisk<'a, R> as Disk>⟧.now self.old) (⟦<FileDisk<'a, R> as Disk>⟧.now self.new) result }
+        ensures cause { HasCause (⟦<FileDisk<'a, R> as Disk>⟧.now self.old).faults (⟦<FileDisk<'a, R> as Disk>⟧.now self.new).faults result }
+        ensures fault { CountsFault (⟦<FileDisk<'a, R> as Disk>⟧.now self.old).faults (⟦<FileDisk<'a, R> as Disk>⟧.now self.new).faults result }
+    {
+        let outcome = self.file_write(at, bytes);
+        count(outcome, &mut self.faults)
+    }
+
+    /// Asks the system to sync the file's bytes and its length.
+    ///
+    /// # Errors
+    ///
+    /// `Failed` where the file can't be opened or the sync fails.
+    fn sync(&mut self) -> Result<(), Failed>
+        ensures syncs { Syncs (⟦<FileDisk<'a, R> as Disk>⟧.now self.old) (⟦<FileDisk<'a, R> as Disk>⟧.now self.new) result }
+        ensures cause { HasCause (⟦<FileDisk<'a, R> as Disk>⟧.now self.old).faults (⟦<FileDisk<'a, R> as Disk>⟧.now self.new).faults result }
+        ensures fault { CountsFault (⟦<FileDisk<'a, R> as Disk>⟧.now self.old).faults (⟦<FileDisk<'a, R> as Disk>⟧.now self.new).faults result }
+    {
+        let outcome = self.file_sync();
+        count(outcome, &mut self.faults)
+    }
+}
