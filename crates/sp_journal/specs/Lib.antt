@@ -1,0 +1,13 @@
+pub mod Judged
+pub mod Format
+pub mod Journal
+pub mod Records
+pub mod Gates
+pub mod Settled
+pub mod Writer
+pub mod Creation
+pub mod Recovery
+pub mod Opening
+pub mod Prefixes
+pub mod Laws
+pub mod Examples
