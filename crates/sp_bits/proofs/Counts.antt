@@ -6,7 +6,7 @@ use Rattle.std.proofs.lemmas.Bool.{cases_lt, or_left, or_right, or_cases, eq-eqb
 use Rattle.std.proofs.lemmas.List.Elements.{filter-append}
 use Rattle.sp_bits.specs.Places.{has, places_where, members_below, IsGreatest}
 use Rattle.sp_bits.specs.Members.{has-filter}
-use Rattle.sp_bits.specs.Truths.{at, IsLast}
+use Rattle.sp_bits.specs.Words.{bit_in, IsLast}
 use Rattle.sp_bits.proofs.Sets.{has-view}
 
 range_more : (a n j : ℕ) → a + n ≡ j → range_with_len a (suc n) ≡ range_with_len a n ++ j ∷ []
@@ -112,30 +112,30 @@ has-small test k h =
     has-range_small 0 512 k parts.0
 
 -- whether the other row has each place of a row
-pub within-view : (one other : List Bool) (s t : List ℕ) → places_where (at one) ≡ s → places_where (at other) ≡ t
-    → list_all (at other) (places_where (at one)) ≡ list_all (has t) s
+pub within-view : (one other : ℕ → Bool) (s t : List ℕ) → places_where one ≡ s → places_where other ≡ t
+    → list_all other (places_where one) ≡ list_all (has t) s
 within-view one other s t own others =
-    all_same (at other) (has t) (places_where (at one)) (λ k there. has-view other t k others (has-small (at one) k there))
+    all_same other (has t) (places_where one) (λ k there. has-view other t k others (has-small one k there))
     ∙ ap (list_all (has t)) own
 
 -- a set is the true places of the first `end`
-pub record AreTrueBelow (truths : List Bool) (end : ℕ) (set : List ℕ) : Type 0 where
-  pub into : (k : ℕ) → has set k ≡ true → (k < end) × (at truths k ≡ true)
-  pub from : (k : ℕ) → k < end → at truths k ≡ true → has set k ≡ true
+pub record AreTrueBelow (words : List ℕ) (end : ℕ) (set : List ℕ) : Type 0 where
+  pub into : (k : ℕ) → has set k ≡ true → (k < end) × (bit_in words k ≡ true)
+  pub from : (k : ℕ) → k < end → bit_in words k ≡ true → has set k ≡ true
 
-pub AreTrueBelow-all : (truths : List Bool) (set : List ℕ) → places_where (at truths) ≡ set → AreTrueBelow truths 512 set
-AreTrueBelow-all truths set is = record {
+pub AreTrueBelow-all : (words : List ℕ) (set : List ℕ) → places_where (bit_in words) ≡ set → AreTrueBelow words 512 set
+AreTrueBelow-all words set is = record {
   into = λ k there.
-      let in_view : has (places_where (at truths)) k ≡ true = ap (λ (l : List ℕ). has l k) is ∙ there in
-      let small : k < 512 = has-small (at truths) k in_view in
-      (small, has-view truths set k is small ∙ there);
-  from = λ k le here. sym (has-view truths set k is le) ∙ here;
+      let in_view : has (places_where (bit_in words)) k ≡ true = ap (λ (l : List ℕ). has l k) is ∙ there in
+      let small : k < 512 = has-small (bit_in words) k in_view in
+      (small, has-view (bit_in words) set k is small ∙ there);
+  from = λ k le here. sym (has-view (bit_in words) set k is le) ∙ here;
 }
 
-pub AreTrueBelow-end : (truths : List Bool) (set : List ℕ) (end : ℕ) → end < 512 → places_where (at truths) ≡ set
-    → AreTrueBelow truths end (members_below set end)
-AreTrueBelow-end truths set end small is =
-    let all = AreTrueBelow-all truths set is in
+pub AreTrueBelow-end : (words : List ℕ) (set : List ℕ) (end : ℕ) → end < 512 → places_where (bit_in words) ≡ set
+    → AreTrueBelow words end (members_below set end)
+AreTrueBelow-end words set end small is =
+    let all = AreTrueBelow-all words set is in
     record {
       into = λ k there.
           let parts = and_parts (has set k) (nat_lt k end) (sym (has-filter (λ p. nat_lt p end) set k) ∙ there) in
@@ -145,8 +145,8 @@ AreTrueBelow-end truths set end small is =
     }
 
 -- the last true place is the greatest
-pub greatest : (truths : List Bool) (end : ℕ) (set : List ℕ) (place : ℕ) → AreTrueBelow truths end set → IsLast truths end place → IsGreatest set place
-greatest truths end set place are last = record {
+pub greatest : (words : List ℕ) (end : ℕ) (set : List ℕ) (place : ℕ) → AreTrueBelow words end set → IsLast words end place → IsGreatest set place
+greatest words end set place are last = record {
   member = are.from place last.below last.here;
   most = λ p there.
       let known = are.into p there in
@@ -161,15 +161,15 @@ empty_set [] h = refl
 empty_set (x ∷ xs) h = absurd (h x (or_left (eqb x x) (has xs x) (eq-eqb x x refl)))
 
 -- there is no last true place exactly where the set is empty
-pub none_where_empty : (truths : List Bool) (end : ℕ) (set : List ℕ) (found : Option ℕ) → AreTrueBelow truths end set
-    → IfSome found (IsLast truths end) → IfNone found ((k : ℕ) → k < end → at truths k ≡ false)
+pub none_where_empty : (words : List ℕ) (end : ℕ) (set : List ℕ) (found : Option ℕ) → AreTrueBelow words end set
+    → IfSome found (IsLast words end) → IfNone found ((k : ℕ) → k < end → bit_in words k ≡ false)
     → IsNone found ↔ (set ≡ [])
-none_where_empty truths end set None are some none =
+none_where_empty words end set None are some none =
     (λ _. empty_set set (λ k there. (let known = are.into k there in false≢true (sym (none k known.0) ∙ known.1))), λ _. refl)
-none_where_empty truths end set (Some place) are some none =
+none_where_empty words end set (Some place) are some none =
     (λ is. absurd (false≢true (sym is)), λ e. absurd (false≢true (sym (ap (λ (l : List ℕ). has l place) e) ∙ are.from place some.below some.here)))
 
-pub greatest_found : (truths : List Bool) (end : ℕ) (set : List ℕ) (found : Option ℕ) → AreTrueBelow truths end set
-    → IfSome found (IsLast truths end) → IfSome found (IsGreatest set)
-greatest_found truths end set None are some = some
-greatest_found truths end set (Some place) are some = greatest truths end set place are some
+pub greatest_found : (words : List ℕ) (end : ℕ) (set : List ℕ) (found : Option ℕ) → AreTrueBelow words end set
+    → IfSome found (IsLast words end) → IfSome found (IsGreatest set)
+greatest_found words end set None are some = some
+greatest_found words end set (Some place) are some = greatest words end set place are some

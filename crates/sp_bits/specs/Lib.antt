@@ -1,3 +1,3 @@
 pub mod Places
 pub mod Members
-pub mod Truths
+pub mod Words

@@ -4,6 +4,6 @@
 #![tactic(auto)]
 
 mod row;
-mod truths;
+mod words;
 
 pub use row::Row;

@@ -1,34 +1,35 @@
-//! A row of places. For now it is one truth value for each place; nothing outside this file and
-//! `truths` knows that.
+//! A row of places. It is a bit for each place, in eight words of 64; nothing outside this file and
+//! `words` knows that but the two calls that give and take the words.
 
 ghost use Rattle.std.specs.Prelude.{◌≡◌, ◌<◌, ◌≤◌, ◌==◌, ◌||◌, ◌&&◌, ◌↔◌, not, ℕ, [], length, pos, ◌-ℤ◌, IfSome, IsNone};
 ghost use Rattle.std.specs.List.{list_all};
 ghost use Rattle.sp_bits.specs.Places.{has, places_where, union, meet, difference, members_below, IsRow, IsGreatest};
+ghost use Rattle.sp_bits.specs.Words.{bit_in, words_of};
 
-use crate::truths::{count_both, implies, last_before};
+use crate::words::{count_both, count_two, implies, last_before, last_of};
 use std::marker::Model;
 
 /// A set of places below 512. Contracts see the ascending list of them. It has one size,
-/// whatever its places.
+/// whatever its places. A copy takes no memory.
 #[derive(Clone, Copy)]
 pub struct Row {
-    places: [bool; 512],
+    words: [u64; 8],
 }
 
 impl Model for Row {
-    ghost use Rattle.std.specs.Prelude.{◌≡◌, ℕ, List, length, refl};
+    ghost use Rattle.std.specs.Prelude.{◌≡◌, ℕ, List, refl};
     ghost use Rattle.sp_bits.specs.Places.{places_where};
-    ghost use Rattle.sp_bits.specs.Truths.{at, truths_of, truths_of_places};
+    ghost use Rattle.sp_bits.specs.Words.{bit_in, words_of, words_of_places, AreWords};
 
     ghost Value = { List ℕ };
 
-    ghost view = { λ row. places_where (at row.places) };
+    ghost view = { λ row. places_where (bit_in row.words) };
 
-    ghost invariant = { λ row. length row.places ≡ 512 };
+    ghost invariant = { λ row. AreWords row.words };
 
-    ghost inverse = { λ set. record { places = truths_of set } };
+    ghost inverse = { λ set. record { words = words_of set } };
 
-    ghost inverse_ok = { λ row long. rw (truths_of_places row.places long) refl };
+    ghost inverse_ok = { λ row are. rw (words_of_places row.words are) refl };
 }
 
 impl Row {
@@ -36,9 +37,18 @@ impl Row {
     pub fn empty() -> Row
         ensures { result ≡ [] }
     {
-        Row {
-            places: [false; 512],
-        }
+        Row { words: [0; 8] }
+    }
+
+    /// The row of the places that eight words stand for: place p is bit p % 64, counted from the
+    /// lowest, of word p / 64.
+    pub fn from_words(words: &[u64]) -> Row
+        requires { length words.now ≡ 8 }
+        ensures { result ≡ places_where (bit_in words.now) }
+    {
+        let mut own = [0; 8];
+        own.copy_from_slice(words);
+        Row { words: own }
     }
 
     /// Adds a place, in a bounded number of steps.
@@ -46,7 +56,7 @@ impl Row {
         requires { place < 512 }
         ensures { self.new ≡ places_where (λ p. has self.old p || (p == place)) }
     {
-        self.places[place as usize] = true;
+        self.words[place as usize / 64] |= 1 << (place % 64);
     }
 
     /// Takes a place out, in a bounded number of steps.
@@ -54,7 +64,7 @@ impl Row {
         requires { place < 512 }
         ensures { self.new ≡ places_where (λ p. has self.old p && not (p == place)) }
     {
-        self.places[place as usize] = false;
+        self.words[place as usize / 64] &= !(1 << (place % 64));
     }
 
     /// Whether it has the place, in a bounded number of steps. What a row is stands here too, for each caller: the
@@ -64,86 +74,95 @@ impl Row {
         ensures value { result ≡ has self.now place }
         ensures row { IsRow self.now }
     {
-        self.places[place as usize]
+        (self.words[place as usize / 64] >> (place % 64)) & 1 == 1
     }
 
-    /// The union with another row, in about 512 steps.
+    /// The union with another row, in eight steps.
     pub fn or_with(&mut self, other: &Row)
         ensures { self.new ≡ union self.old other.now }
     {
-        'places: for place in 0..512 {
-            self.places[place] = self.places[place] || other.places[place];
+        'words: for word in 0..8 {
+            self.words[word] |= other.words[word];
         }
     }
 
-    /// The meet with another row, in about 512 steps.
+    /// The meet with another row, in eight steps.
     pub fn and_with(&mut self, other: &Row)
         ensures { self.new ≡ meet self.old other.now }
     {
-        'places: for place in 0..512 {
-            self.places[place] = self.places[place] && other.places[place];
+        'words: for word in 0..8 {
+            self.words[word] &= other.words[word];
         }
     }
 
-    /// Takes the places of another row out, in about 512 steps.
+    /// Takes the places of another row out, in eight steps.
     pub fn without(&mut self, other: &Row)
         ensures { self.new ≡ difference self.old other.now }
     {
-        'places: for place in 0..512 {
-            self.places[place] = self.places[place] && !other.places[place];
+        'words: for word in 0..8 {
+            self.words[word] &= !other.words[word];
         }
     }
 
-    /// Whether the other row has each of its places, in about 512 steps.
+    /// Whether the other row has each of its places, in eight steps at most.
     pub fn within(&self, other: &Row) -> bool
         ensures { result ≡ list_all (has other.now) self.now }
     {
-        implies(&self.places, &other.places)
+        implies(&self.words, &other.words)
     }
 
-    /// How many places it has, from 0 to 512, in about 512 steps. What a row is stands here
+    /// How many places it has, from 0 to 512, in eight steps. What a row is stands here
     /// too, for each caller: the list ascends, and each place of it is below 512.
     pub fn count(&self) -> u32
         ensures value { result ≡ length self.now }
         ensures bound { result ≤ 512 }
         ensures row { IsRow self.now }
     {
-        count_both(&self.places, &self.places)
+        count_both(&self.words, &self.words)
     }
 
-    /// How many places both rows have, from 0 to 512, in about 512 steps.
+    /// How many places both rows have, from 0 to 512, in eight steps.
     pub fn count_and(&self, other: &Row) -> u32
         ensures value { result ≡ length (meet self.now other.now) }
         ensures bound { result ≤ 512 }
     {
-        count_both(&self.places, &other.places)
+        count_both(&self.words, &other.words)
     }
 
-    /// How many places it shares with `plus`, less how many it shares with `minus`, in about
-    /// 1,024 steps.
+    /// How many places it shares with `plus`, less how many it shares with `minus`: from -512 to
+    /// 512, in eight steps.
     pub fn balance(&self, plus: &Row, minus: &Row) -> i32
         ensures { result ≡
             pos (length (meet self.now plus.now)) -ℤ pos (length (meet self.now minus.now)) }
     {
-        self.count_and(plus) as i32 - self.count_and(minus) as i32
+        let (more, less) = count_two(&self.words, &plus.words, &minus.words);
+        more as i32 - less as i32
     }
 
-    /// Its greatest place, in about 512 steps at most.
+    /// Its greatest place, in eight steps at most.
     pub fn highest(&self) -> Option<u16>
         ensures some { IfSome result (IsGreatest self.now) }
         ensures none { IsNone result ↔ (self.now ≡ []) }
         ensures range { IfSome result (λ place. place < 512) }
     {
-        last_before(&self.places, 512)
+        last_of(&self.words, 8)
     }
 
-    /// Its greatest place below this one, in about so many steps at most.
+    /// Its greatest place below this one, in eight steps at most.
     pub fn highest_below(&self, place: u16) -> Option<u16>
         requires { place < 512 }
         ensures some { IfSome result (IsGreatest (members_below self.now place)) }
         ensures none { IsNone result ↔ (members_below self.now place ≡ []) }
         ensures range { IfSome result (λ found. found < place) }
     {
-        last_before(&self.places, place)
+        last_before(&self.words, place)
+    }
+
+    /// Its eight words: place p is bit p % 64, counted from the lowest, of word p / 64.
+    pub fn words(&self) -> &[u64]
+        ensures words { result.now ≡ words_of self.now }
+        ensures places { places_where (bit_in result.now) ≡ self.now }
+    {
+        &self.words
     }
 }

@@ -1,0 +1,8 @@
+use Rattle.std.proofs.Common.{◌≡◌, ◌*◌, ◌+◌, ◌-◌, ◌<◌, ◌^◌, arith, ap, add-one, sym}
+use Rattle.std.proofs.lemmas.Nat.{leading_top}
+use lib.Count.{count_leading_zeros}
+use Rattle.sp_bits.proofs.Bits.{top-of}
+use Rattle.sp_bits.proofs.words.top_of.Goals as goal
+
+pub returns-clause-some : goal.returns-clause-some
+returns-clause-some c = top-of c.args.word c.args.number (omega (arith, c.if-word-eq0.false)) c.ranges.word.fits
