@@ -1,0 +1,8 @@
+pub mod Chains
+pub mod Keeps
+pub mod LiveRows
+pub mod Lives
+pub mod Memory
+pub mod Runs
+pub mod Sharing
+pub mod Stores

@@ -1,0 +1,105 @@
+//! Chunks as one store of rows, by number. A chunk is never given back before the last of them is.
+
+ghost use Rattle.std.specs.Prelude.{◌≡◌, ◌<◌, ◌≤◌, ◌*◌, ◌++◌, ◌∷◌, [], ℕ, length, replicate, OnOk, OnErr, slice_set};
+ghost use Rattle.std.specs.Borrow.{sem};
+
+use crate::chunk::{Chunk, ROWS};
+use sp_ids::Memory;
+use std::alloc::Global;
+use std::marker::Model;
+
+/// Chunks of 256 rows. Contracts see the list of the words of each.
+#[derive(Drop)]
+pub struct Chunks {
+    list: Vec<Chunk>,
+}
+
+impl Model for Chunks {
+    ghost use Rattle.std.specs.Prelude.{ℕ, List};
+
+    ghost Value = { List (List ℕ) };
+
+    ghost view = { λ c. c.list.items };
+}
+
+impl Chunks {
+    ghost use Rattle.sp_rows.specs.ChunksLends.{lends_words};
+    ghost use Rattle.sp_rows.specs.Kept.{words_at, with_words_at, link_at, Grows};
+
+    /// No chunks.
+    pub(crate) fn new(alloc: Global) -> Chunks
+        ensures { result ≡ [] }
+    {
+        Chunks {
+            list: Vec::new(alloc),
+        }
+    }
+
+    /// Makes room for one more row than there are, if need be by a chunk of zeros.
+    pub(crate) fn make_room(&mut self, alloc: Global, rows: usize) -> Result<(), Memory>
+        requires { rows ≤ 256 * length self.old }
+        ensures ok { OnOk result (rows < 256 * length self.new) }
+        ensures err { OnErr result (self.new ≡ self.old) }
+        ensures grows { Grows self.old self.new }
+    {
+        if rows / ROWS == self.list.len() {
+            self.add(alloc)?;
+        }
+        Ok(())
+    }
+
+    // Adds a chunk of zeros.
+    fn add(&mut self, alloc: Global) -> Result<(), Memory>
+        ensures ok { OnOk result (self.new ≡ self.old ++ replicate 2048 0 ∷ []) }
+        ensures err { OnErr result (self.new ≡ self.old) }
+    {
+        self.list.reserve(1)?;
+        let chunk = Chunk::new(alloc)?;
+        self.list.push_reserved(chunk);
+        Ok(())
+    }
+
+    /// The words of a row.
+    pub(crate) fn words(&self, id: u32) -> &[u64]
+        requires { id < 256 * length self.now }
+        ensures value { result.now ≡ words_at self.now id }
+        ensures eight { length result.now ≡ 8 }
+    {
+        self.list[id as usize / ROWS].words(id as usize % ROWS)
+    }
+
+    /// The same, to be written.
+    pub(crate) fn words_mut(&mut self, id: u32) -> &mut [u64]
+        requires { id < 256 * length self.old }
+        ensures* writes_back { sem 𝓛 (lends_words self.entry id result) }
+        ensures value { result.now ≡ words_at self.old id }
+        ensures eight { length result.now ≡ 8 }
+    {
+        let chunk = &mut self.list[id as usize / ROWS];
+        chunk.words_mut(id as usize % ROWS)
+    }
+
+    /// The number in a row's first word.
+    pub(crate) fn link(&self, id: u32) -> u64
+        requires { id < 256 * length self.now }
+        ensures { result ≡ link_at self.now id }
+    {
+        self.words(id)[0]
+    }
+
+    /// Writes a row's first word.
+    pub(crate) fn set_link(&mut self, id: u32, to: u64)
+        requires { id < 256 * length self.old }
+        ensures { self.new ≡ with_words_at self.old id (slice_set (words_at self.old id) 0 to) }
+    {
+        self.words_mut(id)[0] = to;
+    }
+
+    /// Makes a row's words zero.
+    pub(crate) fn clear(&mut self, id: u32)
+        requires { id < 256 * length self.old }
+        ensures { self.new ≡ with_words_at self.old id (replicate 8 0) }
+    {
+        self.words_mut(id).fill(0);
+    }
+}
