@@ -3,8 +3,10 @@ use Rattle.std.proofs.Common.{◌≡◌, ℕ, zero, suc, ◌+◌, ◌-◌, ◌*�
 use Rattle.std.proofs.lemmas.Bool.{eq-eqb, ne_eqb}
 use Rattle.std.proofs.lemmas.List.{length-set, set-get_or}
 use Rattle.std.specs.List.{refill}
+use Rattle.std.specs.Prelude.{Ok, Err, OnErr}
+use Rattle.std.specs.declared.result.Result.{Result}
 use Rattle.sp_rows.specs.Pool.{Counted, Pool, count_of, words_of, with_row, without_row, with_count, with_words, taken, given, overwritten, AreRows}
-use Rattle.sp_rows.specs.Kept.{words_at, with_words_at, link_at, live_rows, AreWhole, Grows, IsPassed, IsChain, IsKept}
+use Rattle.sp_rows.specs.Kept.{words_at, with_words_at, link_at, live_rows, AreWhole, Grows, IsPassed, IsChain, IsKept, IsMore}
 use Rattle.sp_rows.proofs.Chains.{IsChain-moves, IsPassed-live, IsPassed-new}
 use Rattle.sp_rows.proofs.Lives.{live_rows-same, live_rows-set, live_rows-clear, live_rows-more, count_of-live, words_of-live, length-live_taken, length-live_counted, length-live_given, AreRows-live}
 use Rattle.sp_rows.proofs.Stores.{refill-eight, AreWhole-with, words_at-same, words_at-other, length-words_at}
@@ -263,3 +265,26 @@ module _ (chunks : List (List ℕ)) (counts : List ℕ) (first spare live : ℕ)
       ap (λ (l : List Counted). record { rows = l; spare = spare }) (counted-rows chunks counts first spare live kept id (n - 1) had more ∙ ap (λ (k : ℕ). with_count seen.rows id (k - 1)) is)
       ∙ sym (ap (λ (c : Bool). cond c (record { rows = without_row seen.rows id; spare = spare + 1 }) (record { rows = with_count seen.rows id (count_of seen.rows id - 1); spare = spare }))
       (ne_eqb (count_of seen.rows id) 1 (λ e. omega (arith, e, is, more)))))
+
+-- one more row is kept
+pub IsMore-one : (chunks : List (List ℕ)) (counts : List ℕ) (first n : ℕ) (chunks' : List (List ℕ)) (counts' : List ℕ) (first' : ℕ) → IsMore chunks counts first n chunks' counts' first'
+    → length counts' < 256 * length chunks' → length counts' < 2 ^ 31
+    → IsMore chunks counts first (n + 1) (with_words_at chunks' (length counts') (set (words_at chunks' (length counts')) 0 first')) (counts' ++ 0 ∷ []) (length counts')
+IsMore-one chunks counts first n chunks' counts' first' is room few = λ spare live kept.
+    let had = is spare live kept in let id = length counts' in
+    let own = set (words_at chunks' id) 0 first' in
+    let differs = Differs-with chunks' id own had.0.whole room in
+    let all : spare + n + 1 ≡ spare + (n + 1) = omega arith in (
+      subst (λ (k : ℕ). IsKept (with_words_at chunks' id own) (counts' ++ 0 ∷ []) id k live) all
+          (added-kept chunks' counts' first' (spare + n) live had.0 (with_words_at chunks' id own) differs (linked chunks' id first' had.0.whole room) room few),
+      added-rows chunks' counts' first' (spare + n) live had.0 (with_words_at chunks' id own) differs ∙ had.1,
+    )
+
+-- none more
+pub IsMore-none : (chunks : List (List ℕ)) (counts : List ℕ) (first : ℕ) → IsMore chunks counts first 0 chunks counts first
+IsMore-none chunks counts first = λ spare live kept. (let none : spare ≡ spare + 0 = omega arith in (subst (λ (k : ℕ). IsKept chunks counts first k live) none kept, refl))
+
+-- what holds in any case
+pub on_err : {X E : Type 0} {P : Type 0} (r : Result X E) → P → OnErr r P
+on_err (Ok x) holds = tt
+on_err (Err e) holds = holds

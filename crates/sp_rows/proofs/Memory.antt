@@ -6,7 +6,7 @@
 --     eight_seen      of words that are lent, eight are lent
 --     big      a large constant
 --     answer_cases      what the allocator answered: room with the right to free it, or nothing
-use Rattle.std.proofs.Common.{◌≡◌, ℕ, zero, suc, ◌+◌, ◌-◌, ◌*◌, ◌<◌, ◌≤◌, ◌^◌, List, [], ◌∷◌, ◌++◌, length, take, drop, refl, sym, ap, ◌∙◌, subst, arith, length-append, take-append-drop, w64, true, false}
+use Rattle.std.proofs.Common.{◌≡◌, ℕ, zero, suc, ◌+◌, ◌*◌, ◌<◌, ◌≤◌, ◌^◌, List, [], ◌∷◌, ◌++◌, length, take, drop, refl, sym, ap, ◌∙◌, subst, arith, take-append-drop, w64, true, false}
 use Rattle.std.proofs.lemmas.List.{length-take, length-drop}
 use lib.Seq.{drop-drop}
 use seplogic.Ra.Ura.{Ura}
@@ -20,7 +20,7 @@ use types.SemTy.{cells}
 use types.Match.{live}
 use types.Run.{Opd}
 use prog.Wp.{Env}
-use types.Kit.{Item, Goal, Seq, ‵, ◌⊛◌, ◌$◌, ◌∵◌, !, qed, by, move, use1, use2, drop as skip, split, fsplit, fjoin, fpick, fpack, feq_i, feq_l, frame, rewrite, keep, use0, done}
+use types.Kit.{Item, Goal, Seq, ‵, ◌⊛◌, ◌$◌, ◌∵◌, !, qed, by, move, use1, use2, drop as skip, split, fsplit, fjoin, fpick, fpack, feq_i, feq_l, rewrite, keep, use0, done}
 use denote.Builtin.{u64}
 use denote.Memory.{mem, part_at, shared_of}
 use denote.Plain.{uint_out}

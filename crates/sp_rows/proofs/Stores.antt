@@ -4,7 +4,7 @@ use Rattle.std.specs.List.{refill, length_refill}
 use Rattle.std.proofs.lemmas.Bool.{cases_lt, cases_eq}
 use Rattle.std.proofs.lemmas.List.{same_lists, get_or-take, get_or-drop, get_or_append_left, get_or-append_right, length-take, length-set, take_at}
 use Rattle.sp_rows.specs.Rows.{row_of, with_row_of}
-use Rattle.sp_rows.specs.Kept.{words_at, with_words_at, AreWhole}
+use Rattle.sp_rows.specs.Kept.{words_at, with_words_at, AreWhole, Grows}
 use Rattle.sp_rows.proofs.Runs.{length-row_of, length-with_row_of}
 
 -- eight words in place of eight others are these
@@ -116,3 +116,14 @@ AreWhole-append chunks new whole long k le = by (cases_lt k (length chunks))
     by (inr at) =
         (let last : k - length chunks ≡ 0 = omega (arith, le, length-append chunks (new ∷ [])) in
         ap length (get_or-append_right chunks (new ∷ []) (length chunks) k [] refl at ∙ ap (λ (j : ℕ). get_or (new ∷ []) j []) last) ∙ long)
+
+-- chunks that more chunks follow
+pub Grows-refl : (chunks : List (List ℕ)) → Grows chunks chunks
+Grows-refl chunks = record { longer = omega arith; same = λ id le. refl; whole = λ all. all }
+
+pub Grows-more : (old new : List (List ℕ)) (chunk : List ℕ) → length chunk ≡ 2048 → Grows old new → Grows old (new ++ chunk ∷ [])
+Grows-more old new chunk long grows = record {
+  longer = omega (arith, grows.longer, length-append new (chunk ∷ []));
+  same = λ id le. words_at-append new chunk id (omega (arith, grows.longer, le)) ∙ grows.same id le;
+  whole = λ all. AreWhole-append new chunk (grows.whole all) long;
+}

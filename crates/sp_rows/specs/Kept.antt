@@ -49,3 +49,9 @@ pub record IsKept (chunks : List (List ℕ)) (counts : List ℕ) (first spare li
   pub all : live + spare ≡ length counts
   pub counted : live ≡ length (live_rows (words_at chunks) 0 counts)
   pub free : IsChain (link_at chunks) counts first spare
+
+-- so many more rows are kept, which are free, and the live rows stay
+abbrev pub IsMore : List (List ℕ) → List ℕ → ℕ → ℕ → List (List ℕ) → List ℕ → ℕ → Type 0
+IsMore chunks counts first more chunks' counts' first' =
+    (spare live : ℕ) → IsKept chunks counts first spare live
+    → IsKept chunks' counts' first' (spare + more) live × (live_rows (words_at chunks') 0 counts' ≡ live_rows (words_at chunks) 0 counts)

@@ -1,6 +1,6 @@
 //! Chunks as one store of rows, by number. A chunk is never given back before the last of them is.
 
-ghost use Rattle.std.specs.Prelude.{◌≡◌, ◌<◌, ◌≤◌, ◌*◌, ◌++◌, ◌∷◌, [], ℕ, length, replicate, OnOk, OnErr, slice_set};
+ghost use Rattle.std.specs.Prelude.{◌≡◌, ◌<◌, ◌≤◌, ◌*◌, ◌^◌, ◌++◌, ◌∷◌, [], ℕ, length, replicate, OnOk, OnErr, slice_set};
 ghost use Rattle.std.specs.Borrow.{sem};
 
 use crate::chunk::{Chunk, ROWS};
@@ -35,14 +35,15 @@ impl Chunks {
         }
     }
 
-    /// Makes room for one more row than there are, if need be by a chunk of zeros.
+    /// Makes room for so many rows in all, by chunks of zeros. After want of memory some of these
+    /// chunks may be there.
     pub(crate) fn make_room(&mut self, alloc: Global, rows: usize) -> Result<(), Memory>
-        requires { rows ≤ 256 * length self.old }
-        ensures ok { OnOk result (rows < 256 * length self.new) }
-        ensures err { OnErr result (self.new ≡ self.old) }
+        requires { rows ≤ 2 ^ 32 }
+        ensures ok { OnOk result (rows ≤ 256 * length self.new) }
         ensures grows { Grows self.old self.new }
     {
-        if rows / ROWS == self.list.len() {
+        let wanted = (rows + ROWS - 1) / ROWS;
+        'chunks: while self.list.len() < wanted {
             self.add(alloc)?;
         }
         Ok(())

@@ -4,6 +4,8 @@
 
 ghost use Rattle.std.specs.Prelude.{◌≡◌, ◌+◌, ◌-◌, ◌*◌, ◌^◌, ◌<◌, ◌≤◌, ◌↔◌, [], ℕ, length, IsTrue, OnOk, OnErr};
 ghost use Rattle.std.specs.Borrow.{sem};
+ghost use Rattle.std.specs.Vec.{vec_len, vec_capacity};
+ghost use Rattle.sp_rows.specs.Kept.{IsMore};
 ghost use Rattle.sp_rows.specs.Pool.{count_of, words_of, with_count, taken, given, IsLive, AreRows};
 
 use crate::chunks::Chunks;
@@ -59,33 +61,20 @@ impl RowPool {
         }
     }
 
-    /// Makes room, so that at least so many more rows can be taken. After want of memory some of
-    /// the room may be there.
+    /// Makes room, so that at least so many more rows can be taken: in time in proportion to the
+    /// rows that are new. Want of memory leaves the pool as it was.
     pub fn reserve(&mut self, n: u32) -> Result<(), Memory>
         requires { length self.old.rows + n ≤ 2 ^ 31 }
         ensures ok { OnOk result (n ≤ self.new.spare) }
+        ensures err { OnErr result (self.new ≡ self.old) }
         ensures rows { self.new.rows ≡ self.old.rows }
         ensures spare { self.old.spare ≤ self.new.spare }
     {
-        'rows: while self.spare < n as usize {
-            self.add_row()?;
-        }
-        Ok(())
-    }
-
-    // Makes one more row, which is free.
-    fn add_row(&mut self) -> Result<(), Memory>
-        requires { length self.old.rows + self.old.spare < 2 ^ 31 }
-        ensures ok { OnOk result (self.new.spare ≡ self.old.spare + 1) }
-        ensures err { OnErr result (self.new.spare ≡ self.old.spare) }
-        ensures rows { self.new.rows ≡ self.old.rows }
-    {
-        let id = self.counts.len();
-        self.chunks.make_room(self.alloc, id)?;
-        self.counts.push(0)?;
-        self.chunks.set_link(id as u32, self.first);
-        self.first = id as u64;
-        self.spare += 1;
+        let more = (n as usize).saturating_sub(self.spare);
+        self.chunks.make_room(self.alloc, self.counts.len() + more)?;
+        self.counts.reserve(more)?;
+        self.first = add_rows(&mut self.chunks, &mut self.counts, self.first, more);
+        self.spare += more;
         Ok(())
     }
 
@@ -177,4 +166,21 @@ impl RowPool {
     {
         self.spare
     }
+}
+
+// Makes so many more rows, each of which is free and leads to the one before it, and answers the
+// last of them, which comes first from then on.
+fn add_rows(chunks: &mut Chunks, counts: &mut Vec<u32>, from: u64, more: usize) -> u64
+    requires room { vec_len counts.old + more ≤ vec_capacity counts.old }
+    requires chunks { (length counts.old.items + more ≤ 256 * length chunks.old) × (length counts.old.items + more ≤ 2 ^ 31) }
+    ensures { IsMore chunks.old counts.old.items from more chunks.new counts.new.items result }
+{
+    let mut first = from;
+    'rows: for _ in 0..more {
+        let id = counts.len();
+        counts.push_reserved(0);
+        chunks.set_link(id as u32, first);
+        first = id as u64;
+    }
+    first
 }

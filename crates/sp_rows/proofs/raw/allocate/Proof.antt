@@ -1,5 +1,5 @@
 -- `allocate` takes room for a chunk, and the right to free it. Assumes `Logic`.
-use Rattle.std.proofs.Common.{◌≡◌, ℕ, ◌+◌, ◌*◌, ◌<◌, ◌^◌, arith, List, [], ◌∷◌, true, false, refl, lit<, w64}
+use Rattle.std.proofs.Common.{◌≡◌, ℕ, ◌+◌, ◌*◌, ◌^◌, arith, List, [], ◌∷◌, true, false, refl, lit<, w64}
 use Rattle.std.specs.Prelude.{IfOk, Ok, Err}
 use Rattle.std.specs.Allocator.{block_if_ok}
 use Rattle.std.specs.contracts.alloc.Global as heap
@@ -13,7 +13,7 @@ use Rattle.std.proofs.RcSteps.{Good, word-Good, first_Good}
 use Rattle.std.proofs.ResultValues.{ok_of, err_of}
 use Rattle.std.specs.contracts.result.Result as result
 use Rattle.std.specs.contracts.alloc.AllocError as refused
-use base.Logic.{SProp, emp, id⊢, fst∗, ent}
+use base.Logic.{emp, id⊢, ent}
 use base.Fml.{ftrue, fsep, flft, froom}
 use mir.Syntax.{Ty, named}
 use mir.Val.{Val, vint, vcons, vnil, vstruct}
@@ -22,7 +22,7 @@ use prog.Capped.{capped_is}
 use prog.Wp.{Env, Wp, after_seq, at_return}
 use contract.Monad.{fact, fact_i}
 use contract.Running.{tables}
-use types.Kit.{⋆, any_q, rewrite, ‵, raw, ◌⊛◌, some, later, at_ret, ◌$◌, ◌∵◌, !, qed, by, move, keep, drop as skip, use0, use1, use2, split, join, pick, await, fsplit, fjoin, feq_i, flt_i, suffices, frame, done}
+use types.Kit.{⋆, any_q, rewrite, ‵, raw, ◌⊛◌, some, later, at_ret, ◌$◌, ◌∵◌, !, qed, by, move, keep, drop as skip, use0, use1, split, join, pick, await, fjoin, feq_i, flt_i, suffices, frame, done}
 use types.Part.{whole, agg}
 use types.Match.{live, vrt, in_variant}
 use types.Run.{stop, fld, lit, of_opd, no_more, and_then, first, switches_on, exec, returns, enter}

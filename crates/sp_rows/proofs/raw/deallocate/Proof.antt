@@ -1,7 +1,6 @@
 -- `deallocate` makes room of what is written, and gives it back with the right to free it. Assumes `Logic`.
-use Rattle.std.proofs.Common.{◌≡◌, ℕ, ◌+◌, ◌-◌, ◌*◌, ◌<◌, ◌≤◌, ◌^◌, List, [], ◌∷◌, length, refl, sym, ap, ◌∙◌, subst, arith, lit<, w64, T}
+use Rattle.std.proofs.Common.{◌≡◌, ◌+◌, ◌-◌, ◌*◌, ◌≤◌, ◌^◌, List, [], ◌∷◌, length, refl, sym, ap, ◌∙◌, subst, arith, lit<, w64, T}
 use Rattle.std.specs.contracts.alloc.Global as heap
-use Rattle.std.specs.contracts.impls.GlobalAllocator.TheImpl.{ghosts}
 use Rattle.std.specs.contracts.impls.GlobalAllocator.deallocate as g
 use Rattle.std.proofs.impls.GlobalAllocator.deallocate.Met.{met}
 use Rattle.std.proofs.alloc.Calls.{Goes-blank}
@@ -25,7 +24,7 @@ use denote.Builtin.{RefOf, unit}
 use denote.Exit.{yes}
 use denote.Param.{layout}
 use denote.RattleType.{owns}
-use denote.RawPtr.{Ptr, block_ptr, rawptr_vals, in_a_block}
+use denote.RawPtr.{Ptr, block_ptr, in_a_block}
 use denote.Ref.{ShrRef, shr_vals, shr_Tells}
 use denote.Signature.{plain}
 use denote.Steps.{nothing, only, heard}

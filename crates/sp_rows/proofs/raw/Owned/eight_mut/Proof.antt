@@ -1,5 +1,5 @@
 -- `eight_mut` lends eight words, and the owner follows what is written over them. Assumes `Logic`.
-use Rattle.std.proofs.Common.{◌≡◌, ℕ, ◌+◌, ◌-◌, ◌*◌, ◌<◌, ◌≤◌, ◌^◌, List, [], ◌∷◌, ◌++◌, length, take, drop, refl, sym, ap, ◌∙◌, subst, arith, lit<, w64, length-append}
+use Rattle.std.proofs.Common.{◌≡◌, ℕ, ◌+◌, ◌-◌, ◌*◌, ◌<◌, ◌≤◌, ◌^◌, List, [], ◌∷◌, ◌++◌, length, take, drop, refl, sym, ap, ◌∙◌, arith, lit<, w64, length-append}
 use Rattle.std.specs.List.{refill}
 use Rattle.std.proofs.lemmas.List.{length-take, length-drop}
 use Rattle.std.proofs.raw_atomic.Walks.{proved}
@@ -16,7 +16,7 @@ use contract.Monad.{fact}
 use contract.Running.{tables}
 use types.Logic.{Logic, sem}
 use types.SemTy.{cells}
-use types.Kit.{‵, raw, ◌⊛◌, some, later, await, pick, at_ret, ◌$◌, ◌∵◌, !, qed, by, move, keep, use1, use2, split, split3, join, group, rewrite, fsplit, fsplit3, fjoin, fpack, suffices, frame, done}
+use types.Kit.{‵, raw, ◌⊛◌, some, later, await, pick, at_ret, ◌$◌, ◌∵◌, !, qed, move, keep, use1, use2, split, split3, join, group, rewrite, fsplit, fsplit3, fjoin, fpack, suffices, frame, done}
 use types.Part.{whole, sub, agg}
 use types.Run.{stop, fld, lit, of_opd, bin, no_more, and_then, first, blocks, exec, returns, enter}
 use types.ByLocal.{alloc_all, pass_all, free_all, look_at, get, get_in, sets, sets_last, env, take_at, give_at}

@@ -1,18 +1,17 @@
 -- `push` writes a word where the room begins. Assumes `Logic`.
-use Rattle.std.proofs.Common.{◌≡◌, ℕ, ◌+◌, ◌-◌, ◌*◌, ◌<◌, ◌^◌, List, [], ◌∷◌, ◌++◌, length, refl, sym, ap, ◌∙◌, arith, suc, w64, length-append}
+use Rattle.std.proofs.Common.{◌≡◌, ℕ, ◌+◌, ◌-◌, ◌*◌, ◌<◌, [], ◌∷◌, ◌++◌, length, refl, sym, ◌∙◌, arith, suc, w64, length-append}
 use Rattle.std.proofs.raw_atomic.Walks.{proved}
 use Rattle.std.proofs.alloc.Shapes.{after}
 use Rattle.std.proofs.RcSteps.{word, word-Good}
 use base.Fraction.{full_share}
 use base.Logic.{never, id⊢}
-use base.Fml.{ftrue, fat, flft, froom, fsep}
+use base.Fml.{ftrue, fat, flft, froom}
 use mir.Syntax.{named, ty_int}
-use mir.Val.{Val, vunit, vint}
-use prog.Wp.{Env}
+use mir.Val.{vunit}
 use contract.Monad.{fact}
 use contract.Running.{tables}
 use types.SemTy.{cells}
-use types.Kit.{‵, raw, ◌⊛◌, at_ret, ◌$◌, ◌∵◌, !, qed, by, move, keep, use1, use2, split, join, group, rewrite, fsplit, fsplit3, fjoin, feq_i, suffices, frame, done}
+use types.Kit.{‵, raw, ◌⊛◌, at_ret, ◌$◌, ◌∵◌, !, qed, move, keep, use1, use2, split, join, group, rewrite, fsplit, fsplit3, fjoin, feq_i, suffices, frame, done}
 use types.Part.{whole, sub}
 use types.Run.{init, stop, fld, lit, unit_lit, of_opd, bin, assigns_last, first, blocks, exec, returns, enter}
 use types.ByLocal.{alloc_all, pass_all, free_all, look_at, get, get_in, through, sets, env, take_at, give_at}
@@ -22,12 +21,12 @@ use denote.Memory.{mem, part_at}
 use denote.Param.{layout}
 use denote.Plain.{uint_vals, uint_Tells, uint_in}
 use denote.RattleType.{owns}
-use denote.RawPtr.{Ptr, block_ptr, in_a_block}
+use denote.RawPtr.{Ptr, in_a_block}
 use denote.Ref.{MutRef, mut_vals, mut_Tells}
 use denote.Signature.{plain}
 use denote.Steps.{nothing, opens, closes, heard}
 use denote.Triple.Walked.{Stays, walk_of, says, stay_dropped, Goes-dropped, stay_ref, Goes-ref, ends_at}
-use Rattle.sp_rows.specs.Ownership.{words_own, words_of_type, right_to_free}
+use Rattle.sp_rows.specs.Ownership.{words_own, words_of_type}
 use Rattle.sp_rows.proofs.Memory.{more}
 use Rattle.sp_rows.specs.contracts.raw.Owned.{the_row as R}
 use Rattle.sp_rows.specs.contracts.raw.Start.{the_row as S}
