@@ -2,7 +2,7 @@
 //! A free row has the number of the next free one in its own first word, so that taking and giving
 //! rows needs no memory.
 
-ghost use Rattle.std.specs.Prelude.{◌≡◌, ◌+◌, ◌-◌, ◌*◌, ◌^◌, ◌<◌, ◌≤◌, ◌↔◌, [], ℕ, length, IsTrue, OnOk, OnErr};
+ghost use Rattle.std.specs.Prelude.{◌≡◌, ◌+◌, ◌-◌, ◌*◌, ◌^◌, ◌<◌, ◌≤◌, ◌↔◌, [], ℕ, length, IsTrue, IsOk, OnOk, OnErr};
 ghost use Rattle.std.specs.Borrow.{sem};
 ghost use Rattle.std.specs.Vec.{vec_len, vec_capacity};
 ghost use Rattle.sp_rows.specs.Kept.{IsMore};
@@ -67,10 +67,14 @@ impl RowPool {
         requires { length self.old.rows + n ≤ 2 ^ 31 }
         ensures ok { OnOk result (n ≤ self.new.spare) }
         ensures err { OnErr result (self.new ≡ self.old) }
+        ensures enough { n ≤ self.old.spare → (IsOk result × (self.new ≡ self.old)) }
         ensures rows { self.new.rows ≡ self.old.rows }
         ensures spare { self.old.spare ≤ self.new.spare }
     {
-        let more = (n as usize).saturating_sub(self.spare);
+        if n as usize <= self.spare {
+            return Ok(());
+        }
+        let more = n as usize - self.spare;
         self.chunks.make_room(self.alloc, self.counts.len() + more)?;
         self.counts.reserve(more)?;
         self.first = add_rows(&mut self.chunks, &mut self.counts, self.first, more);

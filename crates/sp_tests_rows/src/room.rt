@@ -1,0 +1,72 @@
+//! The room of a pool: what is reserved, taken and given, and what a refusal leaves.
+
+use crate::plain::{Plain, compare, take};
+use sp_rows::RowPool;
+use std::process::Abort;
+use std::test::Fail;
+
+#[test]
+fn a_row_that_was_given_is_taken_with_zeros(rt: HostRuntime) -> Result<(), Fail> {
+    let mut pool = RowPool::new(rt.alloc());
+    pool.reserve(1).ok().ok_or("memory")?;
+    let first = take(&rt, &mut pool, 3);
+    compare(&rt, &pool, &[first], 0);
+    assert!(rt; pool.is_live(first.id));
+    pool.give(first.id);
+    compare(&rt, &pool, &[], 1);
+    let second = take(&rt, &mut pool, 0);
+    compare(&rt, &pool, &[second], 0);
+    assert_eq!(rt; second.id.0, first.id.0);
+    Ok(())
+}
+
+/// How many rows are asked for, one after the other, and how many can be taken then.
+const ROOM: &[(u32, usize)] = &[
+    (0, 0),
+    (1, 1),
+    (1, 1),
+    (0, 1),
+    (255, 255),
+    (256, 256),
+    (257, 257),
+    (100, 257),
+    (1_000, 1_000),
+];
+
+#[test]
+fn room_for_as_many_as_are_asked_for(rt: HostRuntime) -> Result<(), Fail> {
+    let mut pool = RowPool::new(rt.alloc());
+    for (asked, spare) in ROOM {
+        assert!(rt; pool.live() == 0 && *asked <= 1_000);
+        pool.reserve(*asked).ok().ok_or("memory")?;
+        compare(&rt, &pool, &[], *spare);
+    }
+    Ok(())
+}
+
+/// Asks for more than two chunks of rows. A refusal leaves the pool as it was.
+fn reserve_more(rt: &impl Abort, pool: &mut RowPool, rows: &[Plain]) {
+    let spare = pool.spare();
+    assert!(rt; pool.live() <= 10);
+    let room = if pool.reserve(600).is_ok() {
+        600
+    } else {
+        spare
+    };
+    compare(rt, pool, rows, room);
+}
+
+#[test]
+fn rows_stay_whether_room_is_refused_or_not(rt: HostRuntime) -> Result<(), Fail> {
+    let mut pool = RowPool::new(rt.alloc());
+    reserve_more(&rt, &mut pool, &[]);
+    assert!(rt; pool.live() == 0);
+    pool.reserve(7).ok().ok_or("memory")?;
+    let rows = [
+        take(&rt, &mut pool, 1),
+        take(&rt, &mut pool, 2),
+        take(&rt, &mut pool, 11),
+    ];
+    reserve_more(&rt, &mut pool, &rows);
+    Ok(())
+}
