@@ -1,5 +1,5 @@
-//! A row of places. It is a bit for each place, in eight words of 64; nothing outside this file and
-//! `words` knows that but the two calls that give and take the words.
+//! A row of places. It is a bit for each place, in eight words of 64. Outside this file and `words`
+//! that is seen by the calls `words` and `from_words` alone.
 
 ghost use Rattle.std.specs.Prelude.{◌≡◌, ◌<◌, ◌≤◌, ◌==◌, ◌||◌, ◌&&◌, ◌↔◌, not, ℕ, [], length, pos, ◌-ℤ◌, IfSome, IsNone};
 ghost use Rattle.std.specs.List.{list_all};
@@ -67,8 +67,8 @@ impl Row {
         self.words[place as usize / 64] &= !(1 << (place % 64));
     }
 
-    /// Whether it has the place, in a bounded number of steps. What a row is stands here too, for each caller: the
-    /// list ascends, and each place of it is below 512.
+    /// Whether it has the place, in a bounded number of steps. What a row is stands here too, for
+    /// each caller: the list ascends, and each place of it is below 512.
     pub fn test(&self, place: u16) -> bool
         requires { place < 512 }
         ensures value { result ≡ has self.now place }

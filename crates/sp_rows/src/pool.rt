@@ -61,8 +61,9 @@ impl RowPool {
         }
     }
 
-    /// Makes room, so that at least so many more rows can be taken: in time in proportion to the
-    /// rows that are new. Want of memory leaves the pool as it was.
+    /// Makes room, so that at least so many more rows can be taken, in time in proportion to the
+    /// rows that are new and those that there are, whose counts may move. Memory is answered where
+    /// it was refused; the pool is then as it was.
     pub fn reserve(&mut self, n: u32) -> Result<(), Memory>
         requires { length self.old.rows + n ≤ 2 ^ 31 }
         ensures ok { OnOk result (n ≤ self.new.spare) }
@@ -82,7 +83,7 @@ impl RowPool {
         Ok(())
     }
 
-    /// A row that wasn't live, all zero and counted once, at once.
+    /// A row that wasn't live, all zero and counted once, in a bounded number of steps.
     pub fn take(&mut self) -> RowId
         requires { 0 < self.old.spare }
         ensures fresh { count_of self.old.rows result.0 ≡ 0 }
@@ -97,7 +98,7 @@ impl RowPool {
         RowId(id)
     }
 
-    /// Counts a row once more, at once.
+    /// Counts a row once more, in a bounded number of steps.
     pub fn share(&mut self, row: RowId)
         requires live { IsLive self.old.rows row.0 }
         requires room { count_of self.old.rows row.0 < 2 ^ 32 - 1 }
@@ -107,7 +108,8 @@ impl RowPool {
         self.counts[row.0 as usize] += 1;
     }
 
-    /// Counts a row once less, at once. A row that is counted no more isn't live, and can be taken.
+    /// Counts a row once less, in a bounded number of steps. A row that is counted no more isn't
+    /// live, and can be taken.
     pub fn give(&mut self, row: RowId)
         requires { IsLive self.old.rows row.0 }
         ensures { self.new ≡ given self.old row.0 }
@@ -121,7 +123,7 @@ impl RowPool {
         }
     }
 
-    /// The eight words of a row, at once.
+    /// The eight words of a row, in a bounded number of steps.
     pub fn words(&self, row: RowId) -> &[u64]
         requires { IsLive self.now.rows row.0 }
         ensures value { result.now ≡ words_of self.now.rows row.0 }
@@ -130,7 +132,7 @@ impl RowPool {
         self.chunks.words(row.0)
     }
 
-    /// The eight words of a row that is counted once, to be written.
+    /// The eight words of a row that is counted once, to be written, in a bounded number of steps.
     pub fn words_mut(&mut self, row: RowId) -> &mut [u64]
         requires { count_of self.old.rows row.0 ≡ 1 }
         ensures* writes_back { sem 𝓛 (lends_words self.entry row.0 result) }
@@ -140,14 +142,14 @@ impl RowPool {
         self.chunks.words_mut(row.0)
     }
 
-    /// Whether a row is live, at once.
+    /// Whether a row is live, in a bounded number of steps.
     pub fn is_live(&self, row: RowId) -> bool
         ensures { IsTrue result ↔ IsLive self.now.rows row.0 }
     {
         (row.0 as usize) < self.counts.len() && self.counts[row.0 as usize] > 0
     }
 
-    /// How often a row is counted, at once.
+    /// How often a row is counted, in a bounded number of steps.
     pub fn count(&self, row: RowId) -> u32
         requires { IsLive self.now.rows row.0 }
         ensures { result ≡ count_of self.now.rows row.0 }
