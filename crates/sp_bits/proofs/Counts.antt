@@ -1,45 +1,18 @@
 -- Loops over places: how many pass so far, whether each passes, and which is the last.
-use Rattle.std.proofs.Common.{◌≡◌, ℕ, zero, suc, ◌+◌, ◌<◌, ◌≤◌, Bool, true, false, cond, ◌&&◌, List, [], ◌∷◌, ◌++◌, length, refl, sym, ap, ◌∙◌, inl, inr, eqb, Option, Some, None, add-one, arith, length-append}
+use Rattle.std.proofs.Common.{◌≡◌, ℕ, zero, suc, ◌+◌, ◌<◌, ◌≤◌, Bool, true, false, cond, ◌&&◌, List, [], ◌∷◌, length, refl, sym, ap, ◌∙◌, inl, inr, eqb, Option, Some, None, arith}
 use Rattle.std.specs.Prelude.{filter, nat_lt, IfSome, IfNone, IsNone, ◌↔◌}
 use Rattle.std.specs.List.{list_all, range_with_len}
 use Rattle.std.proofs.lemmas.Bool.{cases_lt, or_left, or_right, or_cases, eq-eqb, eqb-true, false≢true, and_parts, and_from, ltb-true, lt-ltb}
-use Rattle.std.proofs.lemmas.List.Elements.{filter-append}
 use Rattle.sp_bits.specs.Places.{has, places_where, members_below, IsGreatest}
 use Rattle.sp_bits.specs.Members.{has-filter}
 use Rattle.sp_bits.specs.Words.{bit_in, IsLast}
 use Rattle.sp_bits.proofs.Sets.{has-view}
 
-range_more : (a n j : ℕ) → a + n ≡ j → range_with_len a (suc n) ≡ range_with_len a n ++ j ∷ []
-range_more a zero j e = (let same : a ≡ j = omega arith in ap (λ (k : ℕ). k ∷ []) same)
-range_more a (suc n) j e = ap (λ (l : List ℕ). a ∷ l) (range_more (a + 1) n j (omega arith))
-
--- one place more is counted if it passes
-pub count_more : (test : ℕ → Bool) (k : ℕ) (c : Bool) → test k ≡ c
-    → length (filter test (range_with_len 0 (k + 1))) ≡ length (filter test (range_with_len 0 k)) + cond c 1 0
-count_more test k c e =
-    ap (λ (n : ℕ). length (filter test (range_with_len 0 n))) (add-one k)
-    ∙ ap (λ (l : List ℕ). length (filter test l)) (range_more 0 k k (omega arith))
-    ∙ ap length (filter-append test (range_with_len 0 k) (k ∷ []))
-    ∙ ap (λ (d : Bool). length (filter test (range_with_len 0 k) ++ cond d (k ∷ []) [])) e
-    ∙ length-append (filter test (range_with_len 0 k)) (cond c (k ∷ []) []) ∙ ap (λ (n : ℕ). length (filter test (range_with_len 0 k)) + n) (one c)
-  where
-    one : (c : Bool) → length (cond c (k ∷ []) []) ≡ cond c 1 0
-    one true = refl
-    one false = refl
-
--- each that passes one test passes the other
 -- what the count of a loop over places says
 abbrev pub IsCount : (ℕ → Bool) → ℕ → ℕ → Type 0
 IsCount test k count = (count ≡ length (filter test (range_with_len 0 k))) × (count ≤ k)
 
--- a place that passes is counted
-pub IsCount-pass : (test : ℕ → Bool) (k count next : ℕ) → test k ≡ true → next ≡ count + 1 → IsCount test k count → IsCount test (k + 1) next
-IsCount-pass test k count next e is so_far = (let more = count_more test k true e in omega (arith, more, so_far.0, is), omega (arith, so_far.1, is))
-
--- and another isn't
-pub IsCount-fail : (test : ℕ → Bool) (k count next : ℕ) → test k ≡ false → next ≡ count → IsCount test k count → IsCount test (k + 1) next
-IsCount-fail test k count next e is so_far = (let more = count_more test k false e in omega (arith, more, so_far.0, is), omega (arith, so_far.1, is))
-
+-- a meet fails where one part does
 pub and_false : (c d : Bool) → d ≡ false → (c && d) ≡ false
 and_false true d e = e
 and_false false d e = refl

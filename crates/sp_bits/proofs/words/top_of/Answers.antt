@@ -1,6 +1,4 @@
-use Rattle.std.proofs.Common.{◌≡◌, ◌*◌, ◌+◌, ◌-◌, ◌<◌, ◌^◌, arith, ap, add-one, sym}
-use Rattle.std.proofs.lemmas.Nat.{leading_top}
-use lib.Count.{count_leading_zeros}
+use Rattle.std.proofs.Common.{arith}
 use Rattle.sp_bits.proofs.Bits.{top-of}
 use Rattle.sp_bits.proofs.words.top_of.Goals as goal
 
