@@ -1,3 +1,5 @@
 pub mod Answers
+pub mod Journalled
 pub mod Messages
 pub mod Node
+pub mod Stored

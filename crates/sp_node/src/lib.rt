@@ -5,9 +5,14 @@
 //! The commands that take a feed stand on this crate.
 #![tactic(auto)]
 
+mod arrival;
 mod fault;
 pub mod laws;
 mod node;
+mod start;
+mod stored;
 
 pub use fault::NodeFault;
 pub use node::Node;
+pub use start::{StartFault, recovered};
+pub use stored::Stored;

@@ -1,43 +1,58 @@
-//! A node: an engine, and whether anything failed.
+//! A node: an engine, a journal where it has one, and whether anything failed.
 
-ghost use Rattle.std.specs.Prelude.{◌≡◌, ◌≢◌, ◌≤◌, ◌∷◌, [], ℕ, false, true, Err, is_err, IfErr, IfOk, IfSome, IsSome, OnErr, OnOk, Some};
+ghost use Rattle.std.specs.Prelude.{◌⊎◌, ◌≡◌, ◌≢◌, ◌≤◌, ◌∷◌, [], ℕ, false, true, Err, is_err, is_some, IfErr, IfOk, IfSome, IsErrOf, IsSome, map, None, OnErr, OnOk, Some};
 ghost use Rattle.std.specs.Io.KnownBytes.{Appends};
+ghost use Rattle.sp_io.specs.Causes.{Rose};
 ghost use Rattle.sp_io.specs.Whole.{AppendsFront};
 ghost use Rattle.sp_feed.specs.Kinds.{SaysBalance, SaysBlock, SaysVote, SaysTx};
 ghost use Rattle.sp_feed.specs.Messages.{said_by};
 ghost use Rattle.sp_report.specs.Asks.{ask_text};
 ghost use Rattle.sp_report.specs.Naming.{labels_of};
 ghost use Rattle.sp_report.specs.Texts.{text_of};
-ghost use Rattle.sp_node.specs.Answers.{kept_then, reply_of};
+ghost use Rattle.sp_engine.specs.Arrivals.{kept_by_all};
+ghost use Rattle.sp_journal.specs.Recovery.{bytes_in};
+ghost use Rattle.sp_journal.specs.Settled.{SameTold};
+ghost use Rattle.sp_node.specs.Answers.{IsQuestion, kept_then, reply_of};
+ghost use Rattle.sp_node.specs.Journalled.{HoldsThen, IsKeptOn, LeavesOn};
 ghost use Rattle.sp_node.specs.Node.{HasNodeCause};
+ghost use Rattle.sp_node.specs.Stored.{IsFound, IsOfSame, IsReady, LeavesStarted, NamesBoth, stored_blocks};
+ghost use Rattle.sp_node.specs.declared.start.StartFault.TheVariants as starts;
 
+use crate::arrival::keep_on;
 use crate::fault::NodeFault;
+use crate::start::{StartFault, start_found, start_new};
+use crate::stored::Stored;
+use sp_disk::Disk;
 use sp_engine::Engine;
 use sp_feed::{FeedHead, Message};
 use sp_ids::Memory;
 use sp_io::Sink;
+use sp_journal::Journal;
 use sp_report::{Ask, Naming, Text, answer_line, ask_line, write_text};
 use std::alloc::Global;
 use std::marker::Model;
 
-/// A node that keeps its blocks in memory alone. Contracts see the bits of work, the kept blocks,
-/// and whether it is stopped.
+/// A node that keeps its blocks in memory, and in a journal where it has one. Contracts see the bits
+/// of work, the kept blocks, whether it is stopped, and the journal.
 #[derive(Drop)]
 pub struct Node {
     alloc: Global,
     engine: Engine,
+    journal: Option<Journal>,
     stopped: bool,
 }
 
 impl Model for Node {
     ghost use Rattle.std.specs.Prelude.{◌≡◌, false};
+    ghost use Rattle.sp_node.specs.Journalled.{FitsOn};
     ghost use Rattle.sp_node.specs.Node.{State};
 
     ghost Value = { State };
 
-    ghost view = { λ n. record { bits = n.engine.bits; kept = n.engine.kept; stopped = n.stopped } };
+    ghost view = { λ n. record { bits = n.engine.bits; kept = n.engine.kept; stopped = n.stopped; journal = n.journal } };
 
-    ghost invariant = { λ n. n.stopped ≡ false → n.engine.broken ≡ false };
+    ghost invariant = { λ n. n.stopped ≡ false
+        → (n.engine.broken ≡ false) × FitsOn n.engine.bits n.engine.kept n.journal };
 }
 
 impl Node {
@@ -56,29 +71,90 @@ impl Node {
         Ok(Node {
             alloc,
             engine,
+            journal: None,
             stopped: false,
         })
+    }
+
+    /// A node with a journal on the disk: the one that was found, whose blocks it keeps in their
+    /// order, or else a new one, which it creates there. `stored` is what `Stored::open` found on the
+    /// disk. A found journal's disk isn't called.
+    ///
+    /// # Errors
+    ///
+    /// `OtherChain` exactly where a journal was found and its bits of work or the bytes of its genesis
+    /// block differ from those of the head, with the bits and the genesis ids of both. `DiskFault`
+    /// where the disk refused a call: it holds no journal, or the new one. `Memory` where there was
+    /// none for the engine or the journal; the disk wasn't called.
+    pub fn start<D: Disk>(
+        alloc: Global,
+        disk: &mut D,
+        stored: Stored,
+        head: FeedHead,
+    ) -> Result<Node, StartFault>
+        requires ready { IsReady stored (D.now disk.old) }
+
+        ensures kept { IfOk result (λ node. node.kept ≡ head.genesis ∷ stored_blocks stored) }
+        ensures sent { IfOk result (λ node. node.kept
+            ≡ kept_by_all head.bits head.genesis (map bytes_in (stored_blocks stored))) }
+        ensures bits { IfOk result (λ node. node.bits ≡ head.bits) }
+        ensures live { IfOk result (λ node. node.stopped ≡ false) }
+        ensures has { IfOk result (λ node. IsSome node.journal) }
+        ensures stands { IfOk result (λ node. IsKeptOn node.bits node.kept node.journal (D.now disk.new)) }
+
+        // A crash at any moment of the call leaves what was found, or no journal or the new one.
+        ensures any_moment { LeavesStarted stored head (D.now disk.old) (D.now disk.new) }
+        ensures untouched { IsFound stored → disk.new ≡ disk.old }
+        ensures told { SameTold (D.now disk.old) (D.now disk.new) }
+
+        ensures same { OnOk result (IsOfSame stored head) }
+        ensures other { IfErr result (λ fault. (fault ≡ starts.DiskFault) ⊎ ((fault ≡ starts.Memory)
+            ⊎ ((IsOfSame stored head → ⊥) × NamesBoth stored head fault))) }
+        ensures created { IsErrOf result starts.DiskFault → IsFound stored → ⊥ }
+        ensures fault { IsErrOf result starts.DiskFault → Rose (D.now disk.old).faults (D.now disk.new).faults }
+        ensures memory { IsErrOf result starts.Memory → disk.new ≡ disk.old }
+        ensures later { (D.now disk.old).faults ≤ (D.now disk.new).faults }
+        ensures quiet { (IsErrOf result starts.DiskFault → ⊥) → (D.now disk.new).faults ≡ (D.now disk.old).faults }
+    {
+        let started = match stored {
+            Stored::Empty { gate } => start_new(alloc, disk, gate, head),
+            Stored::Found(opened) => start_found(alloc, opened, head),
+        };
+        match started {
+            Ok((engine, journal)) => Ok(Node {
+                alloc,
+                engine,
+                journal: Some(journal),
+                stopped: false,
+            }),
+            Err(fault) => Err(fault),
+        }
     }
 
     /// Answers a message that isn't the end: writes the line of what became of the block, or of
     /// what the present blocks say of two blocks, of a transaction or of a lock, or the text of all
     /// pairs of present blocks, or the report on them. A question that one line answers takes no
-    /// memory.
+    /// memory. With a journal, a block that is to be kept goes to the engine first, to the journal
+    /// next, and its line is written last. Only such a block is asked of the disk, and only where
+    /// there is a journal.
     ///
     /// # Errors
     ///
-    /// `WriteFault` where the sink failed; a block is kept all the same. `Memory` where there was
-    /// none for a block, or for the order in which a text lists; nothing was written. The node is
-    /// stopped from then on.
+    /// `WriteFault` where the sink failed; a block is kept all the same, and recorded. `DiskFault`
+    /// where the disk refused a call: it may hold the block or not, and nothing was written. `Memory`
+    /// where there was none for a block, or for the order in which a text lists; neither sink nor disk
+    /// was called. The node is stopped from then on.
     #[tactic(auto, unfolding(crate::specs::Answers::reply_of))]
-    pub fn message<K: Sink>(
+    pub fn message<K: Sink, D: Disk>(
         &mut self,
         message: &Message<'_>,
         naming: &Naming<'_>,
         sink: &mut K,
+        disk: &mut D,
     ) -> Result<(), NodeFault>
         requires live { self.old.stopped ≡ false }
         requires before_end { IsSome (said_by message.now) }
+        requires stands { IsKeptOn self.old.bits self.old.kept self.old.journal (D.now disk.old) }
 
         // What answers the message is written, and a block that was to be kept is.
         ensures ok { OnOk result (IfSome (said_by message.now) (λ said.
@@ -92,13 +168,40 @@ impl Node {
         ensures kept_unwritten { result ≡ Err NodeFault.WriteFault → IfSome (said_by message.now)
             (λ said. self.new.kept ≡ kept_then self.old.bits self.old.kept said) }
 
-        // Where that failed, a front of the answer was; nothing, where memory was refused.
+        // So is one that the disk may hold or not.
+        ensures kept_unsure { result ≡ Err NodeFault.DiskFault → IfSome (said_by message.now)
+            (λ said. self.new.kept ≡ kept_then self.old.bits self.old.kept said) }
+
+        // Every crash leaves a block whose line is written, or was to be.
+        ensures acknowledged { OnOk result
+            (IsKeptOn self.new.bits self.new.kept self.new.journal (D.now disk.new)) }
+        ensures acknowledged_unwritten { result ≡ Err NodeFault.WriteFault
+            → IsKeptOn self.new.bits self.new.kept self.new.journal (D.now disk.new) }
+
+        // A crash at any moment of the call leaves the blocks from before it, or these and the new one.
+        ensures any_moment { IfSome (said_by message.now) (λ said.
+            LeavesOn self.old.journal (D.now disk.old) (D.now disk.new)
+            (HoldsThen self.old.bits self.old.kept said)) }
+        ensures uncalled { self.old.journal ≡ None → (disk.new ≡ disk.old) × (result ≢ Err NodeFault.DiskFault) }
+        ensures asked { IfSome (said_by message.now) (λ said. IsQuestion said
+            → (disk.new ≡ disk.old) × (result ≢ Err NodeFault.DiskFault)) }
+        ensures has { is_some self.new.journal ≡ is_some self.old.journal }
+
+        // Where that failed, a front of the answer was; nothing, where memory was refused or the disk
+        // failed.
         ensures err { OnErr result (IfSome (said_by message.now) (λ said.
             AppendsFront (K.taken sink.old) (K.taken sink.new)
             (reply_of (labels_of naming.now) self.old.bits self.old.kept said))) }
+        ensures silent { result ≡ Err NodeFault.DiskFault → sink.new ≡ sink.old }
         ensures memory { result ≡ Err NodeFault.Memory → sink.new ≡ sink.old }
-        ensures cause { IfErr result (HasNodeCause (K.faults sink.old) (K.faults sink.new)) }
+        ensures memory_disk { result ≡ Err NodeFault.Memory → disk.new ≡ disk.old }
+        ensures cause { IfErr result (HasNodeCause (K.faults sink.old) (K.faults sink.new)
+            (D.now disk.old).faults (D.now disk.new).faults) }
         ensures quiet { result ≢ Err NodeFault.WriteFault → K.faults sink.new ≡ K.faults sink.old }
+        ensures disk_quiet { result ≢ Err NodeFault.DiskFault
+            → (D.now disk.new).faults ≡ (D.now disk.old).faults }
+        ensures told { SameTold (D.now disk.old) (D.now disk.new) }
+        ensures disk_later { (D.now disk.old).faults ≤ (D.now disk.new).faults }
         ensures vote { (x y : ℕ) → said_by message.now ≡ Some (SaysVote x y)
             → result ≢ Err NodeFault.Memory }
         ensures tx { (id : ℕ) → said_by message.now ≡ Some (SaysTx id)
@@ -110,7 +213,7 @@ impl Node {
         ensures stopped { self.new.stopped ≡ is_err result }
     {
         match message {
-            Message::Block(bytes) => self.arrive(bytes, naming, sink),
+            Message::Block(bytes) => self.arrive(bytes, naming, sink, disk),
             Message::Vote(x, y) => self.ask(&Ask::Vote(*x, *y), naming, sink),
             Message::Tx(id) => self.ask(&Ask::Tx(*id), naming, sink),
             Message::Balance(lock) => self.ask(&Ask::Balance(*lock), naming, sink),
@@ -136,32 +239,52 @@ impl Node {
         &self.engine
     }
 
-    // Offers a block's bytes to the engine, and writes what became of them.
+    // Offers a block's bytes to the engine, records the block where it is kept, and writes what became
+    // of them.
     #[tactic(auto, using(sp_io::proofs::Stops::stops_at_start), unfolding(crate::specs::Answers::reply_of))]
-    fn arrive<K: Sink>(
+    fn arrive<K: Sink, D: Disk>(
         &mut self,
         bytes: &[u8],
         naming: &Naming<'_>,
         sink: &mut K,
+        disk: &mut D,
     ) -> Result<(), NodeFault>
-        requires { self.old.stopped ≡ false }
+        requires live { self.old.stopped ≡ false }
+        requires stands { IsKeptOn self.old.bits self.old.kept self.old.journal (D.now disk.old) }
         ensures ok { OnOk result (Appends (K.taken sink.old) (K.taken sink.new)
             (reply_of (labels_of naming.now) self.old.bits self.old.kept (SaysBlock bytes.now))) }
         ensures kept { OnOk result (self.new.kept
             ≡ kept_then self.old.bits self.old.kept (SaysBlock bytes.now)) }
         ensures kept_unwritten { result ≡ Err NodeFault.WriteFault →
             self.new.kept ≡ kept_then self.old.bits self.old.kept (SaysBlock bytes.now) }
+        ensures kept_unsure { result ≡ Err NodeFault.DiskFault →
+            self.new.kept ≡ kept_then self.old.bits self.old.kept (SaysBlock bytes.now) }
         ensures bits { self.new.bits ≡ self.old.bits }
+        ensures acknowledged { OnOk result
+            (IsKeptOn self.new.bits self.new.kept self.new.journal (D.now disk.new)) }
+        ensures acknowledged_unwritten { result ≡ Err NodeFault.WriteFault
+            → IsKeptOn self.new.bits self.new.kept self.new.journal (D.now disk.new) }
+        ensures any_moment { LeavesOn self.old.journal (D.now disk.old) (D.now disk.new)
+            (HoldsThen self.old.bits self.old.kept (SaysBlock bytes.now)) }
+        ensures uncalled { self.old.journal ≡ None → (disk.new ≡ disk.old) × (result ≢ Err NodeFault.DiskFault) }
+        ensures has { is_some self.new.journal ≡ is_some self.old.journal }
         ensures err { OnErr result (AppendsFront (K.taken sink.old) (K.taken sink.new)
             (reply_of (labels_of naming.now) self.old.bits self.old.kept (SaysBlock bytes.now))) }
+        ensures silent { result ≡ Err NodeFault.DiskFault → sink.new ≡ sink.old }
         ensures memory { result ≡ Err NodeFault.Memory → sink.new ≡ sink.old }
-        ensures cause { IfErr result (HasNodeCause (K.faults sink.old) (K.faults sink.new)) }
+        ensures memory_disk { result ≡ Err NodeFault.Memory → disk.new ≡ disk.old }
+        ensures cause { IfErr result (HasNodeCause (K.faults sink.old) (K.faults sink.new)
+            (D.now disk.old).faults (D.now disk.new).faults) }
         ensures quiet { result ≢ Err NodeFault.WriteFault → K.faults sink.new ≡ K.faults sink.old }
+        ensures disk_quiet { result ≢ Err NodeFault.DiskFault
+            → (D.now disk.new).faults ≡ (D.now disk.old).faults }
+        ensures told { SameTold (D.now disk.old) (D.now disk.new) }
+        ensures disk_later { (D.now disk.old).faults ≤ (D.now disk.new).faults }
         ensures later { K.faults sink.old ≤ K.faults sink.new }
         ensures stopped { self.new.stopped ≡ is_err result }
     {
         self.stopped = true;
-        let answer = self.engine.offer(bytes)?;
+        let answer = keep_on(&mut self.engine, &mut self.journal, disk, bytes)?;
         answer_line(&answer, naming, sink)?;
         self.stopped = false;
         Ok(())
@@ -181,8 +304,9 @@ impl Node {
         ensures bits { self.new.bits ≡ self.old.bits }
         ensures err { OnErr result
             (AppendsFront (K.taken sink.old) (K.taken sink.new) (ask_text (labels_of naming.now) self.old.kept ask.now)) }
-        ensures never { result ≢ Err NodeFault.Memory }
-        ensures cause { IfErr result (HasNodeCause (K.faults sink.old) (K.faults sink.new)) }
+        ensures journal { self.new.journal ≡ self.old.journal }
+        ensures never { IfErr result (λ fault. fault ≡ NodeFault.WriteFault) }
+        ensures cause { OnErr result (Rose (K.faults sink.old) (K.faults sink.new)) }
         ensures quiet { result ≢ Err NodeFault.WriteFault → K.faults sink.new ≡ K.faults sink.old }
         ensures later { K.faults sink.old ≤ K.faults sink.new }
         ensures stopped { self.new.stopped ≡ is_err result }
@@ -211,8 +335,10 @@ impl Node {
         ensures bits { self.new.bits ≡ self.old.bits }
         ensures err { OnErr result
             (AppendsFront (K.taken sink.old) (K.taken sink.new) (text_of (labels_of naming.now) self.old.kept text.now)) }
+        ensures journal { self.new.journal ≡ self.old.journal }
         ensures memory { result ≡ Err NodeFault.Memory → sink.new ≡ sink.old }
-        ensures cause { IfErr result (HasNodeCause (K.faults sink.old) (K.faults sink.new)) }
+        ensures never { result ≢ Err NodeFault.DiskFault }
+        ensures cause { result ≡ Err NodeFault.WriteFault → Rose (K.faults sink.old) (K.faults sink.new) }
         ensures quiet { result ≢ Err NodeFault.WriteFault → K.faults sink.new ≡ K.faults sink.old }
         ensures later { K.faults sink.old ≤ K.faults sink.new }
         ensures stopped { self.new.stopped ≡ is_err result }

@@ -2,6 +2,7 @@
 //! first, and what names of another kind don't change.
 
 use crate::fixtures::{NOBODY_ID as NOBODY, ORPHAN_ID as ORPHAN, child_of, read_id};
+use crate::plain::PlainNode;
 use crate::rows::{holds, right};
 use sp_engine::{Answer, Engine};
 use sp_feed::{FeedHead, Message};
@@ -9,7 +10,6 @@ use sp_fixtures::genesis_of;
 use sp_ids::{BlockId, Lock, TxId};
 use sp_io::{Fails, MemSink};
 use sp_names::{Name, Names};
-use sp_node::Node;
 use sp_report::{Ask, Naming, Text, answer_line, ask_line, present_ids, write_text};
 use std::alloc::Global;
 use std::test::Fail;
@@ -337,7 +337,12 @@ fn names(rt: HostRuntime) -> Result<(), Fail> {
 }
 
 /// Sends the first child to a node, by names.
-fn heard(alloc: Global, node: &mut Node, names: &Names, sink: &mut MemSink) -> Result<bool, Fail> {
+fn heard(
+    alloc: Global,
+    node: &mut PlainNode,
+    names: &Names,
+    sink: &mut MemSink,
+) -> Result<bool, Fail> {
     let bytes = child_of(alloc, 2, GENESIS, 0)?;
     if node.stopped() {
         return Ok(false);
@@ -346,7 +351,7 @@ fn heard(alloc: Global, node: &mut Node, names: &Names, sink: &mut MemSink) -> R
     Ok(answered == Ok(()))
 }
 
-fn is_answered(alloc: Global, node: &mut Node) -> Result<bool, Fail> {
+fn is_answered(alloc: Global, node: &mut PlainNode) -> Result<bool, Fail> {
     let mut sink = MemSink::new(alloc, 1024, 1024, Fails::Never)?;
     let names = names_of(alloc)?;
     let is_heard = heard(alloc, node, &names, &mut sink);
@@ -356,7 +361,7 @@ fn is_answered(alloc: Global, node: &mut Node) -> Result<bool, Fail> {
 
 fn is_answered_anew(alloc: Global) -> Result<bool, Fail> {
     let genesis = genesis_of(alloc, &GRANTING)?;
-    let mut node = Node::plain(alloc, FeedHead { bits: 0, genesis })?;
+    let mut node = PlainNode::of(alloc, FeedHead { bits: 0, genesis })?;
     let is_so = is_answered(alloc, &mut node);
     drop(node);
     is_so

@@ -5,13 +5,14 @@ use crate::fixtures::{
     CHILD_ID as CHILD, GENESIS_ID as GENESIS, NOBODY_ID as NOBODY, ORPHAN_ID as ORPHAN, child_of,
     read_id, sink_of,
 };
+use crate::plain::PlainNode;
 use crate::rows::holds;
 use sp_feed::{FeedHead, Message};
 use sp_fixtures::{GENESIS as GENESIS_BYTES, genesis_of};
-use sp_ids::{Memory, TxId};
+use sp_ids::TxId;
 use sp_io::{Failed, MemSink};
-use sp_node::{Node, NodeFault};
-use sp_report::Naming;
+use sp_node::NodeFault;
+use sp_report::{Naming, TextFault};
 use std::alloc::Global;
 use std::test::Fail;
 
@@ -117,21 +118,26 @@ fn head_of(alloc: Global, bits: u8) -> Result<FeedHead, Fail> {
     Ok(FeedHead { bits, genesis })
 }
 
-fn node_of(alloc: Global, bits: u8) -> Result<Node, Fail> {
-    Ok(Node::plain(alloc, head_of(alloc, bits)?)?)
+fn node_of(alloc: Global, bits: u8) -> Result<PlainNode, Fail> {
+    Ok(PlainNode::of(alloc, head_of(alloc, bits)?)?)
 }
 
 /// What is answered to a message.
 type Answered = Result<(), NodeFault>;
 
-fn tell(node: &mut Node, message: &Message<'_>, sink: &mut MemSink) -> Result<Answered, Fail> {
+fn tell(node: &mut PlainNode, message: &Message<'_>, sink: &mut MemSink) -> Result<Answered, Fail> {
     if node.stopped() || matches!(message, Message::End) {
         return Err("no message".into());
     }
     Ok(node.message(message, &Naming::Hex, sink))
 }
 
-fn send(alloc: Global, node: &mut Node, sent: Sent, sink: &mut MemSink) -> Result<Answered, Fail> {
+fn send(
+    alloc: Global,
+    node: &mut PlainNode,
+    sent: Sent,
+    sink: &mut MemSink,
+) -> Result<Answered, Fail> {
     match sent {
         Sent::Block(salt, parent, more) => {
             let bytes = child_of(alloc, salt, parent, more)?;
@@ -153,7 +159,12 @@ struct Heard {
 }
 
 /// Sends a message. This call of the sink fails, by a byte a call.
-fn hear(alloc: Global, node: &mut Node, sent: Sent, failing: Option<u32>) -> Result<Heard, Fail> {
+fn hear(
+    alloc: Global,
+    node: &mut PlainNode,
+    sent: Sent,
+    failing: Option<u32>,
+) -> Result<Heard, Fail> {
     let mut sink = sink_of(alloc, 1, failing)?;
     let answered = send(alloc, node, sent, &mut sink)?;
     let text = Vec::from_slice(alloc, sink.bytes())?;
@@ -161,13 +172,18 @@ fn hear(alloc: Global, node: &mut Node, sent: Sent, failing: Option<u32>) -> Res
 }
 
 /// Whether the message is answered by its line.
-fn is_answered(alloc: Global, node: &mut Node, sent: Sent, line: &str) -> Result<bool, Fail> {
+fn is_answered(alloc: Global, node: &mut PlainNode, sent: Sent, line: &str) -> Result<bool, Fail> {
     let heard = hear(alloc, node, sent, None)?;
     Ok(heard.answered == Ok(()) && heard.text.as_slice() == line.as_bytes())
 }
 
 /// Whether so many messages of the row are.
-fn are_answered(alloc: Global, node: &mut Node, row: &Row, count: usize) -> Result<bool, Fail> {
+fn are_answered(
+    alloc: Global,
+    node: &mut PlainNode,
+    row: &Row,
+    count: usize,
+) -> Result<bool, Fail> {
     for (sent, line) in row.answers.iter().take(count) {
         if !is_answered(alloc, node, *sent, line)? {
             return Ok(false);
@@ -186,7 +202,7 @@ fn has_front(heard: &Heard, line: &str, call: usize) -> bool {
 /// It stops the node.
 fn is_front(
     alloc: Global,
-    node: &mut Node,
+    node: &mut PlainNode,
     sent: Sent,
     line: &str,
     call: usize,
@@ -198,7 +214,7 @@ fn is_front(
 /// Whether that is so of the message at this place of the row, behind those before it.
 fn is_cut(
     alloc: Global,
-    node: &mut Node,
+    node: &mut PlainNode,
     row: &Row,
     place: usize,
     call: usize,
@@ -238,7 +254,7 @@ fn are_cut(alloc: Global, row: &Row) -> Result<bool, Fail> {
 }
 
 /// Whether all messages of the row are answered, and the node goes on with its bits of work.
-fn goes_on(alloc: Global, node: &mut Node, row: &Row) -> Result<bool, Fail> {
+fn goes_on(alloc: Global, node: &mut PlainNode, row: &Row) -> Result<bool, Fail> {
     let answered = are_answered(alloc, node, row, row.answers.len())?;
     Ok(answered && !node.stopped() && node.engine().bits() == row.bits)
 }
@@ -271,5 +287,14 @@ fn cut_answers(rt: HostRuntime) -> Result<(), Fail> {
 #[test]
 fn causes(rt: HostRuntime) {
     holds(&rt, 0, NodeFault::from(Failed) == NodeFault::WriteFault);
-    holds(&rt, 1, NodeFault::from(Memory) == NodeFault::Memory);
+    holds(
+        &rt,
+        1,
+        NodeFault::from(TextFault::WriteFault) == NodeFault::WriteFault,
+    );
+    holds(
+        &rt,
+        2,
+        NodeFault::from(TextFault::Memory) == NodeFault::Memory,
+    );
 }

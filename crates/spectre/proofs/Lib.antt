@@ -1,4 +1,11 @@
 pub mod Outputs
+pub mod Running
+pub mod Keeping
+pub mod KeptRuns
+pub mod KeptExits
+pub mod Shown
+pub mod TopCall
+pub mod Securing
 pub mod Replies
 pub mod Replayed
 pub mod Resting

@@ -1,5 +1,5 @@
 -- The answering of a scene's messages: what was kept and written after some of them.
-use Rattle.std.proofs.Common.{◌≡◌, ℕ, ◌+◌, ◌<◌, ◌≤◌, List, [], ◌∷◌, ◌++◌, length, take, drop, get_or, slice_get, Option, Some, None, Ok, true, arith, refl, sym, ap, subst, ◌∙◌, append_assoc, inl, inr}
+use Rattle.std.proofs.Common.{◌≡◌, ℕ, ◌+◌, ◌<◌, ◌≤◌, List, [], ◌∷◌, ◌++◌, length, take, drop, slice_get, Option, Some, None, Ok, true, arith, sym, ap, subst, ◌∙◌, append_assoc, inl, inr}
 use Rattle.std.specs.List.{flat_map}
 use Rattle.std.specs.Io.KnownBytes.{Appends}
 use Rattle.std.proofs.lemmas.List.{append-nil, take_all, take_more, take-append-drop}
@@ -97,7 +97,7 @@ module _ (scene : Scene) (labels : AllLabels) (genesis : ReadBlock) (bits : ℕ)
   pub lines_are : answers labels genesis bits [] scene.messages ≡ scene_lines scene
   lines_are =
       ap (λ (x : AllLabels). answers x genesis bits [] scene.messages) l ∙ ap (λ (n : ℕ). answers scene.names genesis n [] scene.messages) b
-      ∙ sym (ap (λ r. lines_by scene.names r scene.bits scene.messages) (ap (block_in true) (sym same) ∙ spelled))
+      ∙ sym (ap (λ r. lines_by scene.names r scene.bits [] scene.messages) (ap (block_in true) (sym same) ∙ spelled))
 
   pub summary_is : summary labels (kept_by_all bits genesis (flat_map arrivals_of scene.messages)) ≡ summary_in scene
   summary_is =

@@ -26,63 +26,63 @@ with_input P (Some input) None given h f = absurd h
 with_input P (Some input) (Some rest) given h f = subst P (sym h) (f rest refl)
 
 -- the lines of the messages, and then the line of the end
-text_is : (input : List ℕ) (end : End) → (fed input).end ≡ end → replayed input ≡ replied input ++ end_text end
+text_is : (before : List (List ℕ)) (input : List ℕ) (end : End) → (fed input).end ≡ end → replayed before input ≡ replied before input ++ end_text end
 unfolding replayed replied
-text_is input end e = ap (λ (x : End). replied input ++ end_text x) e
+text_is before input end e = ap (λ (x : End). replied before input ++ end_text x) e
 
 -- a front of the lines of the messages is one of the whole
-front_text : {old new : Option (List ℕ)} (input : List ℕ) → AppendsFront old new (replied input) → AppendsFront old new (replayed input)
-front_text input h = (
+pub front_text : {old new : Option (List ℕ)} (before : List (List ℕ)) (input : List ℕ) → AppendsFront old new (replied before input) → AppendsFront old new (replayed before input)
+front_text before input h = (
   h.0 ++ end_text (fed input).end,
   record {
     front = h.1.front;
     appended = h.1.appended;
-    split = text_is input (fed input).end refl ∙ ap (λ (t : List ℕ). t ++ end_text (fed input).end) h.1.split ∙ append_assoc h.1.front h.0 (end_text (fed input).end);
+    split = text_is before input (fed input).end refl ∙ ap (λ (t : List ℕ). t ++ end_text (fed input).end) h.1.split ∙ append_assoc h.1.front h.0 (end_text (fed input).end);
   },
 )
 
-module _ {start now : Moment} {old new : Option (List ℕ)} where
+module _ {before : List (List ℕ)} {start now : Moment} {old new : Option (List ℕ)} where
   -- the end was read
-  pub done_text : Replies start now old new (Ok tt) → IfSome start.left (λ input. Appends old new (replayed input) × EndsWhole (fed input).end)
-  done_text r = with_input (λ input. Appends old new (replayed input) × EndsWhole (fed input).end) start.left now.left r.given r.took.consumed (λ rest e.
+  pub done_text : Replies before start now old new (Ok tt) → IfSome start.left (λ input. Appends old new (replayed before input) × EndsWhole (fed input).end)
+  done_text r = with_input (λ input. Appends old new (replayed before input) × EndsWhole (fed input).end) start.left now.left r.given r.took.consumed (λ rest e.
       let s = r.says rest in (
-        subst (λ (t : List ℕ). Appends old new t) (sym (text_is (r.given ++ rest) (Whole rest) s.1 ∙ append-nil (replied (r.given ++ rest)))) s.0,
+        subst (λ (t : List ℕ). Appends old new t) (sym (text_is before (r.given ++ rest) (Whole rest) s.1 ∙ append-nil (replied before (r.given ++ rest)))) s.0,
         subst EndsWhole (sym s.1) tt,
       ))
 
-  pub done_rest : Replies start now old new (Ok tt) → IfSome start.left (λ input. now.left ≡ Some (rest_behind (fed input).end))
+  pub done_rest : Replies before start now old new (Ok tt) → IfSome start.left (λ input. now.left ≡ Some (rest_behind (fed input).end))
   done_rest r = with_input (λ input. now.left ≡ Some (rest_behind (fed input).end)) start.left now.left r.given r.took.consumed (λ rest e.
       let s = r.says rest in e ∙ ap (λ (x : End). Some (rest_behind x)) (sym s.1))
 
   -- a message wasn't answered
-  pub write_text : Replies start now old new (Err WriteFault) → IfSome start.left (λ input. AppendsFront old new (replayed input))
-  write_text r = with_input (λ input. AppendsFront old new (replayed input)) start.left now.left r.given r.took.consumed (λ rest e. front_text (r.given ++ rest) (r.says rest))
+  pub write_text : Replies before start now old new (Err WriteFault) → IfSome start.left (λ input. AppendsFront old new (replayed before input))
+  write_text r = with_input (λ input. AppendsFront old new (replayed before input)) start.left now.left r.given r.took.consumed (λ rest e. front_text before (r.given ++ rest) (r.says rest))
 
-  pub memory_text : Replies start now old new (Err Memory) → IfSome start.left (λ input. AppendsFront old new (replayed input))
-  memory_text r = with_input (λ input. AppendsFront old new (replayed input)) start.left now.left r.given r.took.consumed (λ rest e. front_text (r.given ++ rest) (r.says rest))
+  pub memory_text : Replies before start now old new (Err Memory) → IfSome start.left (λ input. AppendsFront old new (replayed before input))
+  memory_text r = with_input (λ input. AppendsFront old new (replayed before input)) start.left now.left r.given r.took.consumed (λ rest e. front_text before (r.given ++ rest) (r.says rest))
 
   -- so much was taken, and that was written by then
-  pub takes : {r : Result (Unit {0}) ReplayFault} → Replies start now old new r → TakesFeed start.left now.left old new
+  pub takes : {r : Result (Unit {0}) ReplayFault} → Replies before start now old new r → TakesFeed before start.left now.left old new
   takes r = record { given = r.given; consumed = r.took.consumed; within = omega (arith, r.took.counted, r.took.within); needed = r.needed; answered = r.answered }
 
 -- and then a line, or a front of it
-pub takes_then : (before after old mid new : Option (List ℕ)) (line : List ℕ) → TakesFeed before after old mid → AppendsFront mid new line → TakesFeed before after old new
-takes_then before after old mid new line t h = record {
+pub takes_then : (arrived : List (List ℕ)) (before after old mid new : Option (List ℕ)) (line : List ℕ) → TakesFeed arrived before after old mid → AppendsFront mid new line → TakesFeed arrived before after old new
+takes_then arrived before after old mid new line t h = record {
   given = t.given;
   consumed = t.consumed;
   within = t.within;
   needed = t.needed;
-  answered = λ front rest e l. at_least_then old mid new (replied front) h.1.front (t.answered front rest e l) h.1.appended;
+  answered = λ front rest e l. at_least_then old mid new (replied arrived front) h.1.front (t.answered front rest e l) h.1.appended;
 }
 
 -- a fault's line follows the lines of the messages
-module _ (old mid new : Option (List ℕ)) where
-  then_text : (input : List ℕ) (end : End) → Appends old mid (replied input) → (fed input).end ≡ end → Appends mid new (end_text end) → Appends old new (replayed input)
-  then_text input end a e b = subst (λ (t : List ℕ). Appends old new t) (sym (text_is input end e)) (appends_then old mid new (replied input) (end_text end) a b)
+module _ (before : List (List ℕ)) (old mid new : Option (List ℕ)) where
+  then_text : (input : List ℕ) (end : End) → Appends old mid (replied before input) → (fed input).end ≡ end → Appends mid new (end_text end) → Appends old new (replayed before input)
+  then_text input end a e b = subst (λ (t : List ℕ). Appends old new t) (sym (text_is before input end e)) (appends_then old mid new (replied before input) (end_text end) a b)
 
-  then_front : (input : List ℕ) (end : End) → Appends old mid (replied input) → (fed input).end ≡ end → AppendsFront mid new (end_text end) → AppendsFront old new (replayed input)
+  then_front : (input : List ℕ) (end : End) → Appends old mid (replied before input) → (fed input).end ≡ end → AppendsFront mid new (end_text end) → AppendsFront old new (replayed before input)
   then_front input end a e b =
-      let w : Wrote old mid (replayed input) (end_text end ++ []) = record { front = replied input; appended = a; split = text_is input end e ∙ ap (λ (t : List ℕ). replied input ++ t) (sym (append-nil (end_text end))) } in
+      let w : Wrote old mid (replayed before input) (end_text end ++ []) = record { front = replied before input; appended = a; split = text_is before input end e ∙ ap (λ (t : List ℕ). replied before input ++ t) (sym (append-nil (end_text end))) } in
       wrote_stops (end_text end) [] w b
 
 -- a feed's fault says so of the input, where the fault isn't a failed read
@@ -92,10 +92,10 @@ Ends (faults.Truncated at) end = end ≡ Truncated at
 Ends faults.ReadFault end = ⊥
 Ends (faults.TooLong taken) end = end ≡ TooLong taken
 
-module _ {start now : Moment} {old mid : Option (List ℕ)} where
+module _ {before : List (List ℕ)} {start now : Moment} {old mid : Option (List ℕ)} where
   -- where a line was written for it, it is the line of the input's end
-  pub fault_input : (P : List ℕ → Type 0) (e : FeedFault) → Replies start now old mid (Err (Feed e)) → (e ≡ faults.ReadFault → ⊥)
-      → ((input : List ℕ) (end : End) → Appends old mid (replied input) → (fed input).end ≡ end → end_text end ≡ feed_fault_text e → Ends e (fed input).end → P input) → IfSome start.left P
+  pub fault_input : (P : List ℕ → Type 0) (e : FeedFault) → Replies before start now old mid (Err (Feed e)) → (e ≡ faults.ReadFault → ⊥)
+      → ((input : List ℕ) (end : End) → Appends old mid (replied before input) → (fed input).end ≡ end → end_text end ≡ feed_fault_text e → Ends e (fed input).end → P input) → IfSome start.left P
   fault_input P (faults.Malformed at) r other f = with_input P start.left now.left r.given r.took.consumed (λ rest e. let s = r.says rest in f (r.given ++ rest) (Malformed at) s.0 s.1 refl s.1)
   fault_input P (faults.Truncated at) r other f = with_input P start.left now.left r.given r.took.consumed (λ rest e.
       let none : rest ≡ [] = subst IsAtEnd e r.says.1 in
@@ -104,14 +104,14 @@ module _ {start now : Moment} {old mid : Option (List ℕ)} where
   fault_input P faults.ReadFault r other f = absurd (other refl)
   fault_input P (faults.TooLong taken) r other f = with_input P start.left now.left r.given r.took.consumed (λ rest e. let s = r.says rest in f (r.given ++ rest) (TooLong taken) s.0 s.1 refl s.1)
 
-  pub fault_written : (new : Option (List ℕ)) (e : FeedFault) → Replies start now old mid (Err (Feed e)) → (e ≡ faults.ReadFault → ⊥) → Appends mid new (feed_fault_text e) → IfSome start.left (λ input. Appends old new (replayed input) × Ends e (fed input).end)
-  fault_written new e r other b = fault_input (λ input. Appends old new (replayed input) × Ends e (fed input).end) e r other (λ input end a is text ends. (
-    then_text old mid new input end a is (subst (λ (t : List ℕ). Appends mid new t) (sym text) b),
+  pub fault_written : (new : Option (List ℕ)) (e : FeedFault) → Replies before start now old mid (Err (Feed e)) → (e ≡ faults.ReadFault → ⊥) → Appends mid new (feed_fault_text e) → IfSome start.left (λ input. Appends old new (replayed before input) × Ends e (fed input).end)
+  fault_written new e r other b = fault_input (λ input. Appends old new (replayed before input) × Ends e (fed input).end) e r other (λ input end a is text ends. (
+    then_text before old mid new input end a is (subst (λ (t : List ℕ). Appends mid new t) (sym text) b),
     ends,
   ))
 
-  pub fault_front : (new : Option (List ℕ)) (e : FeedFault) → Replies start now old mid (Err (Feed e)) → (e ≡ faults.ReadFault → ⊥) → AppendsFront mid new (feed_fault_text e) → IfSome start.left (λ input. AppendsFront old new (replayed input))
-  fault_front new e r other b = fault_input (λ input. AppendsFront old new (replayed input)) e r other (λ input end a is text ends. then_front old mid new input end a is (subst (λ (t : List ℕ). AppendsFront mid new t) (sym text) b))
+  pub fault_front : (new : Option (List ℕ)) (e : FeedFault) → Replies before start now old mid (Err (Feed e)) → (e ≡ faults.ReadFault → ⊥) → AppendsFront mid new (feed_fault_text e) → IfSome start.left (λ input. AppendsFront old new (replayed before input))
+  fault_front new e r other b = fault_input (λ input. AppendsFront old new (replayed before input)) e r other (λ input end a is text ends. then_front before old mid new input end a is (subst (λ (t : List ℕ). AppendsFront mid new t) (sym text) b))
 
 if_some : {X : Type 0} (o : Option X) (P Q : X → Type 0) → ((x : X) → P x → Q x) → IfSome o P → IfSome o Q
 if_some None P Q f h = tt
@@ -147,16 +147,16 @@ is_read_fault (faults.TooLong taken) s = absurd cc
 pub by_status : (e : FeedFault) (result s : Status) → (s ≡ status.WriteFault → ⊥) → (result ≢ status.WriteFault → result ≡ status_of e) → result ≡ s → status_of e ≡ s
 by_status e result s no_write same is = sym (same (λ h. no_write (sym is ∙ h))) ∙ is
 
-module _ {start now : Moment} {old mid : Option (List ℕ)} where
+module _ {before : List (List ℕ)} {start now : Moment} {old mid : Option (List ℕ)} where
   -- a feed that ends too early leaves nothing
-  pub nothing_left : (e : FeedFault) → Replies start now old mid (Err (Feed e)) → status_of e ≡ status.Truncated → IfSome start.left (λ input. now.left ≡ Some [])
+  pub nothing_left : (e : FeedFault) → Replies before start now old mid (Err (Feed e)) → status_of e ≡ status.Truncated → IfSome start.left (λ input. now.left ≡ Some [])
   nothing_left (faults.Malformed at) r s = absurd cc
   nothing_left (faults.Truncated at) r s = with_input (λ input. now.left ≡ Some []) start.left now.left r.given r.took.consumed (λ rest e. e ∙ ap (λ (t : List ℕ). Some t) (subst IsAtEnd e r.says.1))
   nothing_left faults.ReadFault r s = absurd cc
   nothing_left (faults.TooLong taken) r s = absurd cc
 
   -- of one that is too long the bytes of the limit are taken
-  pub limit_taken : (e : FeedFault) → Replies start now old mid (Err (Feed e)) → status_of e ≡ status.TooLong → IfSome start.left (λ input. now.left ≡ Some (drop feed_limit input))
+  pub limit_taken : (e : FeedFault) → Replies before start now old mid (Err (Feed e)) → status_of e ≡ status.TooLong → IfSome start.left (λ input. now.left ≡ Some (drop feed_limit input))
   limit_taken (faults.Malformed at) r s = absurd cc
   limit_taken (faults.Truncated at) r s = absurd cc
   limit_taken faults.ReadFault r s = absurd cc
@@ -166,18 +166,18 @@ module _ {start now : Moment} {old mid : Option (List ℕ)} where
       with_input (λ input. now.left ≡ Some (drop feed_limit input)) start.left now.left r.given r.took.consumed (λ rest e.
       e ∙ ap (λ (t : List ℕ). Some t) (sym (ap (λ n. drop n (r.given ++ rest)) (sym all) ∙ drop-append_seam r.given rest)))
 
-module _ {start now : Moment} {old mid : Option (List ℕ)} where
+module _ {before : List (List ℕ)} {start now : Moment} {old mid : Option (List ℕ)} where
   -- the line of a fault was written, which gives this status
   pub fault_line_whole : (new : Option (List ℕ)) (e : FeedFault) (result s : Status) (Q : End → Type 0) → ((end : End) → status_of e ≡ s → Ends e end → Q end) → (s ≡ status.WriteFault → ⊥) → (s ≡ status.ReadFault → ⊥)
-      → Replies start now old mid (Err (Feed e)) → (result ≢ status.WriteFault → result ≡ status_of e) → (result ≢ status.WriteFault → Appends mid new (feed_fault_text e))
-      → result ≡ s → IfSome start.left (λ input. Appends old new (replayed input) × Q (fed input).end)
+      → Replies before start now old mid (Err (Feed e)) → (result ≢ status.WriteFault → result ≡ status_of e) → (result ≢ status.WriteFault → Appends mid new (feed_fault_text e))
+      → result ≡ s → IfSome start.left (λ input. Appends old new (replayed before input) × Q (fed input).end)
   fault_line_whole new e result s Q ends no_write no_read r same text is =
       let written : result ≢ status.WriteFault = λ h. no_write (sym is ∙ h) in
       let by : status_of e ≡ s = by_status e result s no_write same is in
-      if_some start.left (λ input. Appends old new (replayed input) × Ends e (fed input).end) (λ input. Appends old new (replayed input) × Q (fed input).end) (λ input h. (h.0, ends (fed input).end by h.1))
+      if_some start.left (λ input. Appends old new (replayed before input) × Ends e (fed input).end) (λ input. Appends old new (replayed before input) × Q (fed input).end) (λ input h. (h.0, ends (fed input).end by h.1))
       (fault_written new e r (λ h. no_read (sym by ∙ ap status_of h)) (text written))
 
   -- its line wasn't written whole
-  pub fault_line_cut : (new : Option (List ℕ)) (e : FeedFault) (result : Status) → Replies start now old mid (Err (Feed e)) → AppendsFront mid new (feed_fault_text e) → (e ≡ faults.ReadFault → result ≡ status.ReadFault)
-      → result ≡ status.WriteFault → IfSome start.left (λ input. AppendsFront old new (replayed input))
+  pub fault_line_cut : (new : Option (List ℕ)) (e : FeedFault) (result : Status) → Replies before start now old mid (Err (Feed e)) → AppendsFront mid new (feed_fault_text e) → (e ≡ faults.ReadFault → result ≡ status.ReadFault)
+      → result ≡ status.WriteFault → IfSome start.left (λ input. AppendsFront old new (replayed before input))
   fault_line_cut new e result r front other is = fault_front new e r (λ h. let no : status.WriteFault ≡ status.ReadFault = sym is ∙ other h in absurd cc) front

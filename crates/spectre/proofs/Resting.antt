@@ -1,15 +1,12 @@
 -- What the answers to a feed rest on, and that the order of arrival is no matter to a question.
-use Rattle.std.proofs.Common.{◌≡◌, ℕ, true, List, [], ◌∷◌, ◌++◌, Option, Some, None, IfSome, Result, Ok, Err, refl, sym, ap, ap₂, subst, ◌∙◌, inl, inr}
+use Rattle.std.proofs.Common.{◌≡◌, ℕ, List, [], ◌∷◌, ◌++◌, Option, Some, None, IfSome, Result, sym, ap, ap₂, subst, ◌∙◌, inl, inr}
 use Rattle.std.specs.Prelude.{Contains}
-use Rattle.std.specs.List.{flat_map}
 use Rattle.sp_form.specs.Bytes.{IsBytes}
 use Rattle.sp_block.specs.Block.{ReadBlock}
 use Rattle.sp_pool.specs.Kept.{AreKept}
 use Rattle.sp_carry.proofs.Members.{contains_from_in, in_append_left, in_flat_map, in_from_contains, IsIn}
 use Rattle.sp_engine.specs.Arrivals.{kept_by_all}
-use Rattle.sp_engine.specs.Blocks.{block_in}
 use Rattle.sp_engine.proofs.AllKept.{all_are_kept, genesis_spelled}
-use Rattle.sp_feed.specs.Format.{Head}
 use Rattle.sp_feed.specs.Kinds.{Said, SaysBlock, SaysVote, SaysTx, SaysBalance, SaysPairs, SaysReport}
 use Rattle.sp_feed.proofs.PayloadBytes.{genesis_is_bytes, payloads_are_bytes}
 use Rattle.sp_names.specs.Labels.{no_labels}
@@ -17,7 +14,7 @@ use Rattle.sp_node.specs.Answers.{answers, arrivals_of, reply}
 use Rattle.sp_node.proofs.AnswerLists.{answers-append}
 use Rattle.sp_node.proofs.SameReplies.{order_is_no_matter as same_replies}
 use Rattle.spectre.specs.Scenes.{lines_by}
-use Rattle.spectre.specs.Replay.{fed, feed_limit, lines_under, replied}
+use Rattle.spectre.specs.Replay.{feed_limit, lines_under, replied}
 use Rattle.spectre.specs.Rests.{arrived, HasMessage, IsAnswered, OrderIsNoMatter}
 
 -- ---- all that is kept of a feed's blocks are kept blocks
@@ -48,11 +45,11 @@ module _ {input : List ℕ} {bits : ℕ} {genesis : ReadBlock} {before : List Sa
 
   -- ---- the answer to a message stands behind those before it
 
-  lines_are : replied input ≡ answers no_labels genesis bits [] (before ++ message ∷ h.after)
+  lines_are : replied [] input ≡ answers no_labels genesis bits [] (before ++ message ∷ h.after)
   unfolding replied
   lines_are =
-      ap₂ lines_under h.begins h.messages
-      ∙ ap (λ (found : Result ReadBlock _). lines_by no_labels found h.head.bits (before ++ message ∷ h.after)) h.spelled
+      ap₂ (lines_under []) h.begins h.messages
+      ∙ ap (λ (found : Result ReadBlock _). lines_by no_labels found h.head.bits [] (before ++ message ∷ h.after)) h.spelled
       ∙ ap (λ (n : ℕ). answers no_labels genesis n [] (before ++ message ∷ h.after)) h.asks
 
   pub answered : IsAnswered input bits genesis before (reply no_labels genesis bits (arrived before) message)

@@ -1,7 +1,9 @@
 -- How a scene and a run can end.
-use Rattle.std.specs.Prelude.{◌≡◌, ℕ, IsSome, IsNone, Result, Ok, Err}
+use Rattle.std.specs.Prelude.{◌≡◌, ℕ, Option, Some, None, IsSome, IsNone, Result, Ok, Err}
 use Rattle.sp_io.specs.Causes.{Rose}
 use Rattle.sp_play.specs.Scene.{Scene}
+use Rattle.spectre.specs.declared.job.Job.{Job}
+use Rattle.spectre.specs.declared.job.Job.TheVariants as jobs
 use Rattle.spectre.specs.declared.status.Status.{Status}
 use Rattle.spectre.specs.declared.status.Status.TheVariants as status
 use Rattle.spectre.specs.declared.ending.Ending.{Ending}
@@ -18,21 +20,6 @@ EndsAs scene Faulty = IsSome scene.fault
 abbrev pub HasStopCause : ℕ → ℕ → Stop → Type 0
 HasStopCause before now WriteFault = Rose before now
 HasStopCause before now Memory = Unit {0}
-
--- the statuses that can come
-abbrev pub Comes : Status → Type 0
-Comes status.Done = Unit {0}
-Comes status.Usage = Unit {0}
-Comes status.Malformed = Unit {0}
-Comes status.Truncated = Unit {0}
-Comes status.ReadFault = Unit {0}
-Comes status.WriteFault = Unit {0}
-Comes status.DiskFault = ⊥
-Comes status.NotJournal = ⊥
-Comes status.OtherChain = ⊥
-Comes status.Memory = Unit {0}
-Comes status.Damaged = ⊥
-Comes status.TooLong = Unit {0}
 
 -- the statuses that a scenario can end with
 abbrev pub Plays : Status → Type 0
@@ -85,3 +72,44 @@ Makes status.OtherChain = ⊥
 Makes status.Memory = Unit {0}
 Makes status.Damaged = ⊥
 Makes status.TooLong = ⊥
+
+-- the statuses that a journal which is shown can end with
+abbrev pub Shows : Status → Type 0
+Shows status.Done = Unit {0}
+Shows status.Usage = ⊥
+Shows status.Malformed = ⊥
+Shows status.Truncated = ⊥
+Shows status.ReadFault = ⊥
+Shows status.WriteFault = Unit {0}
+Shows status.DiskFault = Unit {0}
+Shows status.NotJournal = Unit {0}
+Shows status.OtherChain = ⊥
+Shows status.Memory = Unit {0}
+Shows status.Damaged = Unit {0}
+Shows status.TooLong = ⊥
+
+-- the statuses that a feed can end with whose blocks are kept in a journal
+abbrev pub KeepsTo : Status → Type 0
+KeepsTo status.Done = Unit {0}
+KeepsTo status.Usage = ⊥
+KeepsTo status.Malformed = Unit {0}
+KeepsTo status.Truncated = Unit {0}
+KeepsTo status.ReadFault = Unit {0}
+KeepsTo status.WriteFault = Unit {0}
+KeepsTo status.DiskFault = Unit {0}
+KeepsTo status.NotJournal = Unit {0}
+KeepsTo status.OtherChain = Unit {0}
+KeepsTo status.Memory = Unit {0}
+KeepsTo status.Damaged = Unit {0}
+KeepsTo status.TooLong = Unit {0}
+
+-- the statuses that some words can end with
+abbrev pub Comes : Option Job → Status → Type 0
+Comes None s = s ≡ status.Usage
+Comes (Some jobs.Replay) s = Replays s
+Comes (Some (jobs.Keep path fresh)) s = KeepsTo s
+Comes (Some (jobs.Show path)) s = Shows s
+Comes (Some jobs.Play) s = Plays s
+Comes (Some jobs.Build) s = Plays s
+Comes (Some (jobs.Make n seed width)) s = Makes s
+Comes (Some (jobs.Drill n seed width)) s = Makes s

@@ -1,16 +1,18 @@
 -- Which fault the input of a job has, what of it stays unread, and what was written where a
 -- read failed.
-use Rattle.std.specs.Prelude.{◌<◌, ◌≤◌, ℕ, List, [], drop, length, Option, Some, None, IsSome, IsNone}
+use Rattle.std.specs.Prelude.{◌≡◌, ◌<◌, ◌≤◌, ℕ, List, [], drop, length, Option, Some, None, IsSome, IsNone}
 use Rattle.sp_feed.specs.Feed.{End, Malformed, TooLong, Truncated, Whole}
 use Rattle.sp_feed.specs.declared.fault.FeedFault.{FeedFault}
 use Rattle.sp_feed.specs.declared.fault.FeedFault.TheVariants as faults
 use Rattle.sp_report.specs.Lines.{malformed_text, too_long_text, truncated_text}
+use Rattle.sp_journal.specs.Records.{NoJournal, records}
 use Rattle.sp_make.specs.Made.{made}
 use Rattle.sp_play.specs.Scene.{scene}
 use Rattle.sp_play.specs.Source.{scenario_limit}
+use Rattle.spectre.specs.Journals.{Fits, HasNoJournal, HasOtherChain, HoldsJournal, IsDamagedDisk}
 use Rattle.spectre.specs.Replay.{fed, feed_limit}
 use Rattle.spectre.specs.declared.job.Job.{Job}
-use Rattle.spectre.specs.declared.job.Job.TheVariants.{Replay, Play, Build, Make, Drill}
+use Rattle.spectre.specs.declared.job.Job.TheVariants.{Replay, Keep, Show, Play, Build, Make, Drill}
 use Rattle.spectre.specs.declared.status.Status.{Status}
 use Rattle.spectre.specs.declared.status.Status.TheVariants as status
 
@@ -57,19 +59,23 @@ pub record IsFaultyScene (input : List ℕ) : Type 0 where
   pub wrong : IsSome (scene input).fault
   pub short : length input < scenario_limit
 
--- the input of a job has no fault; where it takes none, what it makes has none
-abbrev pub IsFaultless : Option Job → List ℕ → Type 0
-IsFaultless None input = ⊥
-IsFaultless (Some Replay) input = EndsWhole (fed input).end
-IsFaultless (Some Play) input = IsWholeScene input
-IsFaultless (Some Build) input = IsWholeScene input
-IsFaultless (Some (Make n seed width)) input = Unit {0}
-IsFaultless (Some (Drill n seed width)) input = IsNone (scene (made n seed width)).fault
+-- the input of a job has no fault, nor has what the disk holds; where it takes none, what it makes has none
+abbrev pub IsFaultless : Option Job → List ℕ → List ℕ → Type 0
+IsFaultless None disk input = ⊥
+IsFaultless (Some Replay) disk input = EndsWhole (fed input).end
+IsFaultless (Some (Keep path fresh)) disk input = Fits fresh disk input × EndsWhole (fed input).end
+IsFaultless (Some (Show path)) disk input = HoldsJournal disk
+IsFaultless (Some Play) disk input = IsWholeScene input
+IsFaultless (Some Build) disk input = IsWholeScene input
+IsFaultless (Some (Make n seed width)) disk input = Unit {0}
+IsFaultless (Some (Drill n seed width)) disk input = IsNone (scene (made n seed width)).fault
 
 -- it has a faulty line, or a malformed field
 abbrev pub IsMalformed : Option Job → List ℕ → Type 0
 IsMalformed None input = ⊥
 IsMalformed (Some Replay) input = EndsMalformed (fed input).end
+IsMalformed (Some (Keep path fresh)) input = EndsMalformed (fed input).end
+IsMalformed (Some (Show path)) input = ⊥
 IsMalformed (Some Play) input = IsFaultyScene input
 IsMalformed (Some Build) input = IsFaultyScene input
 IsMalformed (Some (Make n seed width)) input = ⊥
@@ -79,6 +85,8 @@ IsMalformed (Some (Drill n seed width)) input = IsSome (scene (made n seed width
 abbrev pub IsTruncated : Option Job → List ℕ → Type 0
 IsTruncated None input = ⊥
 IsTruncated (Some Replay) input = EndsTruncated (fed input).end
+IsTruncated (Some (Keep path fresh)) input = EndsTruncated (fed input).end
+IsTruncated (Some (Show path)) input = ⊥
 IsTruncated (Some Play) input = ⊥
 IsTruncated (Some Build) input = ⊥
 IsTruncated (Some (Make n seed width)) input = ⊥
@@ -88,15 +96,52 @@ IsTruncated (Some (Drill n seed width)) input = ⊥
 abbrev pub IsTooLong : Option Job → List ℕ → Type 0
 IsTooLong None input = ⊥
 IsTooLong (Some Replay) input = EndsTooLong (fed input).end
+IsTooLong (Some (Keep path fresh)) input = EndsTooLong (fed input).end
+IsTooLong (Some (Show path)) input = ⊥
 IsTooLong (Some Play) input = scenario_limit ≤ length input
 IsTooLong (Some Build) input = scenario_limit ≤ length input
 IsTooLong (Some (Make n seed width)) input = ⊥
 IsTooLong (Some (Drill n seed width)) input = ⊥
 
+-- the disk holds no journal where one is needed
+abbrev pub IsNoJournal : Option Job → List ℕ → Type 0
+IsNoJournal None disk = ⊥
+IsNoJournal (Some Replay) disk = ⊥
+IsNoJournal (Some (Keep path fresh)) disk = HasNoJournal fresh disk
+IsNoJournal (Some (Show path)) disk = records disk ≡ NoJournal
+IsNoJournal (Some Play) disk = ⊥
+IsNoJournal (Some Build) disk = ⊥
+IsNoJournal (Some (Make n seed width)) disk = ⊥
+IsNoJournal (Some (Drill n seed width)) disk = ⊥
+
+-- a damaged one
+abbrev pub IsDamaged : Option Job → List ℕ → Type 0
+IsDamaged None disk = ⊥
+IsDamaged (Some Replay) disk = ⊥
+IsDamaged (Some (Keep path fresh)) disk = IsDamagedDisk disk
+IsDamaged (Some (Show path)) disk = IsDamagedDisk disk
+IsDamaged (Some Play) disk = ⊥
+IsDamaged (Some Build) disk = ⊥
+IsDamaged (Some (Make n seed width)) disk = ⊥
+IsDamaged (Some (Drill n seed width)) disk = ⊥
+
+-- that of another chain
+abbrev pub IsOtherChain : Option Job → List ℕ → List ℕ → Type 0
+IsOtherChain None disk input = ⊥
+IsOtherChain (Some Replay) disk input = ⊥
+IsOtherChain (Some (Keep path fresh)) disk input = HasOtherChain disk input
+IsOtherChain (Some (Show path)) disk input = ⊥
+IsOtherChain (Some Play) disk input = ⊥
+IsOtherChain (Some Build) disk input = ⊥
+IsOtherChain (Some (Make n seed width)) disk input = ⊥
+IsOtherChain (Some (Drill n seed width)) disk input = ⊥
+
 -- what a run that is done leaves of the input
 abbrev pub unread : Option Job → List ℕ → List ℕ
 unread None input = input
 unread (Some Replay) input = rest_behind (fed input).end
+unread (Some (Keep path fresh)) input = rest_behind (fed input).end
+unread (Some (Show path)) input = input
 unread (Some Play) input = []
 unread (Some Build) input = []
 unread (Some (Make n seed width)) input = input
@@ -106,6 +151,8 @@ unread (Some (Drill n seed width)) input = input
 abbrev pub beyond : Option Job → List ℕ → List ℕ
 beyond None input = input
 beyond (Some Replay) input = drop feed_limit input
+beyond (Some (Keep path fresh)) input = drop feed_limit input
+beyond (Some (Show path)) input = input
 beyond (Some Play) input = drop scenario_limit input
 beyond (Some Build) input = drop scenario_limit input
 beyond (Some (Make n seed width)) input = input

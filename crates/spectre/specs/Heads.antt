@@ -12,4 +12,5 @@ as_replay heads.Memory = replays.Memory
 
 abbrev pub of_node : NodeFault → ReplayFault
 of_node nodes.WriteFault = replays.WriteFault
+of_node nodes.DiskFault = replays.DiskFault
 of_node nodes.Memory = replays.Memory

@@ -1,18 +1,15 @@
 -- Which job the words of the command line are, and what each job takes.
-use Rattle.std.specs.Prelude.{◌≡◌, ◌≤◌, ℕ, ◌-◌, ◌^◌, ◌==◌, if◌then◌else◌, List, [], Option, Some, None, Result, Ok, Err, length, slice_index_or, codes, map, string_bytes, String}
-use Rattle.std.specs.Global.{Global}
+use Rattle.std.specs.Prelude.{◌≤◌, ℕ, ◌-◌, ◌^◌, ◌==◌, if◌then◌else◌, true, false, List, Option, Some, None, Result, Ok, Err, length, codes}
 use Rattle.std.specs.Str.{bytes_eq}
 use Rattle.sp_play.specs.Numbers.{number_in}
 use Rattle.sp_play.specs.declared.why.Why.{Why}
+use Rattle.spectre.specs.Files.{file_in}
+use Rattle.spectre.specs.Words.{word_at}
+use Rattle.spectre.specs.declared.files.FileUse.{FileUse}
+use Rattle.spectre.specs.declared.files.FileUse.TheVariants as uses
 use Rattle.spectre.specs.declared.job.Job.{Job}
-use Rattle.spectre.specs.declared.job.Job.TheVariants.{Replay, Play, Build, Make, Drill}
-
--- the words after the program's name, as lists of bytes
-abbrev pub texts : List (String Global) → List (List ℕ)
-texts words = map string_bytes words
-
-abbrev pub word_at : List (List ℕ) → ℕ → List ℕ
-word_at words i = slice_index_or words i []
+use Rattle.spectre.specs.declared.job.Job.TheVariants.{Replay, Keep, Show, Play, Build, Make, Drill}
+pub use Rattle.spectre.specs.Words.{texts}
 
 -- a job that is a single word
 unfoldable pub job_named : List ℕ → Option Job
@@ -39,11 +36,25 @@ unfoldable pub job_of_numbers : List (List ℕ) → Option Job
 job_of_numbers words =
     job_by (word_at words 0) (number_in 0 511 (word_at words 1)) (number_in 0 (2 ^ 64 - 1) (word_at words 2)) (number_in 1 16 (word_at words 3))
 
--- `replay`, `play`, `build`, `make N SEED WIDTH` and `drill N SEED WIDTH`; no other words are a job
-abbrev pub job_in : List (List ℕ) → Option Job
-job_in words =
+-- `replay`, `play`, `build`, `make N SEED WIDTH` and `drill N SEED WIDTH`
+abbrev pub plain_job : List (List ℕ) → Option Job
+plain_job words =
     if length words == 1 then job_named (word_at words 0) else
     if length words == 4 then job_of_numbers words else None
+
+-- a job on a file
+abbrev pub job_on : List ℕ → FileUse → Job
+job_on path uses.Keep = Keep path false
+job_on path uses.Fresh = Keep path true
+job_on path uses.Show = Show path
+
+abbrev pub job_or : Option (List ℕ × FileUse) → Option Job → Option Job
+job_or (Some file) job = Some (job_on file.0 file.1)
+job_or None job = job
+
+-- these, and those that name a file; no other words are a job
+abbrev pub job_in : List (List ℕ) → Option Job
+job_in words = job_or (file_in words) (plain_job words)
 
 -- a scenario is made of numbers in these ranges
 pub record AreNumbers (n width : ℕ) : Type 0 where
@@ -53,6 +64,8 @@ pub record AreNumbers (n width : ℕ) : Type 0 where
 
 abbrev pub IsJob : Job → Type 0
 IsJob Replay = Unit {0}
+IsJob (Keep path fresh) = Unit {0}
+IsJob (Show path) = Unit {0}
 IsJob Play = Unit {0}
 IsJob Build = Unit {0}
 IsJob (Make n seed width) = AreNumbers n width
@@ -63,6 +76,8 @@ IsJob (Drill n seed width) = AreNumbers n width
 abbrev pub TakesScenario : Option Job → Type 0
 TakesScenario None = ⊥
 TakesScenario (Some Replay) = ⊥
+TakesScenario (Some (Keep path fresh)) = ⊥
+TakesScenario (Some (Show path)) = ⊥
 TakesScenario (Some Play) = Unit {0}
 TakesScenario (Some Build) = Unit {0}
 TakesScenario (Some (Make n seed width)) = ⊥
@@ -71,7 +86,41 @@ TakesScenario (Some (Drill n seed width)) = ⊥
 abbrev pub TakesNothing : Option Job → Type 0
 TakesNothing None = Unit {0}
 TakesNothing (Some Replay) = ⊥
+TakesNothing (Some (Keep path fresh)) = ⊥
+TakesNothing (Some (Show path)) = Unit {0}
 TakesNothing (Some Play) = ⊥
 TakesNothing (Some Build) = ⊥
 TakesNothing (Some (Make n seed width)) = Unit {0}
 TakesNothing (Some (Drill n seed width)) = Unit {0}
+
+abbrev pub AnswersFeed : Option Job → Type 0
+AnswersFeed None = ⊥
+AnswersFeed (Some Replay) = Unit {0}
+AnswersFeed (Some (Keep path fresh)) = Unit {0}
+AnswersFeed (Some (Show path)) = ⊥
+AnswersFeed (Some Play) = ⊥
+AnswersFeed (Some Build) = ⊥
+AnswersFeed (Some (Make n seed width)) = ⊥
+AnswersFeed (Some (Drill n seed width)) = ⊥
+
+-- it shows a journal; it names the file of one; else it asks nothing of a disk
+
+abbrev pub Shows : Option Job → Type 0
+Shows None = ⊥
+Shows (Some Replay) = ⊥
+Shows (Some (Keep path fresh)) = ⊥
+Shows (Some (Show path)) = Unit {0}
+Shows (Some Play) = ⊥
+Shows (Some Build) = ⊥
+Shows (Some (Make n seed width)) = ⊥
+Shows (Some (Drill n seed width)) = ⊥
+
+abbrev pub NamesFile : Option Job → Type 0
+NamesFile None = ⊥
+NamesFile (Some Replay) = ⊥
+NamesFile (Some (Keep path fresh)) = Unit {0}
+NamesFile (Some (Show path)) = Unit {0}
+NamesFile (Some Play) = ⊥
+NamesFile (Some Build) = ⊥
+NamesFile (Some (Make n seed width)) = ⊥
+NamesFile (Some (Drill n seed width)) = ⊥

@@ -1,10 +1,12 @@
--- The defined output: what the program writes for these words and this input, if nothing fails.
-use Rattle.std.specs.Prelude.{ℕ, Bool, if◌then◌else◌, List, [], length, nat_le, Option, Some, None}
+-- The defined output: what the program writes for these words, what the disk reads before the run, and this input, if
+-- nothing fails.
+use Rattle.std.specs.Prelude.{ℕ, Bool, if◌then◌else◌, List, [], length, nat_le, Option, Some, None, IfSome}
 use Rattle.sp_make.specs.Made.{made}
 use Rattle.sp_play.specs.Scene.{scene}
 use Rattle.sp_play.specs.Source.{scenario_limit}
 use Rattle.sp_report.specs.Lines.{too_long_text}
 use Rattle.spectre.specs.Jobs.{job_in}
+use Rattle.spectre.specs.Journals.{found_blocks, kept_output, shown_output}
 use Rattle.spectre.specs.Replay.{replayed}
 use Rattle.spectre.specs.Scenes.{drilled, scene_output}
 use Rattle.spectre.specs.declared.job.Job.{Job}
@@ -20,14 +22,49 @@ abbrev pub source_output : Purpose → List ℕ → List ℕ
 source_output purpose input =
     if is_too_long input then too_long_text scenario_limit else scene_output purpose (scene input)
 
--- what a job writes for this input; words that are no job write nothing
-abbrev pub output_by : Option Job → List ℕ → List ℕ
-output_by None input = []
-output_by (Some jobs.Replay) input = replayed input
-output_by (Some jobs.Play) input = source_output Play input
-output_by (Some jobs.Build) input = source_output Build input
-output_by (Some (jobs.Make n seed width)) input = made n seed width
-output_by (Some (jobs.Drill n seed width)) input = drilled (scene (made n seed width))
+-- what a job writes over this disk for this input; words that are no job write nothing
+abbrev pub output_by : Option Job → List ℕ → List ℕ → List ℕ
+output_by None disk input = []
+output_by (Some jobs.Replay) disk input = replayed [] input
+output_by (Some (jobs.Keep path fresh)) disk input = kept_output fresh disk input
+output_by (Some (jobs.Show path)) disk input = shown_output disk
+output_by (Some jobs.Play) disk input = source_output Play input
+output_by (Some jobs.Build) disk input = source_output Build input
+output_by (Some (jobs.Make n seed width)) disk input = made n seed width
+output_by (Some (jobs.Drill n seed width)) disk input = drilled (scene (made n seed width))
 
-abbrev pub output : List (List ℕ) → List ℕ → List ℕ
-output words input = output_by (job_in words) input
+abbrev pub output : List (List ℕ) → List ℕ → List ℕ → List ℕ
+output words disk input = output_by (job_in words) disk input
+
+-- What is said of the disk's bytes is said where it tells them, and for a job that names no file of none.
+abbrev pub OnDisk : Option Job → Option (List ℕ) → (List ℕ → Type 0) → Type 0
+OnDisk None reads P = P []
+OnDisk (Some jobs.Replay) reads P = P []
+OnDisk (Some (jobs.Keep path fresh)) reads P = IfSome reads P
+OnDisk (Some (jobs.Show path)) reads P = IfSome reads P
+OnDisk (Some jobs.Play) reads P = P []
+OnDisk (Some jobs.Build) reads P = P []
+OnDisk (Some (jobs.Make n seed width)) reads P = P []
+OnDisk (Some (jobs.Drill n seed width)) reads P = P []
+
+-- the blocks that stand before those of the feed
+abbrev pub blocks_before : Option Job → List ℕ → List (List ℕ)
+blocks_before None disk = []
+blocks_before (Some jobs.Replay) disk = []
+blocks_before (Some (jobs.Keep path fresh)) disk = found_blocks disk
+blocks_before (Some (jobs.Show path)) disk = found_blocks disk
+blocks_before (Some jobs.Play) disk = []
+blocks_before (Some jobs.Build) disk = []
+blocks_before (Some (jobs.Make n seed width)) disk = []
+blocks_before (Some (jobs.Drill n seed width)) disk = []
+
+-- what is said of a run that keeps a journal
+abbrev pub OnKeep : Option Job → (Bool → Type 0) → Type 0
+OnKeep None P = Unit {0}
+OnKeep (Some jobs.Replay) P = Unit {0}
+OnKeep (Some (jobs.Keep path fresh)) P = P fresh
+OnKeep (Some (jobs.Show path)) P = Unit {0}
+OnKeep (Some jobs.Play) P = Unit {0}
+OnKeep (Some jobs.Build) P = Unit {0}
+OnKeep (Some (jobs.Make n seed width)) P = Unit {0}
+OnKeep (Some (jobs.Drill n seed width)) P = Unit {0}

@@ -1,5 +1,6 @@
--- What a feed writes: one line for each message, and the line of its fault.
-use Rattle.std.specs.Prelude.{ℕ, true, List, [], ◌++◌, Option, Some, None}
+-- What a feed writes: the answer to each message, over the blocks of a journal where there is one, and the line of its
+-- fault.
+use Rattle.std.specs.Prelude.{ℕ, ◌-◌, true, List, [], ◌++◌, length, take, Option, Some, None}
 use Rattle.sp_engine.specs.Blocks.{block_in}
 use Rattle.sp_feed.specs.Feed.{End, Feed, feed, Malformed, TooLong, Truncated, Whole}
 use Rattle.sp_feed.specs.Format.{Head}
@@ -12,13 +13,13 @@ use Rattle.spectre.specs.Scenes.{lines_by}
 abbrev pub feed_limit : ℕ
 feed_limit = 4294967295
 
--- one line for each message, over the genesis block that the head spells
-abbrev pub lines_under : Option Head → List Said → List ℕ
-lines_under None messages = []
-lines_under (Some head) messages = lines_by no_labels (block_in true head.genesis) head.bits messages
+-- the answer to each message behind these arrivals, over the genesis block that the head spells
+abbrev pub lines_under : List (List ℕ) → Option Head → List Said → List ℕ
+lines_under before None messages = []
+lines_under before (Some head) messages = lines_by no_labels (block_in true head.genesis) head.bits before messages
 
-abbrev pub message_lines : Feed → List ℕ
-message_lines f = lines_under f.head f.messages
+abbrev pub message_lines : List (List ℕ) → Feed → List ℕ
+message_lines before f = lines_under before f.head f.messages
 
 -- the line of the fault by which reading ends
 abbrev pub end_text : End → List ℕ
@@ -27,17 +28,24 @@ end_text (Malformed at) = malformed_text at
 end_text (Truncated at) = truncated_text at
 end_text (TooLong taken) = too_long_text taken
 
-abbrev pub feed_text : Feed → List ℕ
-feed_text f = message_lines f ++ end_text f.end
+abbrev pub feed_text : List (List ℕ) → Feed → List ℕ
+feed_text before f = message_lines before f ++ end_text f.end
 
 -- the feed that the input is
 abbrev pub fed : List ℕ → Feed
 fed input = feed feed_limit input
 
 -- what a feed writes
-unfoldable pub replayed : List ℕ → List ℕ
-replayed input = feed_text (fed input)
+unfoldable pub replayed : List (List ℕ) → List ℕ → List ℕ
+replayed before input = feed_text before (fed input)
 
--- the lines of the messages of a feed alone
-unfoldable pub replied : List ℕ → List ℕ
-replied input = message_lines (fed input)
+-- the answers to the messages of a feed alone
+unfoldable pub replied : List (List ℕ) → List ℕ → List ℕ
+replied before input = message_lines before (fed input)
+
+abbrev pub but_last : List Said → List Said
+but_last messages = take (length messages - 1) messages
+
+-- the answers to all of them but the last
+abbrev pub replied_but_last : List (List ℕ) → List ℕ → List ℕ
+replied_but_last before input = lines_under before (fed input).head (but_last (fed input).messages)

@@ -54,7 +54,7 @@ AnswersAgree input =
 -- what is written for a feed's messages: the answers to those before one of them, this answer, and those behind it
 pub record IsAnswered (input : List ℕ) (bits : ℕ) (genesis : ReadBlock) (before : List Said) (answer : List ℕ) : Type 0 where
   pub behind : List ℕ
-  pub all : replied input ≡ answers no_labels genesis bits [] before ++ (answer ++ behind)
+  pub all : replied [] input ≡ answers no_labels genesis bits [] before ++ (answer ++ behind)
 
 -- Two feeds of one genesis ask the same question, each after messages with the same valid blocks, at most 512 with
 -- genesis and all of different ids; where it is on transactions or balances, no two different transactions of the

@@ -1,5 +1,5 @@
 -- What is written for a scenario: by playing it, by building its feed, and by drilling it.
-use Rattle.std.specs.Prelude.{ℕ, true, List, [], ◌∷◌, ◌++◌, Option, Some, None, Result, Ok, Err}
+use Rattle.std.specs.Prelude.{ℕ, true, List, [], ◌++◌, Option, Some, None, Result, Ok, Err}
 use Rattle.std.specs.List.{flat_map}
 use Rattle.sp_block.specs.Block.{ReadBlock}
 use Rattle.sp_block.specs.declared.fault.BlockFault.{BlockFault}
@@ -16,14 +16,14 @@ use Rattle.spectre.specs.Summary.{summary}
 use Rattle.spectre.specs.declared.purpose.Purpose.{Purpose}
 use Rattle.spectre.specs.declared.purpose.Purpose.TheVariants.{Play, Build, Drill}
 
--- what answers the messages, if the genesis block is spelled
-abbrev pub lines_by : AllLabels → Result ReadBlock BlockFault → ℕ → List Said → List ℕ
-lines_by labels (Ok genesis) bits messages = answers labels genesis bits [] messages
-lines_by labels (Err fault) bits messages = []
+-- what answers the messages behind these arrivals, if the genesis block is spelled
+abbrev pub lines_by : AllLabels → Result ReadBlock BlockFault → ℕ → List (List ℕ) → List Said → List ℕ
+lines_by labels (Ok genesis) bits before messages = answers labels genesis bits before messages
+lines_by labels (Err fault) bits before messages = []
 
 -- what answers a scene's messages, with names as labels
 abbrev pub scene_lines : Scene → List ℕ
-scene_lines scene = lines_by scene.names (block_in true scene.genesis) scene.bits scene.messages
+scene_lines scene = lines_by scene.names (block_in true scene.genesis) scene.bits [] scene.messages
 
 -- the answers, and then the line of the fault
 unfoldable pub played : Scene → List ℕ

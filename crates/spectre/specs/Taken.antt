@@ -12,14 +12,14 @@ AreNeeded given =
     (front rest : List ℕ) → given ≡ front ++ rest → 0 < length rest → (fed front).end ≡ Truncated (length front)
 
 -- the lines of the messages in each such front were written
-abbrev pub AreAnswered : Option (List ℕ) → Option (List ℕ) → List ℕ → Type 0
-AreAnswered old new given =
-    (front rest : List ℕ) → given ≡ front ++ rest → 0 < length rest → AppendsAtLeast old new (replied front)
+abbrev pub AreAnswered : List (List ℕ) → Option (List ℕ) → Option (List ℕ) → List ℕ → Type 0
+AreAnswered arrived old new given =
+    (front rest : List ℕ) → given ≡ front ++ rest → 0 < length rest → AppendsAtLeast old new (replied arrived front)
 
--- so much was taken of a source, while a sink's known bytes went from old to new
-pub record TakesFeed (before after old new : Option (List ℕ)) : Type 0 where
+-- so much was taken of a source, while a sink's known bytes went from old to new, behind the blocks of a journal
+pub record TakesFeed (arrived : List (List ℕ)) (before after old new : Option (List ℕ)) : Type 0 where
   pub given : List ℕ
   pub consumed : Consumes before after given
   pub within : length given ≤ feed_limit
   pub needed : AreNeeded given
-  pub answered : AreAnswered old new given
+  pub answered : AreAnswered arrived old new given

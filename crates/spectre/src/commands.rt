@@ -6,10 +6,10 @@ use std::alloc::{AllocError, Global};
 
 /// The usage line, without its end.
 pub const USAGE: &str =
-    "usage: spectre play | build | make N SEED WIDTH | drill N SEED WIDTH | replay";
+    "usage: spectre play | build | make N SEED WIDTH | drill N SEED WIDTH | replay | node [--fresh] FILE | show FILE";
 
 /// The words of each command, and what it reads and writes.
-const COMMANDS: [(&str, &str); 5] = [
+const COMMANDS: [(&str, &str); 8] = [
     (
         "play",
         "reads a scenario, writes the answers to it, with its names",
@@ -24,6 +24,15 @@ const COMMANDS: [(&str, &str); 5] = [
         "plays that scenario, writes a summary of it",
     ),
     ("replay", "reads a feed, writes the answers to it, with ids"),
+    (
+        "node FILE",
+        "does as replay, and keeps the blocks in the journal in FILE",
+    ),
+    (
+        "node --fresh FILE",
+        "makes a new journal also where FILE holds other bytes",
+    ),
+    ("show FILE", "writes what the journal in FILE holds"),
 ];
 
 /// A command of the list.

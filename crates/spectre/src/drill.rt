@@ -1,7 +1,7 @@
 //! The drill: a scene's blocks are kept, its answers are dropped, and a summary of what stands then
 //! is written.
 
-ghost use Rattle.std.specs.Prelude.{◌≡◌, ◌≢◌, ◌∷◌, [], false, Err, IfErr, IfOk, OnErr, OnOk};
+ghost use Rattle.std.specs.Prelude.{◌≡◌, ◌≢◌, ◌∷◌, [], false, Err, IfErr, IfOk, None, OnErr, OnOk};
 ghost use Rattle.std.specs.List.{flat_map};
 ghost use Rattle.std.specs.Io.KnownBytes.{Appends};
 ghost use Rattle.sp_block.specs.Block.{ReadBlock};
@@ -29,6 +29,7 @@ use std::alloc::Global;
 /// Keeps the blocks of a scene by a node on its genesis block, and drops the answers.
 fn keep_scene(node: &mut Node, scene: &Scene, naming: &Naming<'_>) -> Result<(), Memory>
     requires live { node.old.stopped ≡ false }
+    requires plain { node.old.journal ≡ None }
     ensures kept { (genesis : ReadBlock) → node.old.kept ≡ genesis ∷ [] → OnOk result
         (node.new.kept ≡ kept_by_all node.old.bits genesis
         (flat_map arrivals_of scene.now.messages)) }
@@ -75,6 +76,7 @@ fn keep_and_tell<K: Sink>(
     sink: &mut K,
 ) -> Result<(), Stop>
     requires live { node.old.stopped ≡ false }
+    requires plain { node.old.journal ≡ None }
     ensures ok { (genesis : ReadBlock) → node.old.kept ≡ genesis ∷ [] → OnOk result
         (Appends (K.taken sink.old) (K.taken sink.new) (meant.summary scene.now.names
         (kept_by_all node.old.bits genesis (flat_map arrivals_of scene.now.messages)))) }

@@ -3,7 +3,6 @@
 
 use sp_ids::Memory as Refused;
 use sp_io::Failed;
-use sp_node::NodeFault;
 
 /// How a scenario that was taken to its end, or to its first fault, ended.
 #[derive(Clone, Copy, Debug, PartialEq, Eq)]
@@ -42,19 +41,5 @@ impl From<Refused> for Stop {
 
     fn from(_refused: Refused) -> Stop {
         Stop::Memory
-    }
-}
-
-impl From<NodeFault> for Stop {
-    ghost use Rattle.std.specs.Prelude.{◌≡◌};
-    ghost use Rattle.spectre.specs.Stops.{stop_of};
-
-    ghost from_gives = { λ fault e. e ≡ stop_of fault };
-
-    fn from(fault: NodeFault) -> Stop {
-        match fault {
-            NodeFault::WriteFault => Stop::WriteFault,
-            NodeFault::Memory => Stop::Memory,
-        }
     }
 }

@@ -1,17 +1,27 @@
 //! The words of the command line: which job they ask for.
 
-ghost use Rattle.std.specs.Prelude.{◌≡◌, ◌≤◌, IfErr, IfOk, IfSome, IsNone, length, Some};
+ghost use Rattle.std.specs.Prelude.{◌≡◌, ◌≤◌, IfOk, IfSome, IsErrOf, IsNone, length, Some};
+ghost use Rattle.spectre.specs.Files.{names_file};
 ghost use Rattle.spectre.specs.Jobs.{AreNumbers, IsJob, job_in, texts};
 ghost use Rattle.spectre.specs.Jobs as meant;
+ghost use Rattle.spectre.specs.declared.job.JobFault.TheVariants as faults;
 
+use crate::file_name::FileName;
+use crate::files::{FileUse, file_of};
 use sp_play::number_of;
+use std::alloc::Global;
 use thiserror::Error;
 
 /// What the program is asked to do.
-#[derive(Clone, Copy, Debug, PartialEq, Eq)]
+#[derive(Debug, Drop)]
 pub enum Job {
     /// To answer a feed.
     Replay,
+    /// To answer a feed, with the journal in a file; `fresh` where a file without a journal gets a
+    /// new one.
+    Keep { path: FileName, fresh: bool },
+    /// To write what the journal in a file holds.
+    Show { path: FileName },
     /// To answer a scenario.
     Play,
     /// To write the feed of a scenario.
@@ -29,6 +39,9 @@ pub enum JobFault {
     /// They are none of the forms of a command.
     #[error("these words are no command of spectre")]
     Usage,
+    /// There was no memory for the name of a file.
+    #[error("there is no memory for the name of the file")]
+    Memory,
 }
 
 /// The job that a single word asks for.
@@ -77,9 +90,9 @@ fn job_of_numbers(words: &[String]) -> Option<Job>
     job_with(words[0].as_bytes(), n as u16, seed, width as u8)
 }
 
-/// The job that some words ask for, if they are so many.
+/// The job that some words ask for, if they are so many and none of them is a file.
 fn job_of(words: &[String]) -> Option<Job>
-    ensures value { result ≡ job_in (texts words.now) }
+    ensures value { result ≡ meant.plain_job (texts words.now) }
     ensures ranges { IfSome result IsJob }
 {
     match words.len() {
@@ -89,18 +102,38 @@ fn job_of(words: &[String]) -> Option<Job>
     }
 }
 
-/// The job that the words after the program's name ask for: `replay`, `play`, `build`,
-/// `make N SEED WIDTH` or `drill N SEED WIDTH`. The numbers are decimal digits without a leading zero
-/// unless the number is 0. It takes no memory.
+/// The job for which a file is used.
+fn job_on(path: FileName, how: FileUse) -> Job
+    ensures value { result ≡ meant.job_on path how }
+    ensures ranges { IsJob result }
+{
+    match how {
+        FileUse::Keep => Job::Keep { path, fresh: false },
+        FileUse::Fresh => Job::Keep { path, fresh: true },
+        FileUse::Show => Job::Show { path },
+    }
+}
+
+/// The job that the words after the program's name ask for: `replay`, `node FILE`, `node --fresh FILE`,
+/// `node FILE --fresh`, `show FILE`, `play`, `build`, `make N SEED WIDTH` or `drill N SEED WIDTH`. FILE
+/// isn't empty and doesn't begin with `-`. The numbers are decimal digits without a leading zero unless
+/// the number is 0.
 ///
 /// # Errors
 ///
-/// `Usage` where the words are anything else.
-pub fn read_job(words: &[String]) -> Result<Job, JobFault>
+/// `Usage` where the words are anything else. `Memory` where there is none for the name of the file.
+pub fn read_job(alloc: Global, words: &[String]) -> Result<Job, JobFault>
     ensures job { IfOk result (λ job. job_in (texts words.now) ≡ Some job) }
-    ensures usage { IfErr result (λ _. IsNone (job_in (texts words.now))) }
+    ensures usage { IsErrOf result faults.Usage → IsNone (job_in (texts words.now)) }
+    ensures memory { IsErrOf result faults.Memory → names_file (texts words.now) }
     ensures ranges { IfOk result IsJob }
 {
+    if let Some((path, how)) = file_of(words) {
+        return match String::from_str(alloc, path) {
+            Ok(text) => Ok(job_on(FileName::of(text), how)),
+            Err(_) => Err(JobFault::Memory),
+        };
+    }
     match job_of(words) {
         Some(job) => Ok(job),
         None => Err(JobFault::Usage),

@@ -1,9 +1,13 @@
-//! The line of a scenario's fault, put together whole before it is written.
+//! The lines of a scenario's fault and of what a disk holds, put together whole before they are written.
 
-ghost use Rattle.std.specs.Prelude.{◌≡◌, ◌≤◌, length};
+ghost use Rattle.std.specs.Prelude.{◌≡◌, ◌≤◌, ◌+◌, ◌++◌, ◌∷◌, [], length};
+ghost use Rattle.std.specs.Fmt.{decimal};
+ghost use Rattle.sp_report.specs.Naming.{hex_label};
+ghost use Rattle.spectre.specs.Journals.{damaged_text, not_journal_text, other_chain_text, recovered_text};
 ghost use Rattle.spectre.specs.Lines.{reason};
 ghost use Rattle.spectre.specs.Lines as meant;
 
+use sp_ids::BlockId;
 use sp_play::{LineFault, Why};
 use sp_report::Line;
 
@@ -39,6 +43,69 @@ pub fn fault_line(fault: LineFault) -> Line
     line.push_number(u64::from(fault.line));
     line.push_byte(b' ');
     line.push_bytes(reason_of(fault.why));
+    line.push_byte(b'\n');
+    line
+}
+
+/// The line where a disk holds no journal.
+#[tactic(auto, unfolding(crate::specs::Journals::not_journal_text))]
+pub fn not_journal_line() -> Line
+    ensures { result ≡ not_journal_text }
+{
+    let mut line = Line::new();
+    line.push_bytes(b"fault not-journal\n");
+    line
+}
+
+/// The line where a journal is damaged at this place, counted from 0.
+#[tactic(auto, unfolding(crate::specs::Journals::damaged_text))]
+pub fn damaged_line(place: u64) -> Line
+    ensures { result ≡ damaged_text place }
+{
+    let mut line = Line::new();
+    line.push_bytes(b"fault damaged ");
+    line.push_number(place);
+    line.push_byte(b'\n');
+    line
+}
+
+/// The line before the report on a journal with so many records.
+#[tactic(auto, unfolding(crate::specs::Journals::recovered_text))]
+pub fn recovered_line(count: u16) -> Line
+    ensures { result ≡ recovered_text count }
+{
+    let mut line = Line::new();
+    line.push_bytes(b"recovered ");
+    line.push_number(u64::from(count));
+    line.push_byte(b'\n');
+    line
+}
+
+/// Writes bits of work and the id of a genesis block behind a line's front.
+#[tactic(auto, unfolding(sp_report::specs::Naming::hex_label))]
+fn push_chain(line: &mut Line, bits: u8, genesis: &BlockId)
+    requires { length line.old ≤ 107 }
+    ensures text { line.new ≡ line.old ++ (decimal bits ++ 32 ∷ [] ++ hex_label genesis.now) }
+    ensures size { length line.new ≤ length line.old + 85 }
+{
+    let mut digits = [0; 64];
+    genesis.to_hex(&mut digits);
+    line.push_number(u64::from(bits));
+    line.push_byte(b' ');
+    line.push_bytes(&digits);
+}
+
+/// The line where a journal is that of another chain than a feed's head: bits of work and genesis of the
+/// journal, and then of the feed.
+#[tactic(auto, unfolding(crate::specs::Journals::other_chain_text))]
+pub fn other_chain_line(stored_bits: u8, stored: BlockId, fed_bits: u8, fed: BlockId) -> Line
+    ensures { result ≡ other_chain_text stored_bits stored fed_bits fed }
+{
+    let mut line = Line::new();
+    line.push_bytes(b"fault other-chain ");
+    push_chain(&mut line, stored_bits, &stored);
+    line.push_byte(b' ');
+    push_chain(&mut line, fed_bits, &fed);
     line.push_byte(b'\n');
     line
 }

@@ -9,15 +9,20 @@ mod counting;
 mod counts;
 mod drill;
 mod ending;
+mod file_name;
+mod files;
 mod genesis;
 mod job;
+mod keep;
 mod laws;
 mod lines;
 mod made;
+mod no_disk;
 mod play;
 mod purpose;
 mod replay;
 mod scene;
+mod show;
 mod status;
 mod summary;
 #[cfg(test)]
@@ -29,6 +34,8 @@ ghost use Rattle.spectre.specs.Codes.{code_of};
 
 use command::run;
 use commands::{USAGE, help_text, rows_in};
+use files::path_of;
+use sp_disk::FileDisk;
 use sp_io::{StdSink, StdSource};
 use status::Status;
 use std::process::ExitCode;
@@ -75,7 +82,9 @@ fn main(rt: HostRuntime) -> ExitCode {
         Ok(words) => {
             let mut source = StdSource::new(rt.stdin());
             let mut sink = StdSink::new(rt.stdout());
-            run(rt.alloc(), &words, &mut source, &mut sink)
+            let (path, make) = path_of(&words).unwrap_or(("", false));
+            let mut disk = FileDisk::new(&rt, path, make);
+            run(rt.alloc(), &words, &mut source, &mut sink, &mut disk)
         }
         Err(status) => status,
     };

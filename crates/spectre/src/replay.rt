@@ -1,10 +1,12 @@
 //! The answering of a feed: message by message up to its end or its first fault, each line written
 //! before a byte of the next message is taken.
 
-ghost use Rattle.std.specs.Prelude.{◌≡◌, ◌≢◌, ◌∷◌, [], ℕ, true, false, drop, Err, IfErr, IfOk, IfSome, IsTrue, List, None, Ok, Option, Some};
+ghost use Rattle.std.specs.Prelude.{◌≡◌, ◌≢◌, ◌≤◌, ◌∷◌, [], ℕ, true, false, drop, length, Err, IfErr, IfOk, IfSome, IsErrOf, IsTrue, List, None, Ok, Option, Some};
 ghost use Rattle.std.specs.Io.KnownBytes.{Appends, Consumes};
 ghost use Rattle.sp_io.specs.Causes.{Rose};
 ghost use Rattle.sp_io.specs.Whole.{AppendsFront};
+ghost use Rattle.sp_journal.specs.Settled.{SameTold};
+ghost use Rattle.sp_node.specs.Journalled.{IsKeptOn};
 ghost use Rattle.sp_feed.specs.Calls.{GivesHead};
 ghost use Rattle.sp_feed.specs.Reader.{Behind, head_in, is_open};
 ghost use Rattle.sp_feed.specs.Reads.{Moment, moment};
@@ -12,10 +14,13 @@ ghost use Rattle.spectre.specs.Ends.{Replays};
 ghost use Rattle.spectre.specs.Faults.{EndsMalformed, EndsTooLong, EndsTruncated, EndsWhole, feed_fault_text, rest_behind, status_of};
 ghost use Rattle.spectre.specs.Replay.{fed, feed_limit, replayed, replied};
 ghost use Rattle.spectre.specs.Replaying.{Answering, HasWriteCause, Replies};
+ghost use Rattle.spectre.specs.Running.{RestReplies};
 ghost use Rattle.spectre.specs.Taken.{TakesFeed};
 
 use crate::genesis::node_of;
+use crate::no_disk::NoDisk;
 use crate::status::Status;
+use sp_disk::Disk;
 use sp_feed::{FeedFault, FeedHead, FeedReader, HeadFault, Message};
 use sp_ids::Memory as Refused;
 use sp_io::{Sink, Source, write_whole};
@@ -30,6 +35,8 @@ pub enum ReplayFault {
     Feed(FeedFault),
     /// A write failed.
     WriteFault,
+    /// A call of the disk failed.
+    DiskFault,
     /// Memory was refused.
     Memory,
 }
@@ -68,6 +75,7 @@ impl From<NodeFault> for ReplayFault {
     fn from(fault: NodeFault) -> ReplayFault {
         match fault {
             NodeFault::WriteFault => ReplayFault::WriteFault,
+            NodeFault::DiskFault => ReplayFault::DiskFault,
             NodeFault::Memory => ReplayFault::Memory,
         }
     }
@@ -84,35 +92,44 @@ impl From<Refused> for ReplayFault {
     }
 }
 
-/// Answers each message behind the head. It owns neither the reader nor the node, so that its proof
-/// has no drop in it.
-fn answer_rest<S: Source, K: Sink>(
+/// Answers each message behind the head, over a node's blocks. It owns neither the reader nor the node,
+/// so that its proof has no drop in it.
+pub fn answer_rest<S: Source, K: Sink, D: Disk>(
     reader: &mut FeedReader,
     node: &mut Node,
     source: &mut S,
     sink: &mut K,
+    disk: &mut D,
 ) -> Result<(), ReplayFault>
     requires limit { reader.old.limit ≡ feed_limit }
     requires opened { IsTrue (is_open reader.old.stage) }
     requires unended { reader.old.stage ≢ Behind None }
     requires live { node.old.stopped ≡ false }
-    ensures replies { (start : Moment) (old : Option (List ℕ)) → Answering start
+    requires stands { IsKeptOn node.old.bits node.old.kept node.old.journal (D.now disk.old) }
+    ensures replies { (before : List (List ℕ)) (start : Moment) (old : Option (List ℕ)) → Answering before start
         (moment (S.left source.old) (S.faults source.old) reader.old.taken)
-        old (K.taken sink.old) node.old.bits node.old.kept → Replies start
+        old (K.taken sink.old) node.old.bits node.old.kept → RestReplies before start
         (moment (S.left source.new) (S.faults source.new) reader.new.taken)
-        old (K.taken sink.new) result }
+        old (K.taken sink.new) node.old.bits node.old.kept node.old.journal (D.now disk.old) (D.now disk.new) result }
+    ensures uncalled { node.old.journal ≡ None → (disk.new ≡ disk.old) × (result ≢ Err ReplayFault.DiskFault) }
+    ensures told { SameTold (D.now disk.old) (D.now disk.new) }
     ensures cause { IfErr result (HasWriteCause (K.faults sink.old) (K.faults sink.new)) }
+    ensures disk_cause { result ≡ Err ReplayFault.DiskFault → Rose (D.now disk.old).faults (D.now disk.new).faults }
     ensures read_quiet { result ≢ Err (ReplayFault.Feed FeedFault.ReadFault)
         → S.faults source.new ≡ S.faults source.old }
     ensures write_quiet { result ≢ Err ReplayFault.WriteFault
         → K.faults sink.new ≡ K.faults sink.old }
+    ensures disk_quiet { result ≢ Err ReplayFault.DiskFault
+        → (D.now disk.new).faults ≡ (D.now disk.old).faults }
 {
     'messages: loop {
+        // Tells the proof what the kept blocks are.
+        let _kept = node.engine().kept_count();
         reader.next(source)?;
         let message = reader.message();
         match message {
             Message::End => return Ok(()),
-            _ => node.message(&message, &Naming::Hex, sink)?,
+            _ => node.message(&message, &Naming::Hex, sink, disk)?,
         }
     }
 }
@@ -130,9 +147,10 @@ fn answer_behind<S: Source, K: Sink>(
     requires unended { reader.old.stage ≢ Behind None }
     ensures replies { (start : Moment) → start.taken ≡ 0 → GivesHead feed_limit start
         (moment (S.left source.old) (S.faults source.old) reader.old.taken)
-        head_in (Ok head) → Replies start
+        head_in (Ok head) → Replies [] start
         (moment (S.left source.new) (S.faults source.new) reader.new.taken)
         (K.taken sink.old) (K.taken sink.new) result }
+    ensures undisked { result ≢ Err ReplayFault.DiskFault }
     ensures cause { IfErr result (HasWriteCause (K.faults sink.old) (K.faults sink.new)) }
     ensures read_quiet { result ≢ Err (ReplayFault.Feed FeedFault.ReadFault)
         → S.faults source.new ≡ S.faults source.old }
@@ -140,7 +158,8 @@ fn answer_behind<S: Source, K: Sink>(
         → K.faults sink.new ≡ K.faults sink.old }
 {
     let mut node = node_of(alloc, head)?;
-    answer_rest(reader, &mut node, source, sink)
+    let mut disk = NoDisk::new();
+    answer_rest(reader, &mut node, source, sink, &mut disk)
 }
 
 /// Answers each message of a feed.
@@ -149,10 +168,11 @@ fn answer_messages<S: Source, K: Sink>(
     source: &mut S,
     sink: &mut K,
 ) -> Result<(), ReplayFault>
-    ensures replies { (taken : ℕ) × Replies
+    ensures replies { (taken : ℕ) × Replies []
         (moment (S.left source.old) (S.faults source.old) 0)
         (moment (S.left source.new) (S.faults source.new) taken)
         (K.taken sink.old) (K.taken sink.new) result }
+    ensures undisked { result ≢ Err ReplayFault.DiskFault }
     ensures cause { IfErr result (HasWriteCause (K.faults sink.old) (K.faults sink.new)) }
     ensures read_quiet { result ≢ Err (ReplayFault.Feed FeedFault.ReadFault)
         → S.faults source.new ≡ S.faults source.old }
@@ -189,7 +209,7 @@ fn status_by(fault: FeedFault) -> Status
 }
 
 /// Writes the line of a feed's fault.
-fn write_fault<K: Sink>(fault: FeedFault, sink: &mut K) -> Status
+pub fn write_fault<K: Sink>(fault: FeedFault, sink: &mut K) -> Status
     ensures status { result ≢ Status.WriteFault → result ≡ status_of fault }
     ensures text { result ≢ Status.WriteFault →
         Appends (K.taken sink.old) (K.taken sink.new) (feed_fault_text fault) }
@@ -210,33 +230,33 @@ fn write_fault<K: Sink>(fault: FeedFault, sink: &mut K) -> Status
 /// block.
 pub fn replay<S: Source, K: Sink>(alloc: Global, source: &mut S, sink: &mut K) -> Status
     ensures done { result ≡ Status.Done → IfSome (S.left source.old) (λ input.
-        Appends (K.taken sink.old) (K.taken sink.new) (replayed input) × EndsWhole (fed input).end) }
+        Appends (K.taken sink.old) (K.taken sink.new) (replayed [] input) × EndsWhole (fed input).end) }
     ensures done_end { result ≡ Status.Done → IfSome (S.left source.old) (λ input.
         S.left source.new ≡ Some (rest_behind (fed input).end)) }
 
     ensures malformed { result ≡ Status.Malformed → IfSome (S.left source.old) (λ input.
-        Appends (K.taken sink.old) (K.taken sink.new) (replayed input)
+        Appends (K.taken sink.old) (K.taken sink.new) (replayed [] input)
         × EndsMalformed (fed input).end) }
     ensures truncated { result ≡ Status.Truncated → IfSome (S.left source.old) (λ input.
-        Appends (K.taken sink.old) (K.taken sink.new) (replayed input)
+        Appends (K.taken sink.old) (K.taken sink.new) (replayed [] input)
         × EndsTruncated (fed input).end) }
     ensures truncated_end { result ≡ Status.Truncated → IfSome (S.left source.old) (λ input.
         S.left source.new ≡ Some []) }
     ensures too_long { result ≡ Status.TooLong → IfSome (S.left source.old) (λ input.
-        Appends (K.taken sink.old) (K.taken sink.new) (replayed input)
+        Appends (K.taken sink.old) (K.taken sink.new) (replayed [] input)
         × EndsTooLong (fed input).end) }
     ensures too_long_end { result ≡ Status.TooLong → IfSome (S.left source.old) (λ input.
         S.left source.new ≡ Some (drop feed_limit input)) }
-    ensures taken { TakesFeed
+    ensures taken { TakesFeed []
         (S.left source.old) (S.left source.new) (K.taken sink.old) (K.taken sink.new) }
 
     ensures read_fault { result ≡ Status.ReadFault → (given : List ℕ)
         × Consumes (S.left source.old) (S.left source.new) given
-        × Appends (K.taken sink.old) (K.taken sink.new) (replied given) }
+        × Appends (K.taken sink.old) (K.taken sink.new) (replied [] given) }
     ensures write_fault { result ≡ Status.WriteFault → IfSome (S.left source.old) (λ input.
-        AppendsFront (K.taken sink.old) (K.taken sink.new) (replayed input)) }
+        AppendsFront (K.taken sink.old) (K.taken sink.new) (replayed [] input)) }
     ensures memory { result ≡ Status.Memory → IfSome (S.left source.old) (λ input.
-        AppendsFront (K.taken sink.old) (K.taken sink.new) (replayed input)) }
+        AppendsFront (K.taken sink.old) (K.taken sink.new) (replayed [] input)) }
     ensures read_cause { result ≡ Status.ReadFault → Rose (S.faults source.old) (S.faults source.new) }
     ensures write_cause { result ≡ Status.WriteFault → Rose (K.faults sink.old) (K.faults sink.new) }
     ensures read_quiet { result ≢ Status.ReadFault → S.faults source.new ≡ S.faults source.old }
@@ -248,6 +268,8 @@ pub fn replay<S: Source, K: Sink>(alloc: Global, source: &mut S, sink: &mut K) -
         Ok(()) => Status::Done,
         Err(ReplayFault::Feed(fault)) => write_fault(fault, sink),
         Err(ReplayFault::WriteFault) => Status::WriteFault,
+        // No disk is asked for anything.
+        Err(ReplayFault::DiskFault) => unreachable!(),
         Err(ReplayFault::Memory) => Status::Memory,
     }
 }

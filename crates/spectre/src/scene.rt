@@ -1,7 +1,7 @@
 //! What is done with a scene that was read: its messages are answered by a node, with names as
 //! labels, or its feed is written.
 
-ghost use Rattle.std.specs.Prelude.{◌≡◌, ◌≢◌, ◌∷◌, [], false, Err, IfErr, IfOk, IsNone, IsSome, Ok, OnErr, OnOk};
+ghost use Rattle.std.specs.Prelude.{◌≡◌, ◌≢◌, ◌∷◌, [], false, Err, IfErr, IfOk, IsNone, None, IsSome, Ok, OnErr, OnOk};
 ghost use Rattle.std.specs.List.{flat_map};
 ghost use Rattle.std.specs.Io.KnownBytes.{Appends};
 ghost use Rattle.sp_block.specs.Block.{ReadBlock};
@@ -16,8 +16,9 @@ ghost use Rattle.spectre.specs.Scenes.{built, played, scene_lines};
 use crate::ending::{Ending, Stop};
 use crate::genesis::node_of;
 use crate::lines::fault_line;
+use crate::no_disk::NoDisk;
 use sp_io::{Sink, write_whole};
-use sp_node::Node;
+use sp_node::{Node, NodeFault};
 use sp_play::{LineFault, Scene};
 use sp_report::Naming;
 use std::alloc::Global;
@@ -30,6 +31,7 @@ pub fn answer_scene<K: Sink>(
     sink: &mut K,
 ) -> Result<(), Stop>
     requires live { node.old.stopped ≡ false }
+    requires plain { node.old.journal ≡ None }
     ensures ok { (genesis : ReadBlock) → node.old.kept ≡ genesis ∷ [] → OnOk result
         (Appends (K.taken sink.old) (K.taken sink.new)
         (answers (labels_of naming.now) genesis node.old.bits [] scene.now.messages)) }
@@ -43,9 +45,16 @@ pub fn answer_scene<K: Sink>(
     ensures cause { IfErr result (HasStopCause (K.faults sink.old) (K.faults sink.new)) }
     ensures quiet { result ≢ Err Stop.WriteFault → K.faults sink.new ≡ K.faults sink.old }
 {
+    let mut disk = NoDisk::new();
     'place: for place in 0..scene.len() {
         let message = scene.message(place);
-        node.message(&message, naming, sink)?;
+        match node.message(&message, naming, sink, &mut disk) {
+            Ok(()) => (),
+            Err(NodeFault::WriteFault) => return Err(Stop::WriteFault),
+            // No disk is asked for anything.
+            Err(NodeFault::DiskFault) => unreachable!(),
+            Err(NodeFault::Memory) => return Err(Stop::Memory),
+        }
     }
     Ok(())
 }

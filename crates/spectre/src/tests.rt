@@ -1,6 +1,6 @@
-//! Tests of the whole program by its top call, over sources and sinks in memory: what the contracts
-//! rest on and can't say, that the definitions are the rules. Every expected answer was worked out
-//! by hand from the rules, or by another program where its file says so.
+//! Tests of the whole program by its top call, over sources, sinks and disks in memory: what the
+//! contracts rest on and can't say, that the definitions are the rules. Every expected answer was
+//! worked out by hand from the rules, or by another program where its file says so.
 //!
 //! A test is a table of runs, and `tries` compares each run whole. Since tests are proved too, the
 //! program is called in one place, and what a run ends as is plain data.
@@ -9,9 +9,16 @@ mod alike;
 mod answered;
 mod balances;
 mod built;
+mod crashes;
+mod damage;
+mod disks;
 mod faults;
 mod feed_bytes;
 mod feeds;
+mod fresh;
+mod halves;
+mod journals;
+mod judging;
 mod lengths;
 mod lines;
 mod made;
@@ -22,6 +29,7 @@ mod payments;
 mod pieces;
 mod reports;
 mod shapes;
+mod shown;
 mod spends;
 mod streams;
 mod transfers;
@@ -30,6 +38,8 @@ mod worked;
 
 use crate::command::run;
 use crate::status::Status;
+use crate::tests::disks::{Held, disk_of, is_uncalled};
+use sp_disk::MemDisk;
 use sp_io::{Calls, Fails, MemSink, MemSource, Sink, Source};
 use std::alloc::Global;
 use std::process::Abort;
@@ -44,7 +54,7 @@ pub const SAMPLE: &[u8] = b"block A on G\nblock B on G\nblock C on A\nvote A B\n
 pub const SAMPLE_ANSWERS: &[u8] =
     b"kept A present 1\nkept B present 1\nkept C present 1\nvote A B before\n";
 
-/// How a source gives and a sink takes.
+/// How a source gives and a sink takes, and what a disk holds.
 #[derive(Clone, Copy)]
 pub struct Ends {
     /// The most bytes that one read gives; not 0.
@@ -57,15 +67,20 @@ pub struct Ends {
     pub bad_read: Option<u32>,
     /// The number of the one write that fails, counted from 0.
     pub bad_write: Option<u32>,
+    pub disk: Held,
+    /// The number of the first call of the disk that fails, counted from 0; each later one fails too.
+    pub bad_calls: Option<u32>,
 }
 
-/// No call fails, and there is room for every answer, which is taken whole.
+/// No call fails, and there is room for every answer, which is taken whole. The disk isn't to be called.
 pub const WIDE: Ends = Ends {
     given: 4096,
     taken: 65535,
     room: 1 << 20,
     bad_read: None,
     bad_write: None,
+    disk: Held::Apart,
+    bad_calls: None,
 };
 
 /// A run of the program.
@@ -94,10 +109,10 @@ pub struct Wanted<'a> {
 
 /// What a run ended as.
 #[derive(Drop)]
-struct Ended {
-    status: Status,
-    output: Vec<u8>,
-    rest: Rest,
+pub struct Ended {
+    pub status: Status,
+    pub output: Vec<u8>,
+    pub rest: Rest,
 }
 
 fn put_word(words: &mut Vec<String>, alloc: Global, word: &str) -> Result<(), Fail> {
@@ -112,7 +127,8 @@ fn put_words(words: &mut Vec<String>, alloc: Global, lines: &str) -> Result<(), 
     Ok(())
 }
 
-fn words_of(alloc: Global, lines: &[u8]) -> Result<Vec<String>, Fail> {
+/// The words that these lines are.
+pub fn words_of(alloc: Global, lines: &[u8]) -> Result<Vec<String>, Fail> {
     let text = str::from_utf8(lines)?;
     let mut words = Vec::new(alloc);
     put_words(&mut words, alloc, text)?;
@@ -157,8 +173,9 @@ fn ran_on(
     words: &[String],
     source: &mut MemSource,
     sink: &mut MemSink,
+    disk: &mut MemDisk,
 ) -> Result<Ended, Fail> {
-    let status = run(alloc, words, source, sink);
+    let status = run(alloc, words, source, sink, disk);
     let output = Vec::from_slice(alloc, sink.bytes())?;
     let rest = rest_of(source, sink);
     Ok(Ended {
@@ -168,15 +185,26 @@ fn ran_on(
     })
 }
 
-fn ran(alloc: Global, trial: &Trial) -> Result<Ended, Fail> {
+/// Runs the program on this disk in the place of the trial's own.
+pub fn ran_over(alloc: Global, trial: &Trial, disk: &mut MemDisk) -> Result<Ended, Fail> {
     let words = words_of(alloc, trial.words)?;
     let mut source = source_of(alloc, trial)?;
     let mut sink = sink_of(alloc, &trial.ends)?;
-    ran_on(alloc, &words, &mut source, &mut sink)
+    ran_on(alloc, &words, &mut source, &mut sink, disk)
+}
+
+/// Runs the program. A disk that isn't to be called wasn't.
+fn ran(alloc: Global, trial: &Trial) -> Result<Ended, Fail> {
+    let mut disk = disk_of(alloc, &trial.ends)?;
+    let ended = ran_over(alloc, trial, &mut disk)?;
+    if matches!(trial.ends.disk, Held::Apart) && !is_uncalled(&mut disk) {
+        return Err("the disk was called".into());
+    }
+    Ok(ended)
 }
 
 /// What follows so many lines.
-fn behind(output: &[u8], lines: usize) -> &[u8] {
+pub fn behind(output: &[u8], lines: usize) -> &[u8] {
     let mut ended = 0usize;
     for (at, byte) in output.iter().enumerate() {
         if ended == lines {
@@ -197,7 +225,8 @@ fn is_as(ended: &Ended, wanted: &Wanted) -> bool {
     rests && ended.status == wanted.status && behind(&ended.output, wanted.lines) == wanted.output
 }
 
-fn agrees(rt: &impl Abort, name: &str, at: usize, ended: &Ended, wanted: &Wanted) {
+/// Compares what a run ended as with what is wanted.
+pub fn agrees(rt: &impl Abort, name: &str, at: usize, ended: &Ended, wanted: &Wanted) {
     let written = str::from_utf8(&ended.output).unwrap_or("what is no text\n");
     assert!(rt;
         is_as(ended, wanted),

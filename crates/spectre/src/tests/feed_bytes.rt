@@ -1,5 +1,5 @@
-//! The bytes of feeds and of what answers them, put together from the names of a few blocks. Their
-//! ids are SHA-256 by another program.
+//! The bytes of feeds, of journals and of what answers them, put together from the names of a few
+//! blocks. Their ids are SHA-256 by another program.
 
 use sp_ids::BlockId;
 use std::alloc::Global;
@@ -165,11 +165,12 @@ pub fn put_child(out: &mut Vec<u8>, salt: u8, parent: &BlockId) -> Result<(), Fa
     Ok(())
 }
 
-/// The frame of a block, with so many bytes more behind it.
-pub fn put_block(out: &mut Vec<u8>, name: u8, more: u8) -> Result<(), Fail> {
+/// The length of a block and its bytes, with so many bytes more behind it.
+fn put_text(out: &mut Vec<u8>, name: u8, more: u8) -> Result<(), Fail> {
     let (_, salt, parents, _) = block_of(name)?;
     let count = u8::try_from(parents.len())?;
-    put_kind(out, b'B', 20 + 32 * u32::from(count) + u32::from(more))?;
+    let length = 20 + 32 * u32::from(count) + u32::from(more);
+    out.extend_from_slice(&length.to_le_bytes())?;
     put_front(out, *salt, count)?;
     for parent in *parents {
         put_id(out, *parent)?;
@@ -181,6 +182,25 @@ pub fn put_block(out: &mut Vec<u8>, name: u8, more: u8) -> Result<(), Fail> {
         0,
     )?;
     Ok(())
+}
+
+/// The frame of a block, with so many bytes more behind it.
+pub fn put_block(out: &mut Vec<u8>, name: u8, more: u8) -> Result<(), Fail> {
+    out.push(b'B')?;
+    put_text(out, name, more)
+}
+
+/// The record of a block in a journal.
+pub fn put_record(out: &mut Vec<u8>, name: u8) -> Result<(), Fail> {
+    out.push(0xA5)?;
+    put_text(out, name, 0)
+}
+
+/// The head of a journal.
+pub fn put_head(out: &mut Vec<u8>, bits: u8) -> Result<(), Fail> {
+    out.extend_from_slice(b"\xa5SPCTRJ01")?;
+    out.push(bits)?;
+    put_text(out, b'G', 0)
 }
 
 pub fn put_question(out: &mut Vec<u8>, x: u8, y: u8) -> Result<(), Fail> {

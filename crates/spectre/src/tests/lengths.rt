@@ -16,8 +16,7 @@ const NARROW: Ends = Ends {
     given: 65535,
     taken: 2,
     room: 5,
-    bad_read: None,
-    bad_write: None,
+    ..WIDE
 };
 
 /// Nothing is left to be read.

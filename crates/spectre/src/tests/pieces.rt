@@ -1,6 +1,7 @@
 //! Each command in pieces, and with each call of the source and of the sink failing in turn.
 
 use crate::status::Status;
+use crate::tests::disks::Held;
 use crate::tests::feed_bytes::{END, feed_of, in_full};
 use crate::tests::streams::{Stream, try_all};
 use crate::tests::worked::TIE;
@@ -19,6 +20,7 @@ const PLAYS: [Stream; 4] = [
         status: Status::Done,
         output: SAMPLE_ANSWERS,
         growth: &[],
+        disk: Held::Apart,
     },
     Stream {
         name: "unknown",
@@ -28,6 +30,7 @@ const PLAYS: [Stream; 4] = [
         status: Status::Malformed,
         output: b"kept A present 1\nfault line 2 unknown\n",
         growth: &[],
+        disk: Held::Apart,
     },
     Stream {
         name: "nothing",
@@ -37,6 +40,7 @@ const PLAYS: [Stream; 4] = [
         status: Status::Done,
         output: b"",
         growth: &[],
+        disk: Held::Apart,
     },
     Stream {
         name: "returns, blanks and a comment, and no line end at the end",
@@ -46,6 +50,7 @@ const PLAYS: [Stream; 4] = [
         status: Status::Done,
         output: b"kept A present 1\nvote A G after\n",
         growth: &[],
+        disk: Held::Apart,
     },
 ];
 
@@ -121,6 +126,7 @@ fn stream_of<'a>(flow: &Flow, input: &'a [u8], output: &'a [u8]) -> Stream<'a> {
         status: flow.status,
         output,
         growth: flow.growth,
+        disk: Held::Apart,
     }
 }
 
@@ -134,6 +140,7 @@ const MADE: [Stream; 4] = [
         status: Status::Done,
         output: b"block b1 on G\nblock b2 on G b1\n",
         growth: &[],
+        disk: Held::Apart,
     },
     Stream {
         name: "nothing that is made",
@@ -143,6 +150,7 @@ const MADE: [Stream; 4] = [
         status: Status::Done,
         output: b"",
         growth: &[],
+        disk: Held::Apart,
     },
     Stream {
         name: "a summary",
@@ -152,6 +160,7 @@ const MADE: [Stream; 4] = [
         status: Status::Done,
         output: b"blocks 4 waiting 0\npairs 6 before 6 after 0 tie 0\naccepted 0\nbalances 0\n",
         growth: &[],
+        disk: Held::Apart,
     },
     Stream {
         name: "a fault alone",
@@ -161,6 +170,7 @@ const MADE: [Stream; 4] = [
         status: Status::Malformed,
         output: b"fault line 2 unknown\n",
         growth: &[],
+        disk: Held::Apart,
     },
 ];
 
@@ -184,6 +194,7 @@ fn built(rt: HostRuntime) -> Result<(), Fail> {
         status: Status::Done,
         output: &output,
         growth: &[],
+        disk: Held::Apart,
     };
     try_all(&rt, rt.alloc(), &stream)
 }

@@ -2,6 +2,7 @@
 //! fail: the smallest one, and one whose answers need more than a page.
 
 use crate::status::Status;
+use crate::tests::disks::Held;
 use crate::tests::feed_bytes::{feed_of, head_of, in_full, put_child};
 use crate::tests::pages::{Paged, fails_in_turn};
 use crate::tests::paired::{Ordered, put_id, put_pairs};
@@ -32,6 +33,7 @@ fn smallest(rt: HostRuntime) -> Result<(), Fail> {
         status: Status::Done,
         output: EMPTY,
         growth: &[(39, 41)],
+        disk: Held::Apart,
     };
     try_all(&rt, rt.alloc(), &stream)
 }
@@ -90,6 +92,7 @@ fn a_pair(rt: HostRuntime) -> Result<(), Fail> {
         status: Status::Done,
         output: &output,
         growth: &[(91, 80), (96, 230), (101, 271)],
+        disk: Held::Apart,
     };
     try_all(&rt, rt.alloc(), &stream)
 }

@@ -2,6 +2,7 @@
 //! same trials for every input, of a scenario and of a feed.
 
 use crate::status::Status;
+use crate::tests::disks::Held;
 use crate::tests::{Ends, Trial, WIDE, Wanted, tries};
 use std::alloc::Global;
 use std::process::Abort;
@@ -20,6 +21,15 @@ pub struct Stream<'a> {
     /// Where the output grows before the input is at its end: so many bytes are read, and so many
     /// are written then.
     pub growth: &'a [(u32, usize)],
+    pub disk: Held,
+}
+
+/// The ends at which nothing fails.
+fn wide(stream: &Stream) -> Ends {
+    Ends {
+        disk: stream.disk,
+        ..WIDE
+    }
 }
 
 /// How much is written once so many bytes were read and the next read failed.
@@ -62,7 +72,7 @@ pub fn reads_fail(rt: &impl Abort, alloc: Global, stream: &Stream) -> Result<(),
         let ends = Ends {
             given: 1,
             bad_read: Some(call),
-            ..WIDE
+            ..wide(stream)
         };
         let (status, length) = if call < stream.reads {
             (Status::ReadFault, written_by(stream.growth, call))
@@ -76,17 +86,17 @@ pub fn reads_fail(rt: &impl Abort, alloc: Global, stream: &Stream) -> Result<(),
 
 /// A sink of which the write of this number fails, a byte a call, and one with room for as many
 /// bytes, in pieces.
-fn failing_sinks(at: u32) -> [Ends; 2] {
+fn failing_sinks(stream: &Stream, at: u32) -> [Ends; 2] {
     [
         Ends {
             taken: 1,
             bad_write: Some(at),
-            ..WIDE
+            ..wide(stream)
         },
         Ends {
             taken: 10,
             room: at as usize,
-            ..WIDE
+            ..wide(stream)
         },
     ]
 }
@@ -99,7 +109,7 @@ fn sinks_fail_at(rt: &impl Abort, alloc: Global, stream: &Stream, at: u32) -> Re
     } else {
         stream.status
     };
-    for ends in failing_sinks(at) {
+    for ends in failing_sinks(stream, at) {
         gives(rt, alloc, stream, ends, status, length)?;
     }
     Ok(())
@@ -123,7 +133,7 @@ pub fn in_pieces(rt: &impl Abort, alloc: Global, stream: &Stream) -> Result<(), 
             let ends = Ends {
                 given,
                 taken,
-                ..WIDE
+                ..wide(stream)
             };
             gives(rt, alloc, stream, ends, stream.status, stream.output.len())?;
         }

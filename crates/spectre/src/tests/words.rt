@@ -1,13 +1,16 @@
-//! Words that are no command: nothing is read and nothing is written.
+//! Words that are no command: nothing is read, written or asked of a disk. And words that name a file.
 
+use crate::commands::{USAGE, help_text, rows_in};
+use crate::files::path_of;
+use crate::job::{Job, JobFault, read_job};
 use crate::status::Status;
-use crate::tests::{Ends, SAMPLE, Trial, Wanted, tries};
+use crate::tests::{Ends, SAMPLE, Trial, WIDE, Wanted, tries, words_of};
 use std::alloc::Global;
 use std::process::Abort;
 use std::test::Fail;
 
 /// Words that are none of the forms of a command, each ended by a line end.
-const NO_COMMAND: [&[u8]; 50] = [
+const NO_COMMAND: [&[u8]; 79] = [
     b"",
     b"\n",
     b"\n\n",
@@ -44,9 +47,38 @@ const NO_COMMAND: [&[u8]; 50] = [
     b"build\n1\n0\n1\n",
     b"play\n1\n0\n1\n",
     b"node\n",
-    b"node\nf\n",
+    b"node\n\n",
+    b"node\n-\n",
+    b"node\n-f\n",
+    b"node\n--\n",
+    b"node\n--fresh\n",
+    b"node\nf\ng\n",
+    b"node\nf\nfresh\n",
+    b"node\nf\n\n",
+    b"node\n--Fresh\nf\n",
+    b"node\n--fresh\n\n",
+    b"node\n\n--fresh\n",
+    b"node\n--fresh\n-f\n",
+    b"node\n--fresh\n--fresh\n",
     b"node\n--fresh\n--fresh\nf\n",
-    b"show\nf\n",
+    b"node\n--fresh\nf\n--fresh\n",
+    b"node\n--\nf\n",
+    b"node\nf\n1\n1\n",
+    b"--fresh\nnode\nf\n",
+    b"Node\nf\n",
+    b"nodes\nf\n",
+    b"f\nnode\n",
+    b"show\n",
+    b"show\n\n",
+    b"show\n-f\n",
+    b"show\n--fresh\n",
+    b"show\n--fresh\nf\n",
+    b"show\nf\n--fresh\n",
+    b"show\nf\ng\n",
+    b"shown\nf\n",
+    b"play\nf\n",
+    b"replay\nf\n",
+    b"build\n--fresh\nf\n",
     b"make\n",
     b"drill\n",
     b"make\n\n0\n1\n",
@@ -97,13 +129,14 @@ a 0 1
 make 1 0
 ";
 
-/// The first call of the source and of the sink would fail.
+/// The first call of the source, of the sink and of the disk would fail.
 const BROKEN: Ends = Ends {
     given: 7,
     taken: 7,
     room: 4096,
     bad_read: Some(0),
     bad_write: Some(0),
+    ..WIDE
 };
 
 /// The first read and the first write are still to come, and fail; the next read gives the first
@@ -150,5 +183,110 @@ fn other_numbers(rt: HostRuntime) -> Result<(), Fail> {
             is_refused(&rt, rt.alloc(), at, &words)?;
         }
     }
+    Ok(())
+}
+
+/// What is done with a file.
+#[derive(Clone, Copy, Debug, PartialEq, Eq)]
+enum Done {
+    Kept,
+    /// With a new journal where it holds none.
+    KeptFresh,
+    Shown,
+}
+
+/// Words that name a file, and the file.
+#[rattlefmt::skip]
+const FILES: [(&[u8], &str, Done); 16] = [
+    (b"node\nf", "f", Done::Kept),
+    (b"node\n--fresh\nf", "f", Done::KeptFresh),
+    (b"node\nf\n--fresh", "f", Done::KeptFresh),
+    (b"show\nf", "f", Done::Shown),
+    (b"node\nnode", "node", Done::Kept),
+    (b"node\n--fresh\nshow", "show", Done::KeptFresh),
+    (b"node\nfresh\n--fresh", "fresh", Done::KeptFresh),
+    (b"show\nshow", "show", Done::Shown),
+    (b"node\nfresh", "fresh", Done::Kept),
+    (b"node\na-b", "a-b", Done::Kept),
+    (b"node\n./-f", "./-f", Done::Kept),
+    (b"show\n/tmp/my journal", "/tmp/my journal", Done::Shown),
+    (b"node\n ", " ", Done::Kept),
+    (b"show\n -f", " -f", Done::Shown),
+    (b"node\n\xc3\xa4", "\u{e4}", Done::Kept),
+    (b"node\nf\0g", "f\0g", Done::Kept),
+];
+
+/// Whether the words ask for this.
+fn asks_for(alloc: Global, words: &[String], file: &str, done: Done) -> bool {
+    match read_job(alloc, words) {
+        Ok(Job::Keep { path, fresh }) => {
+            let wanted = if fresh { Done::KeptFresh } else { Done::Kept };
+            path.as_str() == file && done == wanted
+        }
+        Ok(Job::Show { path }) => path.as_str() == file && done == Done::Shown,
+        _ => false,
+    }
+}
+
+#[test]
+fn files(rt: HostRuntime) -> Result<(), Fail> {
+    for (at, (words, file, done)) in FILES.iter().enumerate() {
+        let words = words_of(rt.alloc(), words)?;
+        let made = *done != Done::Shown;
+        assert!(&rt; path_of(&words) == Some((*file, made)), "{at}");
+        assert!(&rt; asks_for(rt.alloc(), &words, file, *done), "{at}");
+    }
+    Ok(())
+}
+
+/// Commands that have no file.
+const NO_FILE: [&[u8]; 5] = [
+    b"replay",
+    b"play",
+    b"build",
+    b"make\n3\n0\n1",
+    b"drill\n3\n0\n1",
+];
+
+#[test]
+fn no_files(rt: HostRuntime) -> Result<(), Fail> {
+    for (at, words) in NO_FILE.iter().enumerate() {
+        let words = words_of(rt.alloc(), words)?;
+        assert!(&rt; path_of(&words).is_none(), "{at}");
+        assert!(&rt; read_job(rt.alloc(), &words).is_ok(), "{at}");
+    }
+    for (at, words) in NO_COMMAND.iter().enumerate() {
+        let words = words_of(rt.alloc(), words)?;
+        assert!(&rt; path_of(&words).is_none(), "{at}");
+        assert!(&rt;
+            matches!(read_job(rt.alloc(), &words), Err(JobFault::Usage)),
+            "{at}"
+        );
+    }
+    Ok(())
+}
+
+/// What each row of the list of commands begins with.
+const ROWS: [&str; 8] = [
+    "  play ",
+    "  build ",
+    "  make N SEED WIDTH ",
+    "  drill N SEED WIDTH ",
+    "  replay ",
+    "  node FILE ",
+    "  node --fresh FILE ",
+    "  show FILE ",
+];
+
+#[test]
+fn list_of_commands(rt: HostRuntime) -> Result<(), Fail> {
+    assert!(&rt; USAGE.starts_with("usage: spectre"), "the usage line");
+    let text = help_text(rt.alloc())?;
+    let mut rows = rows_in(&text).lines().skip(1);
+    for wanted in ROWS {
+        let row = rows.next().unwrap_or("");
+        assert!(&rt; row.starts_with(wanted), "{row}");
+    }
+    assert!(&rt; rows.next().is_none(), "more commands");
     Ok(())
 }

@@ -1,7 +1,7 @@
 use Rattle.std.proofs.Common.{◌∙◌, ap, subst}
 use Rattle.sp_block.specs.Block.{IsBlock, ReadBlock}
 use Rattle.sp_feed.specs.Genesis.{IsHead, ReadHead}
-use Rattle.spectre.proofs.Replies.{genesis_in}
+use Rattle.sp_node.proofs.Restarted.{genesis_in}
 use Rattle.spectre.proofs.genesis.node_of.Goals as goal
 
 pub returns-clause-genesis : goal.returns-clause-genesis

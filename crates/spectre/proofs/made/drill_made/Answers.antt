@@ -1,4 +1,4 @@
-use Rattle.std.proofs.Common.{◌≤◌, List, ℕ, OnErr, OnOk, ap, length, subst, ◌∙◌, arith}
+use Rattle.std.proofs.Common.{List, ℕ, OnErr, OnOk, ap, length, subst, ◌∙◌, arith}
 use Rattle.std.specs.Io.KnownBytes.{Appends}
 use Rattle.sp_io.specs.Whole.{AppendsFront}
 use Rattle.sp_play.specs.Scene.{scene}

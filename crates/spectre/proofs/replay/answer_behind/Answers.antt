@@ -1,4 +1,4 @@
-use Rattle.std.proofs.Common.{ap}
+use Rattle.std.proofs.Common.{[], ap}
 use Rattle.std.proofs.lemmas.Result.{err_from_is_err_and}
 use Rattle.spectre.proofs.Replies.{at_head, nothing_behind_head}
 use Rattle.spectre.proofs.replay.answer_behind.Goals as goal
@@ -6,7 +6,7 @@ use Rattle.spectre.proofs.replay.answer_behind.Goals as goal
 pub returns-in_err-node-clause-replies : goal.returns-in_err-node-clause-replies
 returns-in_err-node-clause-replies g c = λ start z gives.
     let p = err_from_is_err_and c.from_residual.result c.from_residual.ensures.1 in
-    rw (p.1, p.2) (nothing_behind_head (g.K.Sink.taken c.args.sink.now) gives)
+    rw (p.1, p.2) (nothing_behind_head [] (g.K.Sink.taken c.args.sink.now) gives)
 
 pub answer_rest-requires-clause-live : goal.answer_rest-requires-clause-live
 answer_rest-requires-clause-live g c = ap (λ n. n.stopped) c.in_ok-node.ensures.node
@@ -14,5 +14,5 @@ answer_rest-requires-clause-live g c = ap (λ n. n.stopped) c.in_ok-node.ensures
 pub returns-clause-replies : goal.returns-clause-replies
 returns-clause-replies g c = λ start z gives.
     let old = g.K.Sink.taken c.args.sink.now in
-    c.answer_rest.ensures.replies start old
-    (at_head old z gives c.in_ok-node.ensures.genesis (ap (λ n. n.bits) c.in_ok-node.ensures.node) (ap (λ n. n.kept) c.in_ok-node.ensures.node))
+    (c.answer_rest.ensures.replies [] start old
+    (at_head [] old z gives c.in_ok-node.ensures.genesis (ap (λ n. n.bits) c.in_ok-node.ensures.node) (ap (λ n. n.kept) c.in_ok-node.ensures.node))).0

@@ -1,4 +1,4 @@
-use Rattle.std.proofs.Common.{◌∙◌, Err, ap, arith, refl}
+use Rattle.std.proofs.Common.{◌∙◌, [], Err, ap, arith, refl}
 use Rattle.std.proofs.lemmas.Result.{err_from_is_err_and}
 use Rattle.sp_feed.specs.Reads.{moment}
 use Rattle.sp_feed.proofs.WholeFeeds.{from_start, not_behind, opened}
@@ -9,12 +9,12 @@ pub returns-in_err-reader-clause-replies : goal.returns-in_err-reader-clause-rep
 returns-in_err-reader-clause-replies g c =
     let p = err_from_is_err_and c.from_residual.result c.from_residual.ensures.1 in
     let start = moment (g.S.Source.left c.args.source.now) (g.S.Source.faults c.args.source.now) 0 in
-    rw (p.1, p.2) (0, nothing_read start (g.K.Sink.taken c.args.sink.now) (omega arith))
+    rw (p.1, p.2) (0, nothing_read [] start (g.K.Sink.taken c.args.sink.now) (omega arith))
 
 pub returns-in_err-head-clause-replies : goal.returns-in_err-head-clause-replies
 returns-in_err-head-clause-replies g c =
     let p = err_from_is_err_and c.from_residual-in_err-head.result c.from_residual-in_err-head.ensures.1 in
-    rw (p.1, p.2) (c.head.new.self.taken, head_fault (g.K.Sink.taken c.args.sink.now) _ (from_start (ap (λ r. r.limit) c.in_ok-reader.ensures) (ap (λ r. r.taken) c.in_ok-reader.ensures) c.in_err-head.ensures.gives))
+    rw (p.1, p.2) (c.head.new.self.taken, head_fault [] (g.K.Sink.taken c.args.sink.now) _ (from_start (ap (λ r. r.limit) c.in_ok-reader.ensures) (ap (λ r. r.taken) c.in_ok-reader.ensures) c.in_err-head.ensures.gives))
 
 pub returns-in_err-head-clause-read_quiet : goal.returns-in_err-head-clause-read_quiet
 returns-in_err-head-clause-read_quiet g c =

@@ -8,7 +8,11 @@ use Rattle.sp_feed.proofs.WholeFeeds.{behind_open, from_limit, tells}
 use Rattle.sp_names.specs.Labels.{no_labels}
 use Rattle.sp_node.specs.Answers.{kept_then, reply_of}
 use Rattle.spectre.specs.declared.replay.ReplayFault.TheVariants.{Feed}
-use Rattle.spectre.proofs.Replies.{at_end, at_fault, not_answered, one_more, quiet_next, quiet_node, stop_cause}
+use Rattle.spectre.proofs.Replies.{disk_fault, disk_rose, disk_still, one_more, quiet_next, quiet_node, stop_cause}
+use Rattle.sp_node.specs.Journalled.{HoldsThen, LeavesOn}
+use Rattle.sp_pool.specs.Kept.{AreKept}
+use Rattle.spectre.proofs.Running.{none_on, run_first, run_more}
+use Rattle.spectre.proofs.Securing.{secures_end, secures_fault, secures_stop}
 use Rattle.spectre.proofs.replay.answer_rest.Goals as goal
 
 pub messages-init : goal.messages-init
@@ -17,7 +21,10 @@ messages-init g c = record {
   opened = c.requires.opened;
   unended = c.requires.unended;
   live = c.requires.live;
-  answering = λ start old h. h;
+  run = run_first c.args.node.now.bits c.args.node.now.kept c.args.node.now.journal (g.D.Disk.now c.args.disk.now) (g.met.D.Disk.is_moment c.args.disk.now) c.requires.stands;
+  uncalled = λ none. refl;
+  disk_quiet = refl;
+  answering = λ before start old h. h;
   read_quiet = refl;
   write_quiet = refl;
 }
@@ -25,7 +32,7 @@ messages-init g c = record {
 pub returns-in_err-next-clause-replies : goal.returns-in_err-next-clause-replies
 returns-in_err-next-clause-replies g c =
     let p = err_from_is_err_and c.from_residual.result c.from_residual.ensures.1 in
-    rw (p.1, p.2) (λ start old h. at_fault (c.messages.invariant.answering start old h) (from_limit c.messages.invariant.limit (c.in_err-next.ensures.gives c.messages.invariant.unended)))
+    rw (p.1, p.2) (λ before start old h. secures_fault before (c.messages.invariant.answering before start old h) c.messages.invariant.run (from_limit c.messages.invariant.limit (c.in_err-next.ensures.gives c.messages.invariant.unended)))
 
 pub returns-in_err-next-clause-read_quiet : goal.returns-in_err-next-clause-read_quiet
 returns-in_err-next-clause-read_quiet g c =
@@ -39,7 +46,7 @@ returns-in_err-next-clause-cause g c =
 
 pub returns-in-End-clause-replies : goal.returns-in-End-clause-replies
 returns-in-End-clause-replies g c =
-    λ start old h. at_end (c.messages.invariant.answering start old h) (from_limit c.messages.invariant.limit (c.in_ok-next.ensures.gives c.messages.invariant.unended)) (sym c.in-End.ensures)
+    λ before start old h. secures_end before (c.messages.invariant.answering before start old h) c.messages.invariant.run (from_limit c.messages.invariant.limit (c.in_ok-next.ensures.gives c.messages.invariant.unended)) (sym c.in-End.ensures)
 
 pub messages-preserved : goal.messages-preserved
 messages-preserved g c =
@@ -47,17 +54,25 @@ messages-preserved g c =
     let is : last_of c.next.new.self.stage ≡ Some s.0 = sym c.message-message.ensures ∙ s.1 in
     let bits = c.messages.node.bits in
     let kept = c.messages.node.kept in
+    let e = c.in_ok-message-in_default.ensures in
+    let are = subst AreKept c.engine.ensures.kept c.kept_count-kept.ensures.blocks in
+    let first = c.args.node.now in
+    let then = subst (λ (o : Option Said). IfSome o (λ said. c.message.new.self.kept ≡ kept_then bits kept said)) s.1 e.kept in
     record {
       limit = c.in_ok-next.ensures.limit ∙ c.messages.invariant.limit;
       opened = behind_open _ c.in_ok-next.ensures.ok;
       unended = λ e. let no : None ≡ Some s.0 = sym (ap last_of e) ∙ is in cc;
-      live = c.in_ok-message-in_default.ensures.stopped;
-      answering = λ start old h. one_more s.0 (c.messages.invariant.answering start old h) (from_limit c.messages.invariant.limit (c.in_ok-next.ensures.gives c.messages.invariant.unended)) is
-          (subst (λ (o : Option Said). IfSome o (λ said. Appends (g.K.Sink.taken c.messages.sink) (g.K.Sink.taken c.message.new.sink) (reply_of no_labels bits kept said))) s.1 c.in_ok-message-in_default.ensures.ok)
-          (subst (λ (o : Option Said). IfSome o (λ said. c.message.new.self.kept ≡ kept_then bits kept said)) s.1 c.in_ok-message-in_default.ensures.kept)
-          c.in_ok-message-in_default.ensures.bits;
+      live = e.stopped;
+      run = run_more first.bits first.kept first.journal (g.D.Disk.now c.args.disk.now) (g.D.Disk.now c.messages.disk) (g.D.Disk.now c.message.new.disk) bits kept c.messages.node.journal c.messages.invariant.run are
+          s.0 c.message.new.self.bits c.message.new.self.kept c.message.new.self.journal e.bits then e.has e.told e.acknowledged
+          (subst (λ (o : Option Said). IfSome o (λ said. LeavesOn c.messages.node.journal (g.D.Disk.now c.messages.disk) (g.D.Disk.now c.message.new.disk) (HoldsThen bits kept said))) s.1 e.any_moment);
+      uncalled = λ none. (e.uncalled (none_on c.messages.node.journal first.journal c.messages.invariant.run.has none)).0 ∙ c.messages.invariant.uncalled none;
+      disk_quiet = e.disk_quiet (λ h. cc) ∙ c.messages.invariant.disk_quiet;
+      answering = λ before start old h. one_more before s.0 (c.messages.invariant.answering before start old h) (from_limit c.messages.invariant.limit (c.in_ok-next.ensures.gives c.messages.invariant.unended)) is
+          (subst (λ (o : Option Said). IfSome o (λ said. Appends (g.K.Sink.taken c.messages.sink) (g.K.Sink.taken c.message.new.sink) (reply_of no_labels bits kept said))) s.1 e.ok)
+          then e.bits;
       read_quiet = c.in_ok-next.ensures.quiet ∙ c.messages.invariant.read_quiet;
-      write_quiet = c.in_ok-message-in_default.ensures.quiet (λ h. cc) ∙ c.messages.invariant.write_quiet;
+      write_quiet = e.quiet (λ h. cc) ∙ c.messages.invariant.write_quiet;
     }
 
 pub returns-in_err-message-in_default : goal.returns-in_err-message-in_default
@@ -67,10 +82,25 @@ returns-in_err-message-in_default g c =
     let is : last_of c.next.new.self.stage ≡ Some s.0 = sym c.message-message.ensures ∙ s.1 in
     let bits = c.messages.node.bits in
     let kept = c.messages.node.kept in
-    let front = subst (λ (o : Option Said). IfSome o (λ said. AppendsFront (g.K.Sink.taken c.messages.sink) (g.K.Sink.taken c.message.new.sink) (reply_of no_labels bits kept said))) s.1 c.in_err-message-in_default.ensures.err in
+    let e = c.in_err-message-in_default.ensures in
+    let first = c.args.node.now in
+    let front = subst (λ (o : Option Said). IfSome o (λ said. AppendsFront (g.K.Sink.taken c.messages.sink) (g.K.Sink.taken c.message.new.sink) (reply_of no_labels bits kept said))) s.1 e.err in
+    let then = subst (λ (o : Option Said). IfSome o (λ said. LeavesOn c.messages.node.journal (g.D.Disk.now c.messages.disk) (g.D.Disk.now c.message.new.disk) (HoldsThen bits kept said))) s.1 e.any_moment in
+    let are = subst AreKept c.engine.ensures.kept c.kept_count-kept.ensures.blocks in
+    let f = c.in_err-message-in_default.field-0.0 in
+    let taken = g.K.Sink.taken in
     rw (p.1, p.2) (record {
-      replies = λ start old h. not_answered _ s.0 (c.messages.invariant.answering start old h) (from_limit c.messages.invariant.limit (c.in_ok-next.ensures.gives c.messages.invariant.unended)) is front;
-      cause = stop_cause _ (g.K.Sink.faults c.args.sink.now) (g.K.Sink.faults c.messages.sink) (g.K.Sink.faults c.message.new.sink) c.messages.invariant.write_quiet c.in_err-message-in_default.ensures.cause;
+      replies = λ before start old h. secures_stop before (c.messages.invariant.answering before start old h) c.messages.invariant.run s.0 are (g.met.D.Disk.is_moment c.messages.disk) (g.met.D.Disk.is_moment c.message.new.disk) e.told then
+          c.message.new.self.bits c.message.new.self.kept c.message.new.self.journal f (from_limit c.messages.invariant.limit (c.in_ok-next.ensures.gives c.messages.invariant.unended)) is
+          (λ d. ap taken (e.silent (ap (λ t. Err t) d))) (λ d. ap taken (e.memory (ap (λ t. Err t) d))) front e.bits
+          (λ d. subst (λ (o : Option Said). IfSome o (λ said. c.message.new.self.kept ≡ kept_then bits kept said)) s.1 (e.kept_unwritten (ap (λ t. Err t) d))) e.has (λ d. e.acknowledged_unwritten (ap (λ t. Err t) d));
+      uncalled = λ none.
+          let here = e.uncalled (none_on c.messages.node.journal first.journal c.messages.invariant.run.has none) in
+          (here.0 ∙ c.messages.invariant.uncalled none, λ d. here.1 (disk_fault f d));
+      told = ((λ t. e.told.0 (c.messages.invariant.run.told.0 t)), (λ t. c.messages.invariant.run.told.1 (e.told.1 t)));
+      cause = stop_cause f (g.K.Sink.faults c.args.sink.now) (g.K.Sink.faults c.messages.sink) (g.K.Sink.faults c.message.new.sink) _ _ c.messages.invariant.write_quiet e.cause;
+      disk_cause = λ d. disk_rose f (g.D.Disk.now c.args.disk.now).faults (g.D.Disk.now c.messages.disk).faults (g.D.Disk.now c.message.new.disk).faults _ _ c.messages.invariant.disk_quiet e.cause d;
       read_quiet = λ _. c.in_ok-next.ensures.quiet ∙ c.messages.invariant.read_quiet;
-      write_quiet = λ other. quiet_node _ _ _ (λ k. c.in_err-message-in_default.ensures.quiet (λ h. k cc)) (λ h. other (ap (λ t. Err t) h)) ∙ c.messages.invariant.write_quiet;
+      write_quiet = λ other. quiet_node _ _ _ (λ k. e.quiet (λ h. k cc)) (λ h. other (ap (λ t. Err t) h)) ∙ c.messages.invariant.write_quiet;
+      disk_quiet = λ other. disk_still f _ _ (λ k. e.disk_quiet (λ h. k cc)) other ∙ c.messages.invariant.disk_quiet;
     })

@@ -50,7 +50,7 @@ pub returns-in-Ok-clause-taken : goal.returns-in-Ok-clause-taken
 returns-in-Ok-clause-taken g c = takes c.in-Ok.ensures.replies.1
 
 pub returns-in-Err-Feed-clause-taken : goal.returns-in-Err-Feed-clause-taken
-returns-in-Err-Feed-clause-taken g c = takes_then _ _ _ _ _ _ (takes c.in-Err-Feed.ensures.replies.1) c.write_fault.ensures.front
+returns-in-Err-Feed-clause-taken g c = takes_then _ _ _ _ _ _ _ (takes c.in-Err-Feed.ensures.replies.1) c.write_fault.ensures.front
 
 pub returns-in-Err-WriteFault-clause-taken : goal.returns-in-Err-WriteFault-clause-taken
 returns-in-Err-WriteFault-clause-taken g c = takes c.in-Err-WriteFault.ensures.replies.1

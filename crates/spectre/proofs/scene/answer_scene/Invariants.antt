@@ -1,4 +1,4 @@
-use Rattle.std.proofs.Common.{◌≡◌, [], ◌∷◌, false}
+use Rattle.std.proofs.Common.{◌≡◌, [], ◌∷◌, false, None}
 use Rattle.sp_block.specs.Block.{ReadBlock}
 use Rattle.sp_report.specs.Naming.{labels_of}
 use Rattle.spectre.proofs.Played.{Played}
@@ -9,6 +9,7 @@ invariant-place g l =
     let taken = g.K.Sink.taken in
     record {
       live : l.node.stopped ≡ false;
+      plain : l.node.journal ≡ None;
       bits : l.node.bits ≡ l.fn.node.bits;
       played : (genesis : ReadBlock) → l.fn.node.kept ≡ genesis ∷ [] →
           Played (taken l.fn.sink) (taken l.sink) (labels_of l.naming) genesis l.fn.node.bits l.node.kept l.scene.messages l.place;

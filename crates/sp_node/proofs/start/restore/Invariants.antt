@@ -1,0 +1,14 @@
+use Rattle.std.proofs.Common.{◌≡◌, ◌-◌, ◌≤◌, false, length}
+use Rattle.sp_node.proofs.Restarted.{AreRestored}
+use Rattle.sp_node.proofs.start.restore.Given as goal
+
+abbrev pub invariant-each : goal.invariant-each
+invariant-each l = record {
+  whole : l.engine.broken ≡ false;
+  bits : l.engine.bits ≡ l.fn.engine.bits;
+  place : l.i ≤ length l.blocks;
+  restored : AreRestored l.fn.engine.bits l.fn.engine.kept l.fn.blocks l.i l.engine.kept;
+}
+
+abbrev pub decreases-each : goal.decreases-each
+decreases-each l = length l.blocks - l.i

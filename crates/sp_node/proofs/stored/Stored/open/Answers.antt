@@ -1,0 +1,8 @@
+use Rattle.sp_node.proofs.Opened.{empty_ready, empty_tells}
+use Rattle.sp_node.proofs.stored.Stored.open.Goals as goal
+
+pub returns-then-length-eq0-clause-tells : goal.returns-then-length-eq0-clause-tells
+returns-then-length-eq0-clause-tells g c = empty_tells c.args.fresh c.in-Ok.length (g.D.Disk.now c.args.disk.now).reads c.in-Ok.ensures.length c.if-length-eq0.true
+
+pub returns-then-length-eq0-clause-ready : goal.returns-then-length-eq0-clause-ready
+returns-then-length-eq0-clause-ready g c = empty_ready c.in-Ok.length (g.D.Disk.now c.args.disk.now) (g.D.Disk.now c.len.new.self) c.in-Ok.ensures.length c.if-length-eq0.true c.in-Ok.ensures.looks

@@ -1,0 +1,68 @@
+-- The journal of a node's kept blocks, and what a disk holds of them.
+use Rattle.std.specs.Prelude.{◌≡◌, ◌⊎◌, false, ℕ, ◌+◌, List, [], ◌∷◌, length, Option, Some, None}
+use Rattle.sp_block.specs.Block.{ReadBlock}
+use Rattle.sp_disk.specs.Images.{Among}
+use Rattle.sp_disk.specs.Moments.{Leaves, Moment}
+use Rattle.sp_engine.specs.Arrivals.{kept_after}
+use Rattle.sp_engine.specs.declared.answer.Answer.{Answer}
+use Rattle.sp_engine.specs.declared.answer.Answer.TheVariants.{Kept, Held, Known, Refused, Full}
+use Rattle.sp_feed.specs.Kinds.{Said}
+use Rattle.sp_journal.specs.Journal.{Contents, contents}
+use Rattle.sp_journal.specs.Prefixes.{journal_of}
+use Rattle.sp_journal.specs.Records.{Found, records}
+use Rattle.sp_journal.specs.Settled.{IsTold}
+use Rattle.sp_journal.specs.Writer.{Stands, Writer}
+use Rattle.sp_node.specs.Answers.{kept_then}
+
+-- the journal of the kept blocks, of which genesis is the first
+abbrev pub journal_in : ℕ → List ReadBlock → Contents
+journal_in bits [] = contents bits [] []
+journal_in bits (genesis ∷ others) = journal_of bits genesis others
+
+-- the id of the block that is kept now, where one is
+abbrev pub kept_id : Answer → Option ℕ
+kept_id (Kept id present) = Some id
+kept_id (Held id) = Some id
+kept_id (Known id) = None
+kept_id (Refused refusal) = None
+kept_id Full = None
+
+-- the journal may take a further record, and has one for each kept block but genesis
+pub record FitsKept (bits : ℕ) (kept : List ReadBlock) (w : Writer) : Type 0 where
+  pub live : w.closed ≡ false
+  pub work : w.bits ≡ bits
+  pub count : w.records + 1 ≡ length kept
+
+-- every crash of the disk leaves the journal of the kept blocks
+abbrev pub StandsForKept : ℕ → List ReadBlock → Writer → Moment → Type 0
+StandsForKept bits kept w m = Stands w (journal_in bits kept) m
+
+-- the bytes hold the journal of the blocks that were kept before these bytes arrived, or of those after
+abbrev pub HoldsBeforeOrAfter : ℕ → List ReadBlock → List ℕ → List ℕ → Type 0
+HoldsBeforeOrAfter bits kept bytes list =
+    (records list ≡ Found (journal_in bits kept)) ⊎ (records list ≡ Found (journal_in bits (kept_after bits kept bytes)))
+
+-- the same before a message and after it
+abbrev pub HoldsThen : ℕ → List ReadBlock → Said → List ℕ → Type 0
+HoldsThen bits kept said list =
+    (records list ≡ Found (journal_in bits kept)) ⊎ (records list ≡ Found (journal_in bits (kept_then bits kept said)))
+
+-- What is said of a node's disk is said where the node has a journal.
+
+abbrev pub FitsOn : ℕ → List ReadBlock → Option Writer → Type 0
+FitsOn bits kept None = Unit {0}
+FitsOn bits kept (Some w) = FitsKept bits kept w
+
+abbrev pub IsKeptOn : ℕ → List ReadBlock → Option Writer → Moment → Type 0
+IsKeptOn bits kept None m = Unit {0}
+IsKeptOn bits kept (Some w) m = IsTold m → StandsForKept bits kept w m
+
+-- a crash at any moment since the old one leaves what has P
+abbrev pub LeavesOn : Option Writer → Moment → Moment → (List ℕ → Type 0) → Type 0
+LeavesOn None old new P = Unit {0}
+LeavesOn (Some w) old new P = IsTold old → Leaves old new P
+
+-- each crash now leaves what has P
+abbrev pub HoldsOn : Option Writer → Moment → (List ℕ → Type 0) → Type 0
+HoldsOn None m P = Unit {0}
+HoldsOn (Some w) m P = IsTold m → Among P m.images

@@ -1,0 +1,164 @@
+//! The start of a node's engine and journal, on a disk that holds no journal and on one that does.
+
+ghost use Rattle.std.specs.Prelude.{◌≡◌, ◌⊎◌, ◌+◌, ◌++◌, ◌≤◌, ◌∷◌, [], false, true, fold, length, map, Err, IfErr, IfOk, IfSome, IsErrOf, Ok, OnOk};
+ghost use Rattle.sp_ids.specs.Digest.{sha256_number};
+ghost use Rattle.sp_io.specs.Causes.{Rose};
+ghost use Rattle.sp_disk.specs.Moments.{Leaves};
+ghost use Rattle.sp_engine.specs.Arrivals.{kept_after, kept_by_all};
+ghost use Rattle.sp_engine.specs.Blocks.{block_in};
+ghost use Rattle.sp_engine.specs.Engine.{ledger};
+ghost use Rattle.sp_journal.specs.Creation.{HoldsNoneOrNew, IsSynced, IsVacant};
+ghost use Rattle.sp_journal.specs.Journal.{contents};
+ghost use Rattle.sp_journal.specs.Recovery.{bytes_in, id_behind, IsGood};
+ghost use Rattle.sp_journal.specs.Settled.{IsTold, SameTold};
+ghost use Rattle.sp_journal.specs.declared.gate_kind.Gate.TheVariants.{Shut};
+ghost use Rattle.sp_form.specs.Turns.{InTurn};
+ghost use Rattle.sp_pool.specs.Kept.{ids_of};
+ghost use Rattle.sp_node.specs.Journalled.{FitsKept, StandsForKept};
+ghost use Rattle.sp_node.specs.Stored.{IsSameChain};
+ghost use Rattle.sp_node.specs.declared.start.StartFault.TheVariants as faults;
+
+use sp_block::Block;
+use sp_disk::Disk;
+use sp_engine::Engine;
+use sp_feed::FeedHead;
+use sp_ids::{BlockId, Memory};
+use sp_journal::{CreateFault, Gate, Journal, Opened};
+use std::alloc::Global;
+
+/// Why no node was started.
+#[derive(Clone, Copy, Debug, PartialEq, Eq)]
+pub enum StartFault {
+    /// The journal is that of another chain: of other bits of work or another genesis block.
+    OtherChain {
+        stored_bits: u8,
+        stored: BlockId,
+        fed_bits: u8,
+        fed: BlockId,
+    },
+    /// The disk failed. It holds no journal, or the new one.
+    DiskFault,
+    /// There was no memory. The disk wasn't called.
+    Memory,
+}
+
+impl From<Memory> for StartFault {
+    ghost from_gives = { λ _ e. e ≡ faults.Memory };
+
+    fn from(_refused: Memory) -> StartFault {
+        StartFault::Memory
+    }
+}
+
+/// An engine of the head's genesis block alone, and its journal on the disk. The engine comes first,
+/// so that want of memory leaves the disk as it was.
+pub(crate) fn start_new<D: Disk>(
+    alloc: Global,
+    disk: &mut D,
+    gate: Gate,
+    head: FeedHead,
+) -> Result<(Engine, Journal), StartFault>
+    requires vacant { IfSome (D.now disk.old).reads (IsVacant gate) }
+    requires synced { gate ≡ Shut → IsSynced (D.now disk.old) }
+    ensures engine { IfOk result (λ made. made.0 ≡ ledger head.bits (head.genesis ∷ [])) }
+    ensures fits { IfOk result (λ made. FitsKept head.bits (head.genesis ∷ []) made.1) }
+    ensures stands { IfOk result (λ made. IsTold (D.now disk.old)
+        → StandsForKept head.bits (head.genesis ∷ []) made.1 (D.now disk.new)) }
+    ensures any_moment { IsTold (D.now disk.old) → IsSynced (D.now disk.old)
+        → Leaves (D.now disk.old) (D.now disk.new) (HoldsNoneOrNew (contents head.bits head.genesis.bytes [])) }
+    ensures told { SameTold (D.now disk.old) (D.now disk.new) }
+    ensures own { IfErr result (λ fault. (fault ≡ faults.DiskFault) ⊎ (fault ≡ faults.Memory)) }
+    ensures fault { IsErrOf result faults.DiskFault → Rose (D.now disk.old).faults (D.now disk.new).faults }
+    ensures memory { IsErrOf result faults.Memory → disk.new ≡ disk.old }
+    ensures later { (D.now disk.old).faults ≤ (D.now disk.new).faults }
+    ensures quiet { (IsErrOf result faults.DiskFault → ⊥) → (D.now disk.new).faults ≡ (D.now disk.old).faults }
+{
+    let FeedHead { bits, genesis } = head;
+    let engine = Engine::new(alloc, genesis, bits)?;
+    match Journal::create(alloc, disk, gate, bits, engine.genesis()) {
+        Ok(journal) => Ok((engine, journal)),
+        Err(CreateFault::DiskFault) => Err(StartFault::DiskFault),
+        Err(CreateFault::Memory) => Err(StartFault::Memory),
+    }
+}
+
+/// Offers blocks to an engine that keeps them all, since each may be recorded behind those before it.
+fn restore(engine: &mut Engine, blocks: &[Block]) -> Result<(), Memory>
+    requires whole { engine.old.broken ≡ false }
+    requires good { InTurn (IsGood engine.old.bits) id_behind (ids_of engine.old.kept) blocks.now }
+    requires few { length engine.old.kept + length blocks.now ≤ 512 }
+    ensures kept { OnOk result (engine.new.kept ≡ engine.old.kept ++ blocks.now) }
+    ensures sent { OnOk result (engine.new.kept
+        ≡ fold (kept_after engine.old.bits) engine.old.kept (map bytes_in blocks.now)) }
+    ensures bits { engine.new.bits ≡ engine.old.bits }
+    ensures whole { OnOk result (engine.new.broken ≡ false) }
+{
+    let mut i = 0;
+    'each: while i < blocks.len() {
+        let block = &blocks[i];
+        engine.offer(block.bytes.as_slice())?;
+        i += 1;
+    }
+    Ok(())
+}
+
+/// An engine of a found journal's blocks, which are offered to it in their order, and that journal.
+/// The disk isn't called.
+pub(crate) fn start_found(
+    alloc: Global,
+    opened: Opened,
+    head: FeedHead,
+) -> Result<(Engine, Journal), StartFault>
+    ensures engine { IfOk result (λ made. made.0 ≡ ledger head.bits (head.genesis ∷ opened.blocks)) }
+    ensures sent { IfOk result (λ made. made.0.kept ≡ kept_by_all head.bits head.genesis (map bytes_in opened.blocks)) }
+    ensures same { OnOk result (IsSameChain opened head) }
+    ensures journal { IfOk result (λ made. made.1 ≡ opened.journal) }
+    ensures other { IfErr result (λ fault. (fault ≡ faults.Memory)
+        ⊎ ((IsSameChain opened head → ⊥)
+        × (fault ≡ faults.OtherChain opened.bits (sha256_number opened.genesis.bytes) head.bits (sha256_number head.genesis.bytes)))) }
+{
+    let FeedHead { bits, genesis } = head;
+    let Opened {
+        journal,
+        bits: stored_bits,
+        genesis: stored,
+        blocks,
+    } = opened;
+    if bits != stored_bits || genesis.bytes.as_slice() != stored.bytes.as_slice() {
+        return Err(StartFault::OtherChain {
+            stored_bits,
+            stored: stored.id,
+            fed_bits: bits,
+            fed: genesis.id,
+        });
+    }
+    let mut engine = Engine::new(alloc, genesis, bits)?;
+    match restore(&mut engine, blocks.as_slice()) {
+        Ok(()) => Ok((engine, journal)),
+        Err(_) => Err(StartFault::Memory),
+    }
+}
+
+/// The engine of the blocks that an opened journal holds, which are offered to it in their order. Where
+/// each record is one of a journal, all of them are kept.
+///
+/// # Errors
+///
+/// `Memory` where there was none for them.
+pub fn recovered(alloc: Global, opened: Opened) -> Result<Engine, Memory>
+    ensures engine { IfOk result (λ engine. engine ≡ ledger opened.bits (opened.genesis ∷ opened.blocks)) }
+    ensures sent { IfOk result (λ engine. engine.kept ≡ kept_by_all opened.bits opened.genesis (map bytes_in opened.blocks)) }
+    ensures spelled { OnOk result (block_in true opened.genesis.bytes ≡ Ok opened.genesis) }
+{
+    let Opened {
+        journal: _,
+        bits,
+        genesis,
+        blocks,
+    } = opened;
+    // Tells the proof what its bytes spell.
+    let _id = genesis.id;
+    let mut engine = Engine::new(alloc, genesis, bits)?;
+    restore(&mut engine, blocks.as_slice())?;
+    Ok(engine)
+}

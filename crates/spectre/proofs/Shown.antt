@@ -1,0 +1,35 @@
+-- What `show` writes, from what was found on the disk.
+use Rattle.std.proofs.Common.{◌≡◌, ℕ, ◌-◌, true, List, ◌∷◌, ◌++◌, length, map, Option, Some, None, IfSome, Ok, ap, sym, subst, ◌∙◌, arith}
+use Rattle.std.proofs.lemmas.List.{length-map}
+use Rattle.sp_block.specs.Block.{ReadBlock}
+use Rattle.sp_engine.specs.Arrivals.{kept_by_all}
+use Rattle.sp_engine.specs.Blocks.{block_in}
+use Rattle.sp_journal.specs.Opening.{contents_in, Opening}
+use Rattle.sp_journal.specs.Records.{Found as found, Records, records}
+use Rattle.sp_journal.specs.Recovery.{bytes_in}
+use Rattle.sp_names.specs.Labels.{no_labels}
+use Rattle.sp_report.specs.Texts.{report_text}
+use Rattle.spectre.specs.Journals.{recovered_text, report_by, shown_by, shown_output}
+
+pub shown_is : (o : Opening) (count : ℕ) (kept : List ReadBlock) → count ≡ length kept - 1 → kept ≡ o.genesis ∷ o.blocks → kept ≡ kept_by_all o.bits o.genesis (map bytes_in o.blocks) → block_in true o.genesis.bytes ≡ Ok o.genesis
+    → recovered_text count ++ report_text no_labels kept ≡ shown_by (found (contents_in o))
+shown_is o count kept n whole sent spelled =
+    let size : count ≡ length (map bytes_in o.blocks) = omega (arith, n, ap length whole, length-map o.blocks bytes_in) in
+    ap (λ (k : ℕ). recovered_text k ++ report_text no_labels kept) size
+    ∙ ap (λ (k : List ReadBlock). recovered_text (length (map bytes_in o.blocks)) ++ report_text no_labels k) sent
+    ∙ ap (λ r. recovered_text (length (map bytes_in o.blocks)) ++ report_by (contents_in o) r) (sym spelled)
+
+-- what is written for what the disk holds
+pub shown_at : (reads : Option (List ℕ)) (r : Records) (P : List ℕ → Type 0) → IfSome reads (λ bytes. records bytes ≡ r) → P (shown_by r) → IfSome reads (λ bytes. P (shown_output bytes) × (records bytes ≡ r))
+unfolding shown_output
+shown_at None r P e h = tt
+shown_at (Some bytes) r P e h = (subst (λ (x : Records). P (shown_by x)) (sym e) h, e)
+
+pub shown_text : (reads : Option (List ℕ)) (r : Records) (P : List ℕ → Type 0) → IfSome reads (λ bytes. records bytes ≡ r) → P (shown_by r) → IfSome reads (λ bytes. P (shown_output bytes))
+unfolding shown_output
+shown_text None r P e h = tt
+shown_text (Some bytes) r P e h = subst (λ (x : Records). P (shown_by x)) (sym e) h
+
+pub if_more : (reads : Option (List ℕ)) (P Q : List ℕ → Type 0) → ((bytes : List ℕ) → P bytes → Q bytes) → IfSome reads P → IfSome reads Q
+if_more None P Q f h = tt
+if_more (Some bytes) P Q f h = f bytes h

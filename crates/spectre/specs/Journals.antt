@@ -1,0 +1,117 @@
+-- What the commands with a file write, over what the disk reads before the run.
+use Rattle.std.specs.Prelude.{◌≡◌, ◌≢◌, ◌⊎◌, ℕ, ◌==◌, ◌&&◌, ◌||◌, if◌then◌else◌, Bool, true, false, List, [], ◌∷◌, ◌++◌, length, codes, Option, Some, None, Result, Ok, Err}
+use Rattle.std.specs.Fmt.{decimal}
+use Rattle.std.specs.Str.{bytes_eq}
+use Rattle.sp_ids.specs.Digest.{sha256_number}
+use Rattle.sp_block.specs.Block.{ReadBlock}
+use Rattle.sp_block.specs.declared.fault.BlockFault.{BlockFault}
+use Rattle.sp_engine.specs.Arrivals.{kept_by_all}
+use Rattle.sp_engine.specs.Blocks.{block_in}
+use Rattle.sp_feed.specs.Format.{Head}
+use Rattle.sp_journal.specs.Journal.{Contents}
+use Rattle.sp_journal.specs.Records.{Damaged, Found, NoJournal, Records, records}
+use Rattle.sp_names.specs.Labels.{no_labels}
+use Rattle.sp_report.specs.Naming.{hex_label}
+use Rattle.sp_report.specs.Texts.{report_text}
+use Rattle.spectre.specs.Replay.{fed, replayed}
+
+-- `fault not-journal`
+unfoldable pub not_journal_text : List ℕ
+not_journal_text = codes "fault not-journal" ++ 10 ∷ []
+
+-- `fault damaged N`, N the place
+unfoldable pub damaged_text : ℕ → List ℕ
+damaged_text at = codes "fault damaged " ++ decimal at ++ 10 ∷ []
+
+-- `fault other-chain N ID N ID`: bits of work and genesis of the journal, and then of the feed
+unfoldable pub other_chain_text : ℕ → ℕ → ℕ → ℕ → List ℕ
+other_chain_text stored_bits stored fed_bits fed_id =
+    codes "fault other-chain " ++ decimal stored_bits ++ 32 ∷ [] ++ hex_label stored ++ 32 ∷ [] ++ decimal fed_bits ++ 32 ∷ [] ++ hex_label fed_id ++ 10 ∷ []
+
+-- `recovered N`, N the records
+unfoldable pub recovered_text : ℕ → List ℕ
+recovered_text count = codes "recovered " ++ decimal count ++ 10 ∷ []
+
+-- the head of a feed asks for the journal's bits and genesis block
+abbrev pub is_chain_of : Contents → Head → Bool
+is_chain_of c head = (c.bits == head.bits) && bytes_eq c.genesis head.genesis
+
+-- the answers over the journal's blocks, but where the head is of another chain
+abbrev pub chained : Contents → Option Head → List ℕ → List ℕ
+chained c None input = replayed c.blocks input
+chained c (Some head) input =
+    if is_chain_of c head then replayed c.blocks input
+    else other_chain_text c.bits (sha256_number c.genesis) head.bits (sha256_number head.genesis)
+
+-- a journal may be made: there are no bytes, or it was asked for
+abbrev pub may_be_new : Bool → List ℕ → Bool
+may_be_new fresh disk = fresh || (length disk == 0)
+
+abbrev pub kept_by : Bool → List ℕ → Records → List ℕ → List ℕ
+kept_by fresh disk NoJournal input = if may_be_new fresh disk then replayed [] input else not_journal_text
+kept_by fresh disk (Damaged at) input = damaged_text at
+kept_by fresh disk (Found c) input = chained c (fed input).head input
+
+-- what `node` writes
+unfoldable pub kept_output : Bool → List ℕ → List ℕ → List ℕ
+kept_output fresh disk input = kept_by fresh disk (records disk) input
+
+abbrev pub report_by : Contents → Result ReadBlock BlockFault → List ℕ
+report_by c (Ok genesis) = report_text no_labels (kept_by_all c.bits genesis c.blocks)
+report_by c (Err fault) = []
+
+abbrev pub shown_by : Records → List ℕ
+shown_by NoJournal = not_journal_text
+shown_by (Damaged at) = damaged_text at
+shown_by (Found c) = recovered_text (length c.blocks) ++ report_by c (block_in true c.genesis)
+
+-- what `show` writes
+unfoldable pub shown_output : List ℕ → List ℕ
+shown_output disk = shown_by (records disk)
+
+-- the blocks of the journal that was found
+abbrev pub blocks_in : Records → List (List ℕ)
+blocks_in NoJournal = []
+blocks_in (Damaged at) = []
+blocks_in (Found c) = c.blocks
+
+abbrev pub found_blocks : List ℕ → List (List ℕ)
+found_blocks disk = blocks_in (records disk)
+
+-- How the disk stands to a feed.
+
+pub record IsChainOf (c : Contents) (head : Head) : Type 0 where
+  pub bits : c.bits ≡ head.bits
+  pub genesis : c.genesis ≡ head.genesis
+
+abbrev pub FitsHead : Bool → List ℕ → Records → Option Head → Type 0
+FitsHead fresh disk r None = ⊥
+FitsHead fresh disk NoJournal (Some head) = (length disk ≡ 0) ⊎ (fresh ≡ true)
+FitsHead fresh disk (Damaged at) (Some head) = ⊥
+FitsHead fresh disk (Found c) (Some head) = IsChainOf c head
+
+-- The disk fits the feed: the feed's head is whole, and the disk is empty, or holds a journal of that head's bits and
+-- genesis block, or holds none and a new one may be made.
+abbrev pub Fits : Bool → List ℕ → List ℕ → Type 0
+Fits fresh disk input = FitsHead fresh disk (records disk) (fed input).head
+
+-- it holds a journal
+abbrev pub HoldsJournal : List ℕ → Type 0
+HoldsJournal disk = (c : Contents) × (records disk ≡ Found c)
+
+-- it holds none, and none may be made
+pub record HasNoJournal (fresh : Bool) (disk : List ℕ) : Type 0 where
+  pub none : records disk ≡ NoJournal
+  pub some : length disk ≢ 0
+  pub old : fresh ≡ false
+
+abbrev pub IsDamagedDisk : List ℕ → Type 0
+IsDamagedDisk disk = (at : ℕ) × (records disk ≡ Damaged at)
+
+-- it holds the journal of another chain than that of the feed
+pub record HasOtherChain (disk input : List ℕ) : Type 0 where
+  pub contents : Contents
+  pub found : records disk ≡ Found contents
+  pub head : Head
+  pub begins : (fed input).head ≡ Some head
+  pub other : IsChainOf contents head → ⊥

@@ -1,0 +1,225 @@
+//! Two blocks sent to a node while the calls of its disk fail from each one on: what is acknowledged,
+//! what `show` finds after each crash, and that a second run goes on from there.
+
+use crate::status::Status;
+use crate::tests::disks::{PICKS, disk_with, runs_on, runs_over};
+use crate::tests::feed_bytes::{END, feed_of, in_full};
+use crate::tests::{Wanted, agrees};
+use sp_disk::MemDisk;
+use sp_io::Fails;
+use std::alloc::Global;
+use std::process::Abort;
+use std::test::Fail;
+
+pub const NODE: &[u8] = b"node\nf";
+
+pub const FRESH: &[u8] = b"node\n--fresh\nf";
+
+pub const SHOW: &[u8] = b"show\nf";
+
+/// The feed of the two blocks.
+pub fn both(alloc: Global) -> Result<Vec<u8>, Fail> {
+    feed_of(alloc, 0, b"A\nB\n", END)
+}
+
+/// The lines of the first blocks.
+fn kept(count: usize) -> &'static [u8] {
+    match count {
+        0 => b"",
+        1 => b"kept A present 1\n",
+        _ => b"kept A present 1\nkept B present 1\n",
+    }
+}
+
+/// What is shown of a journal of none, one or both of the blocks.
+const SHOWN: [(u8, &[u8]); 3] = [
+    (
+        b'0',
+        b"recovered 0\nblocks 1 waiting 0\naccepted 0\nbalances 0\n",
+    ),
+    (
+        b'1',
+        b"recovered 1\nblocks 2 waiting 0\naccepted 0\nbalances 0\n",
+    ),
+    (
+        b'2',
+        b"recovered 2\nblocks 3 waiting 0\naccepted 0\nbalances 0\n",
+    ),
+];
+
+/// The number of blocks that is shown, as a digit.
+fn digit_of(output: &[u8]) -> u8 {
+    for (digit, text) in SHOWN {
+        if output == text {
+            return digit;
+        }
+    }
+    b'?'
+}
+
+/// What `show` says of these bytes, which it leaves: an empty disk, no journal, the number of blocks, or
+/// anything else.
+pub fn letter_of(alloc: Global, image: &[u8]) -> Result<u8, Fail> {
+    let (ended, left) = runs_on(alloc, SHOW, b"", image)?;
+    if left.as_slice() != image {
+        return Ok(b'?');
+    }
+    if ended.status == Status::Done {
+        return Ok(digit_of(&ended.output));
+    }
+    if ended.status != Status::NotJournal
+        || ended.output.as_slice() != b"fault not-journal\n".as_slice()
+    {
+        return Ok(b'?');
+    }
+    Ok(if image.is_empty() { b'e' } else { b'n' })
+}
+
+/// What each crash leaves now.
+pub fn letters_of(alloc: Global, disk: &MemDisk) -> Result<[u8; 4], Fail> {
+    let mut all = [b'?'; 4];
+    for (letter, pick) in all.iter_mut().zip(PICKS) {
+        let image = disk.image(pick)?;
+        *letter = letter_of(alloc, &image)?;
+    }
+    Ok(all)
+}
+
+/// How the same feed is answered once more, where this was left.
+fn wanted_again(fresh: bool, letter: u8) -> (Status, &'static [u8]) {
+    if letter == b'n' && !fresh {
+        return (Status::NotJournal, b"fault not-journal\n");
+    }
+    let lines: &[u8] = match letter {
+        b'1' => b"known A\nkept B present 1\n",
+        b'2' => b"known A\nknown B\n",
+        _ => kept(2),
+    };
+    (Status::Done, lines)
+}
+
+/// Whether it is answered so on these bytes, and both blocks are there then, or the bytes stay.
+fn is_so_again(alloc: Global, feed: &[u8], fresh: bool, image: &[u8]) -> Result<bool, Fail> {
+    let (status, lines) = wanted_again(fresh, letter_of(alloc, image)?);
+    let words = if fresh { FRESH } else { NODE };
+    let (ended, left) = runs_on(alloc, words, feed, image)?;
+    if ended.status != status || ended.output.as_slice() != in_full(alloc, lines)?.as_slice() {
+        return Ok(false);
+    }
+    if status == Status::Done {
+        return Ok(letter_of(alloc, &left)? == b'2');
+    }
+    Ok(left.as_slice() == image)
+}
+
+/// Whether so it is on what each crash leaves now.
+fn goes_on(alloc: Global, feed: &[u8], disk: &MemDisk) -> Result<bool, Fail> {
+    for pick in PICKS {
+        let image = disk.image(pick)?;
+        if !is_so_again(alloc, feed, false, &image)? || !is_so_again(alloc, feed, true, &image)? {
+            return Ok(false);
+        }
+    }
+    Ok(true)
+}
+
+/// The first call that fails, the number of lines that are written, and what each crash leaves.
+pub type Row = (u32, usize, &'static [u8]);
+
+/// The calls of a run over a disk: its words, what stands there, the number of all calls, and that of
+/// those up to the last one of a creation.
+#[derive(Clone, Copy)]
+pub struct Sequence {
+    pub words: &'static [u8],
+    pub bytes: &'static [u8],
+    pub calls: u32,
+    pub made: u32,
+}
+
+/// Whether a crash may leave this where this call failed and so many lines were written: no journal only
+/// up to the last call of a creation, and else each block whose line was written.
+fn is_lawful(sequence: &Sequence, call: u32, lines: usize, letter: u8) -> bool {
+    match letter {
+        b'e' | b'n' => call < sequence.made,
+        b'0' => lines == 0,
+        b'1' => lines <= 1,
+        b'2' => true,
+        _ => false,
+    }
+}
+
+fn is_all_lawful(sequence: &Sequence, call: u32, lines: usize, letters: &[u8]) -> bool {
+    letters
+        .iter()
+        .all(|letter| is_lawful(sequence, call, lines, *letter))
+}
+
+/// Runs while the disk's calls fail from this one on, and goes on from what each crash leaves.
+pub fn fails_from(
+    rt: &impl Abort,
+    alloc: Global,
+    sequence: &Sequence,
+    (call, lines, letters): Row,
+) -> Result<(), Fail> {
+    let feed = both(alloc)?;
+    let bytes = Vec::from_slice(alloc, sequence.bytes)?;
+    let mut disk = disk_with(alloc, bytes, Fails::From(call))?;
+    let ended = runs_over(alloc, sequence.words, &feed, &mut disk)?;
+    let output = in_full(alloc, kept(lines))?;
+    let wanted = Wanted {
+        status: if call < sequence.calls {
+            Status::DiskFault
+        } else {
+            Status::Done
+        },
+        lines: 0,
+        output: &output,
+        rest: None,
+    };
+    agrees(rt, "call", call as usize, &ended, &wanted);
+    let left = letters_of(alloc, &disk)?;
+    assert!(rt; left.as_slice() == letters, "call {call}: {left:?}");
+    assert!(rt;
+        is_all_lawful(sequence, call, lines, letters),
+        "call {call}"
+    );
+    assert!(rt; goes_on(alloc, &feed, &disk)?, "call {call}, and once more");
+    Ok(())
+}
+
+/// On an empty disk call 0 asks for the length, 1 to 6 make the journal, and each block has four.
+const ON_EMPTY: Sequence = Sequence {
+    words: NODE,
+    bytes: b"",
+    calls: 15,
+    made: 7,
+};
+
+/// By hand, of the outcomes in which the pending writes are undone, done, and filled with 0 and with the
+/// byte of an open gate.
+const FAILING: [Row; 16] = [
+    (0, 0, b"eeee"),
+    (1, 0, b"eenn"),
+    (2, 0, b"ennn"),
+    (3, 0, b"nnnn"),
+    (4, 0, b"nnnn"),
+    (5, 0, b"nnn0"),
+    (6, 0, b"n0n0"),
+    (7, 0, b"0000"),
+    (8, 0, b"0000"),
+    (9, 0, b"0001"),
+    (10, 0, b"0101"),
+    (11, 1, b"1111"),
+    (12, 1, b"1111"),
+    (13, 1, b"1112"),
+    (14, 1, b"1212"),
+    (15, 2, b"2222"),
+];
+
+#[test]
+fn each_call_failing(rt: HostRuntime) -> Result<(), Fail> {
+    for row in FAILING {
+        fails_from(&rt, rt.alloc(), &ON_EMPTY, row)?;
+    }
+    Ok(())
+}

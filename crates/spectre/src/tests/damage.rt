@@ -1,0 +1,153 @@
+//! Journals that are damaged: each cause, at the place of the record's gate, by both commands that open
+//! one, which leave it as it is and read nothing of a feed.
+
+use crate::status::Status;
+use crate::tests::crashes::{FRESH, NODE, SHOW};
+use crate::tests::disks::{Held, bytes_of, disk_with, leaves, runs_on};
+use crate::tests::feed_bytes::{END, head_of, put_child};
+use crate::tests::{Trial, WIDE, Wanted, agrees, ran_over};
+use sp_ids::BlockId;
+use sp_io::Fails;
+use std::alloc::Global;
+use std::process::Abort;
+use std::test::Fail;
+
+/// A journal, and the line of its damage.
+type Damage = (&'static str, Held, &'static [u8]);
+
+/// The head has 34 bytes, and each record of a block on one parent 57.
+#[rattlefmt::skip]
+const DAMAGES: [Damage; 18] = [
+    ("the disk ends behind the head", Held::Journal(0, b"", b""), b"fault damaged 34\n"),
+    ("the disk ends behind a record", Held::Journal(0, b"A", b""), b"fault damaged 91\n"),
+    ("the disk ends behind two records", Held::Journal(0, b"AB", b""), b"fault damaged 148\n"),
+    ("a gate alone", Held::Journal(0, b"", b"\xa5"), b"fault damaged 34\n"),
+    ("the length is cut", Held::Journal(0, b"A", b"\xa5\x34\0\0"), b"fault damaged 91\n"),
+    ("no body", Held::Journal(0, b"", b"\xa5\x34\0\0\0"), b"fault damaged 34\n"),
+    ("the body is cut", Held::Journal(0, b"", b"\xa5\x34\0\0\0\x01\x05\0\0"), b"fault damaged 34\n"),
+    ("the second body is cut", Held::Journal(0, b"B", b"\xa5\x34\0\0\0\x01\x05\0\0"), b"fault damaged 91\n"),
+    ("a length of 65,537", Held::Journal(0, b"", b"\xa5\x01\0\x01\0"), b"fault damaged 34\n"),
+    ("the greatest length", Held::Journal(0, b"A", b"\xa5\xff\xff\xff\xff\0\0\0"), b"fault damaged 91\n"),
+    ("an empty body", Held::Journal(0, b"", b"\xa5\0\0\0\0\0"), b"fault damaged 34\n"),
+    ("another version", Held::Journal(0, b"", b"\xa5\x01\0\0\0\x02\0"), b"fault damaged 34\n"),
+    ("the genesis block", Held::Journal(0, b"A", b"\xa5\x14\0\0\0\x01\0\0\0\0\0\0\0\0\0\0\0\0\0\0\0\0\0\0\0\0"), b"fault damaged 91\n"),
+    ("a record twice", Held::Journal(0, b"AA", b"\0"), b"fault damaged 91\n"),
+    ("an earlier record again", Held::Journal(0, b"ABA", b"\0"), b"fault damaged 148\n"),
+    ("no work", Held::Journal(1, b"A", b"\0"), b"fault damaged 34\n"),
+    ("no work in the second record", Held::Journal(1, b"BA", b"\0"), b"fault damaged 91\n"),
+    ("the first of two causes", Held::Journal(0, b"AAA", b"\xa5\0\0"), b"fault damaged 91\n"),
+];
+
+/// Nothing of a feed was read.
+const UNREAD: (Option<usize>, Option<usize>, [u8; 7], bool) = (
+    Some(7),
+    Some(7),
+    *b"1\0B\x14\0\0\0",
+    true,
+);
+
+/// Runs these words over these bytes, which stay.
+fn finds(
+    rt: &impl Abort,
+    alloc: Global,
+    name: &str,
+    words: &[u8],
+    bytes: &[u8],
+    line: &[u8],
+) -> Result<(), Fail> {
+    let mut disk = disk_with(alloc, Vec::from_slice(alloc, bytes)?, Fails::Never)?;
+    let input = head_of(alloc, 0)?;
+    let trial = Trial {
+        words,
+        input: &input,
+        ends: WIDE,
+    };
+    let ended = ran_over(alloc, &trial, &mut disk)?;
+    let wanted = Wanted {
+        status: Status::Damaged,
+        lines: 0,
+        output: line,
+        rest: Some(UNREAD),
+    };
+    agrees(rt, name, 0, &ended, &wanted);
+    assert!(rt; leaves(&disk, bytes)?, "{name}");
+    Ok(())
+}
+
+#[test]
+fn each_cause(rt: HostRuntime) -> Result<(), Fail> {
+    for (name, held, line) in DAMAGES {
+        let bytes = bytes_of(rt.alloc(), held)?;
+        for words in [NODE, FRESH, SHOW] {
+            finds(&rt, rt.alloc(), name, words, &bytes, line)?;
+        }
+    }
+    Ok(())
+}
+
+/// What holds no damage, though the one or the other looks like it: blocks whose parents never come,
+/// and whatever stands behind a closed gate.
+#[rattlefmt::skip]
+const WHOLE: [(Held, &[u8]); 5] = [
+    (Held::Journal(0, b"", b"\0"), b"recovered 0\nblocks 1 waiting 0\naccepted 0\nbalances 0\n"),
+    (Held::Journal(0, b"FW", b"\x01"), b"recovered 2\nblocks 1 waiting 2\naccepted 0\nbalances 0\n"),
+    (Held::Journal(0, b"FA", b"\xa4\xa5\x34\0\0\0"), b"recovered 2\nblocks 3 waiting 0\naccepted 0\nbalances 0\n"),
+    (Held::Journal(1, b"B", b"\0"), b"recovered 1\nblocks 2 waiting 0\naccepted 0\nbalances 0\n"),
+    (Held::Journal(64, b"", b"\0\xff"), b"recovered 0\nblocks 1 waiting 0\naccepted 0\nbalances 0\n"),
+];
+
+#[test]
+fn no_damage(rt: HostRuntime) -> Result<(), Fail> {
+    for (at, (held, output)) in WHOLE.iter().enumerate() {
+        let bytes = bytes_of(rt.alloc(), *held)?;
+        let (ended, left) = runs_on(rt.alloc(), SHOW, b"", &bytes)?;
+        let wanted = Wanted {
+            status: Status::Done,
+            lines: 0,
+            output,
+            rest: None,
+        };
+        agrees(&rt, "whole", at, &ended, &wanted);
+        assert!(&rt; left.as_slice() == bytes.as_slice(), "{at}");
+    }
+    Ok(())
+}
+
+/// The records of the 511 blocks on genesis and on an unknown one, of all salts but 0 on genesis.
+fn put_511(out: &mut Vec<u8>, genesis: &BlockId) -> Result<(), Fail> {
+    let unknown = BlockId::from_bytes([7; 32]);
+    for salt in 0..=255u8 {
+        if salt != 0 {
+            put_as_record(out, salt, genesis)?;
+        }
+        put_as_record(out, salt, &unknown)?;
+    }
+    Ok(())
+}
+
+/// A frame and a record differ in their first byte.
+fn put_as_record(out: &mut Vec<u8>, salt: u8, parent: &BlockId) -> Result<(), Fail> {
+    let place = out.len();
+    put_child(out, salt, parent)?;
+    if let Some(gate) = out.get_mut(place) {
+        *gate = 0xA5;
+    }
+    Ok(())
+}
+
+/// Behind 511 records no gate may be open. There stands place 34 + 511 * 57.
+#[test]
+fn behind_511_records(rt: HostRuntime) -> Result<(), Fail> {
+    let head = head_of(rt.alloc(), 0)?;
+    let genesis = BlockId::of(head.get(14..).unwrap_or(b""));
+    let mut bytes = bytes_of(rt.alloc(), Held::Journal(0, b"", b""))?;
+    put_511(&mut bytes, &genesis)?;
+    let line = b"fault damaged 29161\n";
+    finds(&rt, rt.alloc(), "no gate", SHOW, &bytes, line)?;
+    bytes.push(0xA5)?;
+    finds(&rt, rt.alloc(), "an open gate", SHOW, &bytes, line)?;
+    finds(&rt, rt.alloc(), "an open gate", NODE, &bytes, line)?;
+    put_as_record(&mut bytes, 9, &BlockId::from_bytes([9; 32]))?;
+    bytes.extend_from_slice(END)?;
+    finds(&rt, rt.alloc(), "a record", FRESH, &bytes, line)
+}

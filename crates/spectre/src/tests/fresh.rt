@@ -1,0 +1,192 @@
+//! A new journal over other bytes, where it is asked for: never in the place of a journal, and never one
+//! that a crash opens over what stood there.
+
+use crate::status::Status;
+use crate::tests::crashes::{FRESH, NODE, Row, Sequence, both, fails_from, letters_of};
+use crate::tests::disks::{Held, TWO, disk_of, leaves};
+use crate::tests::feed_bytes::{END, feed_of, in_full};
+use crate::tests::{Ended, Ends, Trial, WIDE, Wanted, agrees, ran_over};
+use sp_disk::{MemDisk, Pick};
+use std::alloc::Global;
+use std::process::Abort;
+use std::test::Fail;
+
+/// Rubbish behind a closed gate. The length and a sync and a read are calls 0 to 2, and the creation has
+/// four calls, since a closed gate isn't written again.
+const CLOSED: Sequence = Sequence {
+    words: FRESH,
+    bytes: &[0x5A; 300],
+    calls: 15,
+    made: 7,
+};
+
+/// What stood there is no journal, whatever of the new one stands before it.
+const FAILING_CLOSED: [Row; 14] = [
+    (0, 0, b"nnnn"),
+    (1, 0, b"nnnn"),
+    (2, 0, b"nnnn"),
+    (3, 0, b"nnnn"),
+    (4, 0, b"nnnn"),
+    (5, 0, b"nnn0"),
+    (6, 0, b"n0n0"),
+    (7, 0, b"0000"),
+    (9, 0, b"0001"),
+    (10, 0, b"0101"),
+    (11, 1, b"1111"),
+    (13, 1, b"1112"),
+    (14, 1, b"1212"),
+    (15, 2, b"2222"),
+];
+
+/// Rubbish behind an open gate, which is closed first: the creation has six calls.
+const OPEN: Sequence = Sequence {
+    words: FRESH,
+    bytes: &[0xA5; 300],
+    calls: 17,
+    made: 9,
+};
+
+const FAILING_OPEN: [Row; 12] = [
+    (2, 0, b"nnnn"),
+    (3, 0, b"nnnn"),
+    (4, 0, b"nnnn"),
+    (5, 0, b"nnnn"),
+    (6, 0, b"nnnn"),
+    (7, 0, b"nnn0"),
+    (8, 0, b"n0n0"),
+    (9, 0, b"0000"),
+    (12, 0, b"0101"),
+    (13, 1, b"1111"),
+    (16, 1, b"1212"),
+    (17, 2, b"2222"),
+];
+
+#[test]
+fn over_a_closed_gate(rt: HostRuntime) -> Result<(), Fail> {
+    for row in FAILING_CLOSED {
+        fails_from(&rt, rt.alloc(), &CLOSED, row)?;
+    }
+    Ok(())
+}
+
+#[test]
+fn over_an_open_gate(rt: HostRuntime) -> Result<(), Fail> {
+    for row in FAILING_OPEN {
+        fails_from(&rt, rt.alloc(), &OPEN, row)?;
+    }
+    Ok(())
+}
+
+/// The head of a journal, but for its last byte.
+const CUT: &[u8] = b"\xa5SPCTRJ01\0\x14\0\0\0\x01\0\0\0\0\0\0\0\0\0\0\0\0\0\0\0\0\0\0";
+
+/// Bytes that hold no journal, and how many of them are left where the journal of the two blocks, of 149
+/// bytes, stands there.
+const OVER: [(&[u8], usize); 7] = [
+    (b"# notes\n", 149),
+    (b"\0", 149),
+    (b"\xa5", 149),
+    (CUT, 149),
+    (&[0; 148], 149),
+    (&[0xA5; 300], 300),
+    (&[0x5A; 300], 300),
+];
+
+fn runs(alloc: Global, words: &[u8], disk: &mut MemDisk) -> Result<Ended, Fail> {
+    let input = both(alloc)?;
+    let trial = Trial {
+        words,
+        input: &input,
+        ends: WIDE,
+    };
+    ran_over(alloc, &trial, disk)
+}
+
+/// Whether a run is refused, which leaves the bytes.
+fn is_refused(alloc: Global, ends: &Ends, bytes: &[u8]) -> Result<bool, Fail> {
+    let mut disk = disk_of(alloc, ends)?;
+    let ended = runs(alloc, NODE, &mut disk)?;
+    Ok(
+        ended.status == Status::NotJournal
+            && ended.output.as_slice() == b"fault not-journal\n".as_slice()
+            && leaves(&disk, bytes)?,
+    )
+}
+
+/// Whether a new journal is made where it is asked for, of both blocks, and so many bytes stand then.
+fn is_made(alloc: Global, ends: &Ends, size: usize) -> Result<bool, Fail> {
+    let mut disk = disk_of(alloc, ends)?;
+    let ended = runs(alloc, b"node\nf\n--fresh", &mut disk)?;
+    let image = disk.image(Pick::New)?;
+    Ok(
+        ended.status == Status::Done
+            && image.len() == size
+            && letters_of(alloc, &disk)?.as_slice() == b"2222".as_slice(),
+    )
+}
+
+#[test]
+fn over_other_bytes(rt: HostRuntime) -> Result<(), Fail> {
+    for (at, (bytes, size)) in OVER.iter().enumerate() {
+        let ends = Ends {
+            disk: Held::Bytes(bytes),
+            ..WIDE
+        };
+        assert!(&rt; is_refused(rt.alloc(), &ends, bytes)?, "{at}");
+        assert!(&rt; is_made(rt.alloc(), &ends, *size)?, "{at}");
+    }
+    Ok(())
+}
+
+/// What stands on a disk, the bits of the feed of the two blocks, and how `node --fresh` ends there.
+type Kept = (Held, u8, Status, &'static [u8]);
+
+/// A journal isn't discarded: neither one of this chain, nor that of another one, nor a damaged one.
+#[rattlefmt::skip]
+const KEPT: [Kept; 6] = [
+    (TWO, 0, Status::Done, b"known A\nknown B\n"),
+    (Held::Journal(0, b"", b"\0"), 0, Status::Done, b"kept A present 1\nkept B present 1\n"),
+    (Held::Journal(0, b"B", b"\0rubbish"), 0, Status::Done, b"kept A present 1\nknown B\n"),
+    (TWO, 1, Status::OtherChain, b"fault other-chain 0 G 1 G\n"),
+    (Held::Journal(0, b"AB", b""), 0, Status::Damaged, b"fault damaged 148\n"),
+    (Held::Journal(0, b"AB", b"\xa5"), 1, Status::Damaged, b"fault damaged 148\n"),
+];
+
+fn is_kept(rt: &impl Abort, alloc: Global, at: usize, row: Kept) -> Result<(), Fail> {
+    let (disk, bits, status, output) = row;
+    let ends = Ends { disk, ..WIDE };
+    let mut disk = disk_of(alloc, &ends)?;
+    let before = disk.image(Pick::New)?;
+    let input = feed_of(alloc, bits, b"A\nB\n", END)?;
+    let trial = Trial {
+        words: FRESH,
+        input: &input,
+        ends,
+    };
+    let ended = ran_over(alloc, &trial, &mut disk)?;
+    let output = in_full(alloc, output)?;
+    let wanted = Wanted {
+        status,
+        lines: 0,
+        output: &output,
+        rest: None,
+    };
+    agrees(rt, "kept", at, &ended, &wanted);
+    if status == Status::Done {
+        assert!(rt;
+            letters_of(alloc, &disk)?.as_slice() == b"2222".as_slice(),
+            "{at}"
+        );
+    } else {
+        assert!(rt; leaves(&disk, &before)?, "{at}");
+    }
+    Ok(())
+}
+
+#[test]
+fn over_a_journal(rt: HostRuntime) -> Result<(), Fail> {
+    for (at, row) in KEPT.iter().enumerate() {
+        is_kept(&rt, rt.alloc(), at, *row)?;
+    }
+    Ok(())
+}

@@ -1,0 +1,183 @@
+//! Feeds answered by a node over journals that were found: what is known then, what waits, and what is
+//! asked of it; through ends that give and take in pieces and fail.
+
+use crate::status::Status;
+use crate::tests::crashes::{FRESH, NODE, both, letters_of};
+use crate::tests::disks::{EMPTY, Held, TWO, bytes_of, disk_of, runs_on};
+use crate::tests::feed_bytes::{END, feed_of, in_full};
+use crate::tests::streams::{Stream, try_all};
+use crate::tests::{Ends, Trial, WIDE, Wanted, agrees, ran_over};
+use std::alloc::Global;
+use std::process::Abort;
+use std::test::Fail;
+
+/// A disk, the words, the messages, how many bytes of the feed are read, and what is written by when.
+struct Flow {
+    name: &'static str,
+    disk: Held,
+    words: &'static [u8],
+    messages: &'static [u8],
+    reads: u32,
+    output: &'static [u8],
+    growth: &'static [(u32, usize)],
+}
+
+/// A line `kept` takes 80 bytes and a line `known` 71.
+const FLOWS: [Flow; 3] = [
+    Flow {
+        name: "a block",
+        disk: EMPTY,
+        words: NODE,
+        messages: b"A\n",
+        reads: 96,
+        output: b"kept A present 1\n",
+        growth: &[(91, 80)],
+    },
+    Flow {
+        name: "a known one and a new one",
+        disk: TWO,
+        words: NODE,
+        messages: b"A\nC\n",
+        reads: 153,
+        output: b"known A\nkept C present 1\n",
+        growth: &[(91, 71), (148, 151)],
+    },
+    Flow {
+        name: "over other bytes",
+        disk: Held::Bytes(b"\xa5# notes\n"),
+        words: FRESH,
+        messages: b"A\n",
+        reads: 96,
+        output: b"kept A present 1\n",
+        growth: &[(91, 80)],
+    },
+];
+
+fn try_flow(rt: &impl Abort, alloc: Global, flow: &Flow) -> Result<(), Fail> {
+    let input = feed_of(alloc, 0, flow.messages, END)?;
+    let output = in_full(alloc, flow.output)?;
+    let stream = Stream {
+        name: flow.name,
+        words: flow.words,
+        input: &input,
+        reads: flow.reads,
+        status: Status::Done,
+        output: &output,
+        growth: flow.growth,
+        disk: flow.disk,
+    };
+    try_all(rt, alloc, &stream)
+}
+
+#[test]
+fn feeds(rt: HostRuntime) -> Result<(), Fail> {
+    for flow in &FLOWS {
+        try_flow(&rt, rt.alloc(), flow)?;
+    }
+    Ok(())
+}
+
+/// What was found, the messages and what follows them, the answers, and what stands on the disk then.
+struct Row {
+    name: &'static str,
+    found: Held,
+    bits: u8,
+    messages: &'static [u8],
+    tail: &'static [u8],
+    output: &'static [u8],
+    left: Held,
+}
+
+const REPORT: &[u8] = b"R\0\0\0\0E\0\0\0\0";
+
+const PAIRS: &[u8] = b"P\0\0\0\0E\0\0\0\0";
+
+#[rattlefmt::skip]
+const ROWS: [Row; 14] = [
+    Row { name: "nothing, on nothing", found: EMPTY, bits: 0, messages: b"", tail: END, output: b"", left: Held::Journal(0, b"", b"\0") },
+    Row { name: "nothing, with work", found: EMPTY, bits: 64, messages: b"A\n", tail: END, output: b"refused work\n", left: Held::Journal(64, b"", b"\0") },
+    Row { name: "two blocks", found: EMPTY, bits: 0, messages: b"A\nB\n", tail: END, output: b"kept A present 1\nkept B present 1\n", left: TWO },
+    Row { name: "both again", found: TWO, bits: 0, messages: b"A\nB\n", tail: END, output: b"known A\nknown B\n", left: TWO },
+    Row { name: "a third", found: TWO, bits: 0, messages: b"C\n", tail: END, output: b"kept C present 1\n", left: Held::Journal(0, b"ABC", b"\0") },
+    Row { name: "a question alone", found: Held::Journal(0, b"ABC", b"\0"), bits: 0, messages: b"AB\nBA\nGA\nAD\n", tail: END, output: b"vote A B before\nvote B A after\nvote G A before\nvote A D absent\n", left: Held::Journal(0, b"ABC", b"\0") },
+    Row { name: "blocks that decide otherwise", found: Held::Journal(0, b"ABC", b"\0"), bits: 0, messages: b"AB\nD\nE\nAB\n", tail: END, output: b"vote A B before\nkept D present 1\nkept E present 1\nvote A B after\n", left: Held::Journal(0, b"ABCDE", b"\0") },
+    Row { name: "a block that waits", found: EMPTY, bits: 0, messages: b"F\nGF\n", tail: REPORT, output: b"kept F waiting\nvote G F absent\nblocks 1 waiting 1\naccepted 0\nbalances 0\n", left: Held::Journal(0, b"F", b"\0") },
+    Row { name: "it still waits", found: Held::Journal(0, b"F", b"\0"), bits: 0, messages: b"F\nGF\n", tail: REPORT, output: b"known F\nvote G F absent\nblocks 1 waiting 1\naccepted 0\nbalances 0\n", left: Held::Journal(0, b"F", b"\0") },
+    Row { name: "its parent comes", found: Held::Journal(0, b"F", b"\0"), bits: 0, messages: b"A\nF\nGF\n", tail: REPORT, output: b"kept A present 2\nknown F\nvote G F before\nblocks 3 waiting 0\naccepted 0\nbalances 0\n", left: Held::Journal(0, b"FA", b"\0") },
+    Row { name: "a block twice, and refused ones", found: TWO, bits: 0, messages: b"C+\nG\n*\nA+\nC\nC\n", tail: END, output: b"refused trailing\nrefused parent-count\nrefused too-long\nrefused trailing\nkept C present 1\nknown C\n", left: Held::Journal(0, b"ABC", b"\0") },
+    Row { name: "work, and a block that has it", found: Held::Journal(1, b"", b"\0"), bits: 1, messages: b"A\nB\n", tail: REPORT, output: b"refused work\nkept B present 1\nblocks 2 waiting 0\naccepted 0\nbalances 0\n", left: Held::Journal(1, b"B", b"\0") },
+    Row { name: "all pairs of found blocks", found: TWO, bits: 0, messages: b"", tail: PAIRS, output: b"pairs 3\nvote G B before\nvote G A before\nvote B A tie\n", left: TWO },
+    Row { name: "a closed gate of another value", found: Held::Journal(0, b"A", b"\x5arubbish"), bits: 0, messages: b"A\n", tail: END, output: b"known A\n", left: Held::Journal(0, b"A", b"\x5arubbish") },
+];
+
+fn try_row(rt: &impl Abort, alloc: Global, row: &Row) -> Result<(), Fail> {
+    let input = feed_of(alloc, row.bits, row.messages, row.tail)?;
+    let (ended, left) = runs_on(alloc, NODE, &input, &bytes_of(alloc, row.found)?)?;
+    let output = in_full(alloc, row.output)?;
+    let wanted = Wanted {
+        status: Status::Done,
+        lines: 0,
+        output: &output,
+        rest: Some((Some(0), Some(0), [0; 7], true)),
+    };
+    agrees(rt, row.name, 0, &ended, &wanted);
+    let wanted = bytes_of(alloc, row.left)?;
+    assert!(rt; left.as_slice() == wanted.as_slice(), "{}", row.name);
+    Ok(())
+}
+
+#[test]
+fn found(rt: HostRuntime) -> Result<(), Fail> {
+    for row in &ROWS {
+        try_row(&rt, rt.alloc(), row)?;
+    }
+    Ok(())
+}
+
+/// Which write of a line fails, which read by single bytes, how many lines are written, the status, and
+/// how many blocks each crash leaves: those whose lines were written, and the one whose line wasn't.
+#[rattlefmt::skip]
+const BROKEN: [(Ends, usize, Status, u8); 7] = [
+    (Ends { bad_write: Some(0), disk: EMPTY, ..WIDE }, 0, Status::WriteFault, b'1'),
+    (Ends { bad_write: Some(1), disk: EMPTY, ..WIDE }, 1, Status::WriteFault, b'2'),
+    (Ends { bad_write: Some(2), disk: EMPTY, ..WIDE }, 2, Status::Done, b'2'),
+    (Ends { given: 1, bad_read: Some(34), disk: EMPTY, ..WIDE }, 0, Status::ReadFault, b'0'),
+    (Ends { given: 1, bad_read: Some(90), disk: EMPTY, ..WIDE }, 0, Status::ReadFault, b'0'),
+    (Ends { given: 1, bad_read: Some(91), disk: EMPTY, ..WIDE }, 1, Status::ReadFault, b'1'),
+    (Ends { given: 1, bad_read: Some(148), disk: EMPTY, ..WIDE }, 2, Status::ReadFault, b'2'),
+];
+
+/// The first of the two lines.
+fn kept(count: usize) -> &'static [u8] {
+    match count {
+        0 => b"",
+        1 => b"kept A present 1\n",
+        _ => b"kept A present 1\nkept B present 1\n",
+    }
+}
+
+#[test]
+fn each_end_failing(rt: HostRuntime) -> Result<(), Fail> {
+    let alloc = rt.alloc();
+    let input = both(alloc)?;
+    for (at, (ends, lines, status, letter)) in BROKEN.iter().enumerate() {
+        let mut disk = disk_of(alloc, ends)?;
+        let trial = Trial {
+            words: NODE,
+            input: &input,
+            ends: *ends,
+        };
+        let ended = ran_over(alloc, &trial, &mut disk)?;
+        let output = in_full(alloc, kept(*lines))?;
+        let wanted = Wanted {
+            status: *status,
+            lines: 0,
+            output: &output,
+            rest: None,
+        };
+        agrees(&rt, "broken", at, &ended, &wanted);
+        let letters = letters_of(alloc, &disk)?;
+        assert!(&rt; letters == [*letter; 4], "{at}: {letters:?}");
+    }
+    Ok(())
+}
