@@ -1,0 +1,10 @@
+pub mod RowSets
+pub mod Ranges
+pub mod Loose
+pub mod Joined
+pub mod LastVotes
+pub mod Listed
+pub mod Casting
+pub mod NewRows
+pub mod Growth
+pub mod Reading

@@ -1,0 +1,4 @@
+pub mod Loose
+pub mod Joining
+pub mod Voters
+pub mod PastVotes

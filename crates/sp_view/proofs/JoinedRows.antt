@@ -1,0 +1,310 @@
+-- A block that joins a set: which loose voters of a pair are asked anew, and which are kept.
+use Rattle.std.proofs.Common.{◌≡◌, ◌≢◌, ℕ, zero, suc, ◌<◌, Bool, true, false, cond, ◌&&◌, List, [], refl, sym, ap, ◌∙◌, eqb, arith}
+use Rattle.std.specs.Prelude.{not, ℤ, pos, negsuc, filter}
+use Rattle.std.proofs.lemmas.Int.{ints}
+use Rattle.std.proofs.lemmas.Bool.{false≢true, eqb-true, eq-eqb, and_parts, not-true}
+use Rattle.sp_bits.specs.Places.{places_where, difference, IsRow}
+use Rattle.sp_bits.specs.Members.{has-filter}
+use Rattle.sp_bits.proofs.Sets.{places_same}
+use Rattle.sp_model.specs.Graph.{Graph, has, keys, in_past, IsDownset}
+use Rattle.sp_model.specs.Votes.{sgn, vote}
+use Rattle.sp_frozen.specs.Loose.{is_loose, is_plus, is_minus}
+use Rattle.sp_frozen.specs.Joining.{Joins}
+use Rattle.sp_frozen.proofs.Loose.{frozen_same, vote_sign}
+use Rattle.sp_frozen.proofs.Joined.{apart_stays, agreeing_stays, tie_stays, loose_joins}
+use Rattle.sp_model.proofs.Pasts.{complete_key}
+use Rattle.sp_model.proofs.Sets.{same_truth}
+use Rattle.sp_frozen.specs.Voters.{AreFrozen}
+use Rattle.sp_view.specs.Settled.{AreKept, AreOpen, AreSides, IsAsked}
+use Rattle.sp_frozen.proofs.RowSets.{row_small}
+use Rattle.sp_frozen.proofs.RowSets.{has_places, has_difference, filter_row}
+
+-- ---- a new pair: all loose members are asked
+
+pub todo_new : (g : Graph) (set : List ℕ) (x y z : ℕ) → IsRow set
+    → has (difference set (places_where (λ z. not (is_loose g z x y)))) z ≡ (has set z && is_loose g z x y)
+todo_new g set x y z row = has_difference set (places_where (λ z. not (is_loose g z x y))) z (row_small set z row) ∙ at (has set z) refl
+  where
+    twice : (b : Bool) → not (not b) ≡ b
+    twice true = refl
+    twice false = refl
+
+    at : (s : Bool) → has set z ≡ s → (s && not (has (places_where (λ z. not (is_loose g z x y))) z)) ≡ (s && is_loose g z x y)
+    at true e = ap not (has_places (λ z. not (is_loose g z x y)) z (λ _. row_small set z row e)) ∙ twice (is_loose g z x y)
+    at false e = refl
+
+pub open_new : (g : Graph) (set : List ℕ) (x y : ℕ) (todo : List ℕ) → ((z : ℕ) → has todo z ≡ (has set z && is_loose g z x y)) → AreOpen g set x y (has todo)
+open_new g set x y todo is = record {
+  member = λ z h. (and_parts (has set z) (is_loose g z x y) (sym (is z) ∙ h)).0;
+  loose = λ z h. (and_parts (has set z) (is_loose g z x y) (sym (is z) ∙ h)).1;
+}
+
+pub kept_new : (g : Graph) (set : List ℕ) (x y : ℕ) (todo : List ℕ) → ((z : ℕ) → has todo z ≡ (has set z && is_loose g z x y)) → AreKept g set x y (has todo) [] []
+kept_new g set x y todo is = record {
+  plus_is = λ z. rw (is z) (none (has set z) (is_loose g z x y) (is_plus (vote g set z x y)));
+  minus_is = λ z. rw (is z) (none (has set z) (is_loose g z x y) (is_minus (vote g set z x y)));
+}
+  where
+    none : (s l v : Bool) → false ≡ (s && (l && (not (s && l) && v)))
+    none true true v = refl
+    none true false v = refl
+    none false l v = refl
+
+-- ---- signs
+
+plus_one : (v : ℤ) → is_plus v ≡ true → v ≡ pos 1
+plus_one (negsuc zero) h = absurd (false≢true h)
+plus_one (negsuc (suc n)) h = absurd (false≢true h)
+plus_one (pos zero) h = absurd (false≢true h)
+plus_one (pos (suc zero)) h = refl
+plus_one (pos (suc (suc n))) h = absurd (false≢true h)
+
+minus_one : (v : ℤ) → is_minus v ≡ true → v ≡ negsuc 0
+minus_one (negsuc zero) h = refl
+minus_one (negsuc (suc n)) h = absurd (false≢true h)
+minus_one (pos zero) h = absurd (false≢true h)
+minus_one (pos (suc n)) h = absurd (false≢true h)
+
+zero_sign : (v : ℤ) → sgn v ≡ v → is_plus v ≡ false → is_minus v ≡ false → v ≡ pos 0
+zero_sign (negsuc zero) e p m = absurd (false≢true (sym m))
+zero_sign (negsuc (suc n)) e p m = (let s : negsuc 0 ≡ negsuc (suc n) = e in absurd (omega (arith, ints)))
+zero_sign (pos zero) e p m = refl
+zero_sign (pos (suc zero)) e p m = absurd (false≢true (sym p))
+zero_sign (pos (suc (suc n))) e p m = (let s : pos 1 ≡ pos (suc (suc n)) = e in absurd (omega (arith, ints)))
+
+-- ---- an old pair
+
+module _ (g : Graph) (b : ℕ) (s t : List ℕ) (x y : ℕ) (j : Joins g b s t) (other : x ≢ y) where
+  -- the members beside the one that joins are those from before
+  same_members : (z : ℕ) → eqb z b ≡ false → has t z ≡ has s z
+  same_members z e = same_truth (has t z) (has s z) (λ h. j.from z h (λ same. false≢true (sym e ∙ eq-eqb z b same))) (j.into z)
+
+  -- where the block that joins votes for neither
+  pub tie_side : (votes : ℤ → Bool) → votes (pos 0) ≡ false → vote g t b x y ≡ pos 0 → IsRow s → IsRow t
+      → filter (λ z. is_loose g z x y && votes (vote g s z x y)) s ≡ filter (λ z. is_loose g z x y && votes (vote g t z x y)) t
+  tie_side votes none tie row row' =
+      filter_row s (λ z. is_loose g z x y && votes (vote g s z x y)) row
+      ∙ places_same _ _ (λ k _. at k (eqb k b) refl)
+      ∙ sym (filter_row t (λ z. is_loose g z x y && votes (vote g t z x y)) row')
+    where
+      never : (a c : Bool) → false ≡ (a && (c && false))
+      never true true = refl
+      never true false = refl
+      never false c = refl
+
+      member : (k : ℕ) (m : Bool) → has s k ≡ m → (m && (is_loose g k x y && votes (vote g s k x y))) ≡ (m && (is_loose g k x y && votes (vote g t k x y)))
+      member k true e = ap (λ (v : ℤ). is_loose g k x y && votes v) (sym (tie_stays g b s t j x y other tie k e))
+      member k false e = refl
+
+      at : (k : ℕ) (e : Bool) → eqb k b ≡ e → (has s k && (is_loose g k x y && votes (vote g s k x y))) ≡ (has t k && (is_loose g k x y && votes (vote g t k x y)))
+      at k true e =
+          let same : k ≡ b = eqb-true k b e in
+          ap (λ (m : Bool). m && (is_loose g k x y && votes (vote g s k x y))) (ap (has s) same ∙ j.new)
+          ∙ never (has t k) (is_loose g k x y)
+          ∙ ap (λ (c : Bool). has t k && (is_loose g k x y && c)) (sym (ap (λ (z : ℕ). votes (vote g t z x y)) same ∙ ap votes tie ∙ none))
+      at k false e = member k (has s k) refl ∙ ap (λ (m : Bool). m && (is_loose g k x y && votes (vote g t k x y))) (sym (same_members k e))
+
+  -- One side of the pair, where the block that joins is frozen and each agreeing voter votes as it does: what the side keeps.
+  pub kept_side : (votes : ℤ → Bool) (agree side kept : List ℕ) (is_open : ℕ → Bool)
+      → is_loose g b x y ≡ false
+      → ((z : ℕ) → has s z ≡ true → has agree z ≡ true → vote g s z x y ≡ vote g t b x y)
+      → ((z : ℕ) → is_open z ≡ ((in_past g z b && is_loose g z x y) && not (has agree z)))
+      → ((z : ℕ) → has side z ≡ (has s z && (is_loose g z x y && votes (vote g s z x y))))
+      → ((z : ℕ) → has kept z ≡ (has side z && not (is_open z)))
+      → (z : ℕ) → has kept z ≡ (has t z && (is_loose g z x y && (not (is_open z) && votes (vote g t z x y))))
+  kept_side votes agree side kept is_open bound agreeing open_is side_is kept_is z =
+      kept_is z ∙ ap (λ (c : Bool). c && not (is_open z)) (side_is z) ∙ at (eqb z b) refl
+    where
+      never : (a c : Bool) → false ≡ (a && (false && c))
+      never true c = refl
+      never false c = refl
+
+      stays : has s z ≡ true → is_loose g z x y ≡ true → (p a : Bool) → in_past g z b ≡ p → has agree z ≡ a → ((p && true) && not a) ≡ false → vote g t z x y ≡ vote g s z x y
+      stays m l false a ep ea closed = apart_stays g b s t j x y z m ep
+      stays m l true true ep ea closed = agreeing_stays g b s t j x y other z m (agreeing z m ea)
+      stays m l true false ep ea closed = absurd (false≢true (sym closed))
+
+      member : (m l o : Bool) → has s z ≡ m → is_loose g z x y ≡ l → is_open z ≡ o
+          → ((m && (l && votes (vote g s z x y))) && not o) ≡ (m && (l && (not o && votes (vote g t z x y))))
+      member false l o em el eo = refl
+      member true false o em el eo = refl
+      member true true true em el eo = off (votes (vote g s z x y))
+        where
+          off : (c : Bool) → (c && false) ≡ false
+          off true = refl
+          off false = refl
+      member true true false em el eo =
+          on (votes (vote g s z x y))
+          ∙ ap votes (sym (stays em el (in_past g z b) (has agree z) refl refl (ap (λ (l : Bool). (in_past g z b && l) && not (has agree z)) (sym el) ∙ sym (open_is z) ∙ eo)))
+        where
+          on : (c : Bool) → (c && true) ≡ c
+          on true = refl
+          on false = refl
+
+      at : (e : Bool) → eqb z b ≡ e → ((has s z && (is_loose g z x y && votes (vote g s z x y))) && not (is_open z)) ≡ (has t z && (is_loose g z x y && (not (is_open z) && votes (vote g t z x y))))
+      at true e =
+          let same : z ≡ b = eqb-true z b e in
+          rw (ap (has s) same ∙ j.new, ap (λ (k : ℕ). is_loose g k x y) same ∙ bound) (never (has t z) (not (is_open z) && votes (vote g t z x y)))
+      at false e =
+          member (has s z) (is_loose g z x y) (is_open z) refl refl refl
+          ∙ ap (λ (m : Bool). m && (is_loose g z x y && (not (is_open z) && votes (vote g t z x y)))) (sym (same_members z e))
+
+-- ---- what of the pair's rows is known where a block joins
+
+module _ (g : Graph) (b : ℕ) (s t : List ℕ) (x y : ℕ) (frozen_plus frozen_minus ups downs : List ℕ)
+    (whole : IsDownset g (keys g)) (j : Joins g b s t) (other : x ≢ y) (row : IsRow s) (asked : IsAsked g t)
+    (frozen : AreFrozen g t x y frozen_plus frozen_minus) (sides : AreSides g s x y ups downs) where
+  b_key : has (keys g) b ≡ true
+  b_key = complete_key g b (j.more_down.all_complete b j.there)
+
+  -- the vote of the block that joins, by the frozen rows
+  pub frozen_parts : (votes : ℤ → Bool) (side : List ℕ) → ((z : ℕ) → has t z ≡ true → has side z ≡ (not (is_loose g z x y) && votes (vote g (keys g) z x y)))
+      → has side b ≡ true → (is_loose g b x y ≡ false) × (votes (vote g t b x y) ≡ true)
+  frozen_parts votes side is h =
+      let inner : (not (is_loose g b x y) ≡ true) × (votes (vote g (keys g) b x y) ≡ true) = and_parts (not (is_loose g b x y)) (votes (vote g (keys g) b x y)) (sym (is b j.there) ∙ h) in
+      let bound : is_loose g b x y ≡ false = not-true (is_loose g b x y) inner.0 in
+      (bound, ap votes (sym (frozen_same g (keys g) t b x y whole j.more_down b_key j.there bound)) ∙ inner.1)
+
+  pub tie_votes : has frozen_plus b ≡ false → has frozen_minus b ≡ false → vote g t b x y ≡ pos 0
+  tie_votes p m = at (is_loose g b x y) refl
+    where
+      off : (votes : ℤ → Bool) (side : List ℕ) → ((z : ℕ) → has t z ≡ true → has side z ≡ (not (is_loose g z x y) && votes (vote g (keys g) z x y)))
+          → is_loose g b x y ≡ false → has side b ≡ false → votes (vote g t b x y) ≡ false
+      off votes side is bound h =
+          ap votes (sym (frozen_same g (keys g) t b x y whole j.more_down b_key j.there bound))
+          ∙ sym (is b j.there ∙ rw bound refl) ∙ h
+
+      at : (l : Bool) → is_loose g b x y ≡ l → vote g t b x y ≡ pos 0
+      at true e = loose_joins g b s t j x y e
+      at false e = zero_sign (vote g t b x y) (vote_sign g t b x y j.more_down j.there) (off is_plus frozen_plus frozen.plus_is e p) (off is_minus frozen_minus frozen.minus_is e m)
+
+  -- the block votes for neither: the rows are those before
+  pub tie_sides : has frozen_plus b ≡ false → has frozen_minus b ≡ false → AreSides g t x y ups downs
+  tie_sides p m = record {
+    plus_is = sides.plus_is ∙ tie_side g b s t x y j other is_plus refl (tie_votes p m) row asked.row;
+    minus_is = sides.minus_is ∙ tie_side g b s t x y j other is_minus refl (tie_votes p m) row asked.row;
+  }
+
+  -- each voter of a side votes as the block that joins, where that side is the block's
+  pub agreeing_plus : has frozen_plus b ≡ true → (z : ℕ) → has s z ≡ true → has ups z ≡ true → vote g s z x y ≡ vote g t b x y
+  agreeing_plus h z member there =
+      plus_one (vote g s z x y) (and_parts (is_loose g z x y) (is_plus (vote g s z x y)) (and_parts (has s z) (is_loose g z x y && is_plus (vote g s z x y)) (sym (has-filter (λ z. is_loose g z x y && is_plus (vote g s z x y)) s z) ∙ ap (λ (l : List ℕ). has l z) (sym sides.plus_is) ∙ there)).1).1
+      ∙ sym (plus_one (vote g t b x y) (frozen_parts is_plus frozen_plus frozen.plus_is h).1)
+
+  pub agreeing_minus : has frozen_minus b ≡ true → (z : ℕ) → has s z ≡ true → has downs z ≡ true → vote g s z x y ≡ vote g t b x y
+  agreeing_minus h z member there =
+      minus_one (vote g s z x y) (and_parts (is_loose g z x y) (is_minus (vote g s z x y)) (and_parts (has s z) (is_loose g z x y && is_minus (vote g s z x y)) (sym (has-filter (λ z. is_loose g z x y && is_minus (vote g s z x y)) s z) ∙ ap (λ (l : List ℕ). has l z) (sym sides.minus_is) ∙ there)).1).1
+      ∙ sym (minus_one (vote g t b x y) (frozen_parts is_minus frozen_minus frozen.minus_is h).1)
+
+  -- the block is frozen, and each voter of its own side votes as it does
+  pub agreeing_side : (up : Bool) → has frozen_plus b ≡ up → (up ≡ false → has frozen_minus b ≡ true)
+      → (is_loose g b x y ≡ false) × ((z : ℕ) → has s z ≡ true → has (cond up ups downs) z ≡ true → vote g s z x y ≡ vote g t b x y)
+  agreeing_side true h k = ((frozen_parts is_plus frozen_plus frozen.plus_is h).0, agreeing_plus h)
+  agreeing_side false h k = ((frozen_parts is_minus frozen_minus frozen.minus_is (k refl)).0, agreeing_minus (k refl))
+
+  -- what is kept of both rows, where the voters of `agree` vote as the block that joins
+  pub joined_kept : (agree todo : List ℕ) → is_loose g b x y ≡ false
+      → ((z : ℕ) → has s z ≡ true → has agree z ≡ true → vote g s z x y ≡ vote g t b x y)
+      → ((z : ℕ) → has todo z ≡ ((in_past g z b && is_loose g z x y) && not (has agree z)))
+      → AreKept g t x y (has todo) (difference ups todo) (difference downs todo)
+  joined_kept agree todo bound agreeing todo_is = record {
+    plus_is = kept_side g b s t x y j other is_plus agree ups (difference ups todo) (has todo) bound agreeing todo_is
+        (λ z. ap (λ (l : List ℕ). has l z) sides.plus_is ∙ has-filter (λ z. is_loose g z x y && is_plus (vote g s z x y)) s z)
+        (λ z. has_difference ups todo z (small is_plus ups sides.plus_is z));
+    minus_is = kept_side g b s t x y j other is_minus agree downs (difference downs todo) (has todo) bound agreeing todo_is
+        (λ z. ap (λ (l : List ℕ). has l z) sides.minus_is ∙ has-filter (λ z. is_loose g z x y && is_minus (vote g s z x y)) s z)
+        (λ z. has_difference downs todo z (small is_minus downs sides.minus_is z));
+  }
+    where
+      small : (votes : ℤ → Bool) (side : List ℕ) → side ≡ filter (λ z. is_loose g z x y && votes (vote g s z x y)) s → (z : ℕ) → has side z ≡ true → z < 512
+      small votes side is z h =
+          row_small s z row (and_parts (has s z) (is_loose g z x y && votes (vote g s z x y)) (sym (has-filter (λ z. is_loose g z x y && votes (vote g s z x y)) s z) ∙ ap (λ (l : List ℕ). has l z) (sym is) ∙ h)).0
+
+  -- the block votes for neither: nothing is asked, and what is kept is all
+  pub tie_kept : has frozen_plus b ≡ false → has frozen_minus b ≡ false → AreKept g t x y (has []) (difference ups []) (difference downs [])
+  tie_kept p m =
+      let stay : AreSides g t x y ups downs = tie_sides p m in
+      record {
+        plus_is = λ z. side is_plus ups stay.plus_is z;
+        minus_is = λ z. side is_minus downs stay.minus_is z;
+      }
+    where
+      side : (votes : ℤ → Bool) (row : List ℕ) → row ≡ filter (λ z. is_loose g z x y && votes (vote g t z x y)) t → (z : ℕ)
+          → has (difference row []) z ≡ (has t z && (is_loose g z x y && (not (has [] z) && votes (vote g t z x y))))
+      side votes row is z =
+          has_difference row [] z (λ h. row_small t z asked.row (and_parts (has t z) (is_loose g z x y && votes (vote g t z x y)) (sym (at z) ∙ h)).0)
+          ∙ all (has row z) ∙ at z
+        where
+          all : (a : Bool) → (a && true) ≡ a
+          all true = refl
+          all false = refl
+
+          at : (z : ℕ) → has row z ≡ (has t z && (is_loose g z x y && votes (vote g t z x y)))
+          at z = ap (λ (l : List ℕ). has l z) is ∙ has-filter (λ z. is_loose g z x y && votes (vote g t z x y)) t z
+
+module _ (g : Graph) (s t : List ℕ) (x y : ℕ) (ups downs : List ℕ) (row : IsRow s) (asked : IsAsked g t) (sides : AreSides g s x y ups downs) where
+  -- where none is asked anew, the rows are those before
+  pub unasked_sides : AreKept g t x y (has []) (difference ups []) (difference downs []) → AreSides g t x y ups downs
+  unasked_sides kept = record {
+    plus_is = sides.plus_is ∙ stay is_plus (ap (λ (l : List ℕ). difference l []) sides.plus_is) kept.plus_is;
+    minus_is = sides.minus_is ∙ stay is_minus (ap (λ (l : List ℕ). difference l []) sides.minus_is) kept.minus_is;
+  }
+    where
+      stay : (votes : ℤ → Bool) {kept : List ℕ} → kept ≡ difference (filter (λ z. is_loose g z x y && votes (vote g s z x y)) s) []
+          → ((z : ℕ) → has kept z ≡ (has t z && (is_loose g z x y && (not (has [] z) && votes (vote g t z x y)))))
+          → filter (λ z. is_loose g z x y && votes (vote g s z x y)) s ≡ filter (λ z. is_loose g z x y && votes (vote g t z x y)) t
+      stay votes {kept} e is =
+          filter_row s (λ z. is_loose g z x y && votes (vote g s z x y)) row
+          ∙ places_same _ _ (λ k _. each k)
+          ∙ sym (filter_row t (λ z. is_loose g z x y && votes (vote g t z x y)) asked.row)
+        where
+          side : List ℕ
+          side = filter (λ z. is_loose g z x y && votes (vote g s z x y)) s
+
+          all : (a : Bool) → a ≡ (a && true)
+          all true = refl
+          all false = refl
+
+          at : (z : ℕ) → has side z ≡ (has s z && (is_loose g z x y && votes (vote g s z x y)))
+          at z = has-filter (λ z. is_loose g z x y && votes (vote g s z x y)) s z
+
+          each : (k : ℕ) → (has s k && (is_loose g k x y && votes (vote g s k x y))) ≡ (has t k && (is_loose g k x y && votes (vote g t k x y)))
+          each k =
+              sym (at k) ∙ all (has side k)
+              ∙ sym (has_difference side [] k (λ h. row_small s k row (and_parts (has s k) (is_loose g k x y && votes (vote g s k x y)) (sym (at k) ∙ h)).0))
+              ∙ ap (λ (l : List ℕ). has l k) (sym e) ∙ is k
+
+-- those that are asked anew are loose members
+pub open_joined : (g : Graph) (b : ℕ) (t : List ℕ) (x y : ℕ) (agree todo : List ℕ) → IsAsked g t → has t b ≡ true
+    → ((z : ℕ) → has todo z ≡ ((in_past g z b && is_loose g z x y) && not (has agree z))) → AreOpen g t x y (has todo)
+open_joined g b t x y agree todo asked there is = record {
+  member = λ z h. asked.down.closed b z there (parts z h).0;
+  loose = λ z h. (parts z h).1;
+}
+  where
+    parts : (z : ℕ) → has todo z ≡ true → (in_past g z b ≡ true) × (is_loose g z x y ≡ true)
+    parts z h = and_parts (in_past g z b) (is_loose g z x y) (and_parts (in_past g z b && is_loose g z x y) (not (has agree z)) (sym (is z) ∙ h)).0
+
+-- the past without those that are bound, and without those that agree
+pub anew : (g : Graph) (below bound second third agree : List ℕ) (b x y : ℕ) → ((z : ℕ) → has below z ≡ in_past g z b) → ((z : ℕ) → in_past g z b ≡ true → z < 512)
+    → bound ≡ places_where (λ z. not (is_loose g z x y)) → second ≡ difference below bound → third ≡ difference second agree
+    → (z : ℕ) → has third z ≡ ((in_past g z b && is_loose g z x y) && not (has agree z))
+anew g below bound second third agree b x y reads small bound_is e e' z =
+    ap (λ (l : List ℕ). has l z) e'
+    ∙ has_difference second agree z (λ h. small z (and_parts (in_past g z b) (is_loose g z x y) (sym second_is ∙ h)).0)
+    ∙ ap (λ (c : Bool). c && not (has agree z)) second_is
+  where
+    twice : (c : Bool) → not (not c) ≡ c
+    twice true = refl
+    twice false = refl
+
+    at : (p : Bool) → in_past g z b ≡ p → (p && not (has bound z)) ≡ (p && is_loose g z x y)
+    at true ep = ap not (ap (λ (l : List ℕ). has l z) bound_is ∙ has_places (λ z. not (is_loose g z x y)) z (λ _. small z ep)) ∙ twice (is_loose g z x y)
+    at false ep = refl
+
+    second_is : has second z ≡ (in_past g z b && is_loose g z x y)
+    second_is =
+        ap (λ (l : List ℕ). has l z) e
+        ∙ has_difference below bound z (λ h. small z (sym (reads z) ∙ h))
+        ∙ ap (λ (c : Bool). c && not (has bound z)) (reads z)
+        ∙ at (in_past g z b) refl

@@ -1,0 +1,131 @@
+use Rattle.std.proofs.Common.{◌≡◌, ◌≢◌, ◌∙◌, ◌<◌, ◌≤◌, ◌+◌, ℕ, List, Option, Some, None, arith, get_or, length, refl, subst, sym, get_or-set_other}
+use Rattle.std.specs.Prelude.{slice_get, IfSome}
+use Rattle.std.proofs.lemmas.Bool.{lt-ltb, le-ltb}
+use Rattle.std.proofs.lemmas.List.{get_or_default}
+use Rattle.std.proofs.lemmas.Option.{slice_get_within}
+use Rattle.sp_dag.specs.Numbered.{graph_of, pairs_of}
+use Rattle.sp_model.specs.Graph.{Graph}
+use Rattle.sp_view.specs.Stored.{count_of, row_of}
+use Rattle.sp_view.specs.Views.{entry_at, holds, held, IsEntry, IsFresh, IsOnce, KeepIds}
+use Rattle.sp_view.proofs.Fresh.{fresh_none, fresh_step}
+use Rattle.sp_view.proofs.Held.{entries_step, held_set, holds_held, if_there, keeps_itself, kept_step, once_step, some_pair}
+use Rattle.sp_view.proofs.Moves.{moved_take, moved_take_le}
+use Rattle.sp_view.proofs.TwoRows.{results_of}
+use Rattle.sp_view.proofs.entries.join_entries.Goals as goal
+
+read_at : (entries : List (Option (ℕ × ℕ))) (i : ℕ) (read : Option (ℕ × ℕ)) → i < length entries → read ≡ get_or entries i read → read ≡ entry_at entries i
+read_at entries i read lt is = is ∙ get_or_default entries i read None lt
+
+pub step_entry-requires-clause-inside : goal.step_entry-requires-clause-inside
+step_entry-requires-clause-inside c =
+    let table : List (List ℕ) = c.args.dag.now.parents in
+    let inside : c.pairs.i < length c.pairs.entries.items = omega (arith, c.pairs.entries.ok.0) in
+    let listed : c.pairs.i < length (pairs_of table) = omega (arith, c.requires.long) in
+    let pair = get_or (pairs_of table) c.pairs.i (0, 0) in
+    let at : slice_get (pairs_of table) c.pairs.i ≡ Some (pair.0, pair.1) = some_pair (pairs_of table) c.pairs.i listed in
+    subst (λ (e : Option (ℕ × ℕ)). IfSome e (λ _. c.pairs.i < length c.args.frozen.now.pluses))
+    (sym (c.pairs.invariant.unturned c.pairs.i (omega arith)) ∙ sym (read_at c.pairs.entries.items c.pairs.i c.index-entry.result.now inside c.index-entry.ensures))
+    (if_there (entry_at c.args.entries.now.items c.pairs.i) (pair.1 < c.args.frozen.now.blocks) (c.pairs.i < length c.args.frozen.now.pluses)
+    (c.requires.inside c.pairs.i pair.0 pair.1 at) (λ y_in. c.requires.joined.voting.held.there c.pairs.i pair.0 pair.1 at y_in))
+
+pub step_entry-requires-clause-live : goal.step_entry-requires-clause-live
+step_entry-requires-clause-live c = λ r.
+    let inside : c.pairs.i < length c.pairs.entries.items = omega (arith, c.pairs.entries.ok.0) in
+    subst (λ (e : Option (ℕ × ℕ)). holds e r ≤ count_of c.pairs.pool r) (sym (read_at c.pairs.entries.items c.pairs.i c.index-entry.result.now inside c.index-entry.ensures))
+    (omega (arith, holds_held c.pairs.entries.items c.pairs.i r, c.pairs.invariant.counts r, c.requires.live r))
+
+pub step_entry-requires-clause-entry : goal.step_entry-requires-clause-entry
+step_entry-requires-clause-entry c = λ x y at.
+    let table : List (List ℕ) = c.args.dag.now.parents in
+    let inside : c.pairs.i < length c.pairs.entries.items = omega (arith, c.pairs.entries.ok.0) in
+    let now : IsEntry (graph_of table) c.args.before.now x y c.pairs.pool (entry_at c.pairs.entries.items c.pairs.i) = rw (le-ltb c.pairs.i c.pairs.i (omega arith)) at (c.pairs.invariant.entry c.pairs.i x y at) in
+    subst (λ (e : Option (ℕ × ℕ)). IsEntry (graph_of table) c.args.before.now x y c.pairs.pool e) (sym (read_at c.pairs.entries.items c.pairs.i c.index-entry.result.now inside c.index-entry.ensures)) now
+
+pub step_entry-requires-clause-room : goal.step_entry-requires-clause-room
+step_entry-requires-clause-room c = λ x y at.
+    let pairs = pairs_of c.args.dag.now.parents in
+    let g : Graph = graph_of c.args.dag.now.parents in
+    omega (
+      arith,
+      c.pairs.invariant.room,
+      c.requires.room,
+      moved_take g c.args.before.now c.args.members.now pairs c.pairs.i x y at,
+      moved_take_le g c.args.before.now c.args.members.now pairs (c.pairs.i + 1),
+    )
+
+pub pairs-init : goal.pairs-init
+pairs-init c = record {
+  long = refl;
+  unturned = λ j _. refl;
+  entry = λ k x y at. rw (le-ltb k 0 (omega arith)) (c.requires.entry k x y at);
+  kept = λ k x y at. keeps_itself (graph_of c.args.dag.now.parents) c.args.before.now c.args.members.now x y (entry_at c.args.entries.now.items k);
+  counts = λ r. refl;
+  others = λ r _. refl;
+  alive = λ r h. h;
+  once = c.requires.once;
+  fresh = fresh_none c.args.entries.now.items c.args.pool.now;
+  live = omega arith;
+  room = omega arith;
+}
+
+pub pairs-preserved : goal.pairs-preserved
+pairs-preserved c =
+    let table : List (List ℕ) = c.args.dag.now.parents in
+    let g : Graph = graph_of table in
+    let before : List ℕ = c.args.before.now in
+    let members : List ℕ = c.args.members.now in
+    let inside : c.pairs.i < length c.pairs.entries.items = omega (arith, c.pairs.entries.ok.0) in
+    let pair = get_or (pairs_of table) c.pairs.i (0, 0) in
+    let at_i : slice_get (pairs_of table) c.pairs.i ≡ Some (pair.0, pair.1) = some_pair (pairs_of table) c.pairs.i (omega (arith, c.requires.long)) in
+    let e_is : c.index-entry.result.now ≡ entry_at c.pairs.entries.items c.pairs.i = read_at c.pairs.entries.items c.pairs.i c.index-entry.result.now inside c.index-entry.ensures in
+    let enough : (r : ℕ) → held c.pairs.entries.items r ≤ count_of c.pairs.pool r = λ r. omega (arith, c.pairs.invariant.counts r, c.requires.live r) in
+    let others : (r : ℕ) → holds (entry_at c.pairs.entries.items c.pairs.i) r < count_of c.pairs.pool r → row_of c.step_entry.new.pool r ≡ row_of c.pairs.pool r =
+    λ r. subst (λ (e : Option (ℕ × ℕ)). holds e r < count_of c.pairs.pool r → row_of c.step_entry.new.pool r ≡ row_of c.pairs.pool r) e_is (c.step_entry.ensures.others r) in
+    let once : (r : ℕ) → IsOnce (count_of c.pairs.pool r) (holds (entry_at c.pairs.entries.items c.pairs.i) r) (holds c.step_entry.result r) =
+    λ r. subst (λ (e : Option (ℕ × ℕ)). IsOnce (count_of c.pairs.pool r) (holds e r) (holds c.step_entry.result r)) e_is (c.step_entry.ensures.once r) in
+    record {
+      long = c.pairs.invariant.long;
+      unturned = λ j le.
+          let other : j ≢ c.pairs.i = λ e. omega arith in
+          get_or-set_other c.pairs.entries.items c.pairs.i j c.step_entry.result None other ∙ c.pairs.invariant.unturned j (omega arith);
+      entry =
+          entries_step table before members c.pairs.i c.pairs.pool c.step_entry.new.pool c.pairs.entries.items c.step_entry.result inside enough others
+          (λ x y at is. c.step_entry.ensures.entry x y at) c.pairs.invariant.entry;
+      kept =
+          kept_step table before members c.pairs.i c.args.entries.now.items c.pairs.entries.items c.step_entry.result inside
+          (λ x y at.
+          subst (λ (e : Option (ℕ × ℕ)). KeepIds g before members x y e c.step_entry.result)
+          (e_is ∙ c.pairs.invariant.unturned c.pairs.i (omega arith)) (c.step_entry.ensures.kept x y at))
+          c.pairs.invariant.kept;
+      counts = λ r.
+          let step : count_of c.step_entry.new.pool r + holds (entry_at c.pairs.entries.items c.pairs.i) r ≡ count_of c.pairs.pool r + holds c.step_entry.result r =
+          subst (λ (e : Option (ℕ × ℕ)). count_of c.step_entry.new.pool r + holds e r ≡ count_of c.pairs.pool r + holds c.step_entry.result r) e_is (c.step_entry.ensures.counts r) in
+          omega (arith, step, c.pairs.invariant.counts r, held_set c.pairs.entries.items c.pairs.i c.step_entry.result r inside);
+      others = λ r h.
+          let some : holds (entry_at c.pairs.entries.items c.pairs.i) r < count_of c.pairs.pool r = omega (arith, holds_held c.pairs.entries.items c.pairs.i r, c.pairs.invariant.counts r) in
+          others r some ∙ c.pairs.invariant.others r h;
+      alive = λ r h. c.step_entry.ensures.alive r (c.pairs.invariant.alive r h);
+      once = λ r. once_step c.pairs.entries.items c.pairs.i c.step_entry.result (count_of c.pairs.pool r) r inside (enough r) (c.pairs.invariant.once r) (once r);
+      fresh = fresh_step c.args.entries.now.items c.pairs.entries.items c.pairs.i c.step_entry.result c.args.pool.now c.pairs.pool c.step_entry.new.pool inside
+          (c.pairs.invariant.unturned c.pairs.i (omega arith)) enough c.pairs.invariant.alive
+          (subst (λ (e : Option (ℕ × ℕ)). (r : ℕ) → count_of c.step_entry.new.pool r + holds e r ≡ count_of c.pairs.pool r + holds c.step_entry.result r) e_is c.step_entry.ensures.counts)
+          (λ r some. results_of (count_of c.pairs.pool r) (holds (entry_at c.pairs.entries.items c.pairs.i) r) (holds c.step_entry.result r) (once r) some)
+          (subst (λ (e : Option (ℕ × ℕ)). e ≡ None → IfSome c.step_entry.result (IsFresh c.pairs.pool c.step_entry.new.pool)) e_is c.step_entry.ensures.fresh)
+          c.pairs.invariant.fresh;
+      live = omega (arith, c.step_entry.ensures.live pair.0 pair.1 at_i, c.pairs.invariant.live, moved_take g before members (pairs_of table) c.pairs.i pair.0 pair.1 at_i);
+      room = omega (arith, c.step_entry.ensures.spare pair.0 pair.1 at_i, c.pairs.invariant.room, moved_take g before members (pairs_of table) c.pairs.i pair.0 pair.1 at_i);
+    }
+
+pub returns : goal.returns
+returns c = record {
+  long = c.pairs.invariant.long;
+  entry = λ i x y at.
+      let listed : i < length (pairs_of c.args.dag.now.parents) = slice_get_within (pairs_of c.args.dag.now.parents) i (x, y) at in
+      rw (lt-ltb i c.pairs.i (omega (arith, c.requires.long))) at (c.pairs.invariant.entry i x y at);
+  kept = c.pairs.invariant.kept;
+  counts = c.pairs.invariant.counts;
+  others = c.pairs.invariant.others;
+  once = c.pairs.invariant.once;
+  fresh = c.pairs.invariant.fresh;
+  live = omega (arith, c.pairs.invariant.live, moved_take_le (graph_of c.args.dag.now.parents) c.args.before.now c.args.members.now (pairs_of c.args.dag.now.parents) c.pairs.i);
+}

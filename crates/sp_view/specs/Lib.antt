@@ -1,0 +1,6 @@
+pub mod Stored
+pub mod Settled
+pub mod Voting
+pub mod Views
+pub mod Changed
+pub mod Moving

@@ -1,0 +1,184 @@
+//! The entries of a view of a set, from those of a view within it. One pass over the pairs finds the
+//! rows of each pair over the whole set; a row that is the same as before is shared.
+
+ghost use Rattle.std.specs.Prelude.{◌≡◌, ◌≢◌, ◌<◌, ◌≤◌, ◌+◌, ◌-◌, ◌^◌, ◌==◌, ℕ, List, [], length, IsTrue, IfOk, OnOk, OnErr, if◌then◌else◌, slice_get, Some, vec_capacity};
+ghost use Rattle.sp_bits.specs.Places.{IsRow};
+ghost use Rattle.sp_model.specs.Graph.{has};
+ghost use Rattle.sp_dag.specs.Numbered.{graph_of, pairs_of};
+ghost use Rattle.sp_view.specs.Stored.{count_of, row_of, spare, live};
+ghost use Rattle.sp_view.specs.Voting.{IsVoting};
+ghost use Rattle.sp_view.specs.Views.{holds, held, moved_of, AreEntries, AreKeptIds, IsEntry, IsOnce, KeepIds};
+ghost use Rattle.sp_view.specs.Moving.{moves_of, moved_rows};
+
+use crate::asking::{entry_of, has_both};
+use crate::entries::are_same;
+use crate::pair_rows::{Sides, new_rows};
+use crate::stored::{RowName, row_at, share, taken};
+use sp_bits::Row;
+use sp_dag::Dag;
+use sp_frozen::Frozen;
+use sp_ids::Memory;
+use sp_rows::RowPool;
+
+// One holder more of a row if it has these places, and else a new row.
+fn shared(pool: &mut RowPool, id: RowName, row: &Row) -> RowName
+    requires some { 0 < count_of pool.old id }
+    requires few { count_of pool.old id < 2 ^ 32 - 1 }
+    requires room { 0 < spare pool.old }
+    ensures row { row_of pool.new result ≡ row.now }
+    ensures counts { (r : ℕ) → count_of pool.new r ≡
+        count_of pool.old r + (if r == result then 1 else 0) }
+    ensures others { (r : ℕ) → 0 < count_of pool.old r → row_of pool.new r ≡ row_of pool.old r }
+    ensures kept { row.now ≡ row_of pool.old id → result ≡ id }
+    ensures fresh { result ≢ id → count_of pool.old result ≡ 0 }
+    ensures spare { spare pool.old ≤ spare pool.new + 1 }
+    ensures live { live pool.new ≡ live pool.old + (if result == id then 0 else 1) }
+{
+    if are_same(row, &row_at(pool, id)) {
+        share(pool, id);
+        return id;
+    }
+    taken(pool, row)
+}
+
+// The rows of a pair that was inside the view before.
+fn shared_entry(pool: &mut RowPool, entry: (RowName, RowName), new: &Sides) -> (RowName, RowName)
+    requires live { (r : ℕ) → holds (Some entry) r ≤ count_of pool.old r }
+    requires once { (r : ℕ) → holds (Some entry) r ≤ 1 }
+    requires few { (r : ℕ) → 0 < holds (Some entry) r → count_of pool.old r < 2 ^ 32 - 1 }
+    requires room { 2 ≤ spare pool.old }
+    ensures plus { row_of pool.new result.0 ≡ new.now.plus }
+    ensures minus { row_of pool.new result.1 ≡ new.now.minus }
+    ensures kept_plus { new.now.plus ≡ row_of pool.old entry.0 → result.0 ≡ entry.0 }
+    ensures kept_minus { new.now.minus ≡ row_of pool.old entry.1 → result.1 ≡ entry.1 }
+    ensures counts { (r : ℕ) → count_of pool.new r ≡ count_of pool.old r + holds (Some result) r }
+    ensures others { (r : ℕ) → 0 < count_of pool.old r → row_of pool.new r ≡ row_of pool.old r }
+    ensures once { (r : ℕ) →
+        IsOnce (count_of pool.old r) (holds (Some entry) r) (holds (Some result) r) }
+    ensures live { live pool.new ≡ live pool.old + moved_of (Some entry) (Some result) }
+{
+    let plus = shared(pool, entry.0, &new.plus);
+    let minus = shared(pool, entry.1, &new.minus);
+    (plus, minus)
+}
+
+// Two new rows.
+fn taken_entry(pool: &mut RowPool, new: &Sides) -> (RowName, RowName)
+    requires room { 2 ≤ spare pool.old }
+    ensures plus { row_of pool.new result.0 ≡ new.now.plus }
+    ensures minus { row_of pool.new result.1 ≡ new.now.minus }
+    ensures counts { (r : ℕ) → count_of pool.new r ≡ count_of pool.old r + holds (Some result) r }
+    ensures others { (r : ℕ) → 0 < count_of pool.old r → row_of pool.new r ≡ row_of pool.old r }
+    ensures once { (r : ℕ) → IsOnce (count_of pool.old r) 0 (holds (Some result) r) }
+    ensures live { live pool.new ≡ live pool.old + 2 }
+{
+    let plus = taken(pool, &new.plus);
+    let minus = taken(pool, &new.minus);
+    (plus, minus)
+}
+
+// The rows of a pair inside the set, from those that were there before.
+fn placed(pool: &mut RowPool, before: Option<(RowName, RowName)>, new: &Sides) -> (RowName, RowName)
+    requires live { (r : ℕ) → holds before r ≤ count_of pool.old r }
+    requires once { (r : ℕ) → holds before r ≤ 1 }
+    requires few { (r : ℕ) → 0 < holds before r → count_of pool.old r < 2 ^ 32 - 1 }
+    requires room { 2 ≤ spare pool.old }
+    ensures plus { row_of pool.new result.0 ≡ new.now.plus }
+    ensures minus { row_of pool.new result.1 ≡ new.now.minus }
+    ensures kept { (entry : ℕ × ℕ) → before ≡ Some entry →
+        (new.now.plus ≡ row_of pool.old entry.0 → result.0 ≡ entry.0)
+        × (new.now.minus ≡ row_of pool.old entry.1 → result.1 ≡ entry.1) }
+    ensures counts { (r : ℕ) → count_of pool.new r ≡ count_of pool.old r + holds (Some result) r }
+    ensures others { (r : ℕ) → 0 < count_of pool.old r → row_of pool.new r ≡ row_of pool.old r }
+    ensures once { (r : ℕ) →
+        IsOnce (count_of pool.old r) (holds before r) (holds (Some result) r) }
+    ensures live { live pool.new ≡ live pool.old + moved_of before (Some result) }
+{
+    match before {
+        Some(entry) => shared_entry(pool, entry, new),
+        None => taken_entry(pool, new),
+    }
+}
+
+// The entry of a pair in the view of the set, from that in the view of a set within it.
+fn derived_entry(
+    dag: &Dag,
+    frozen: &Frozen,
+    pool: &mut RowPool,
+    target: &Row,
+    pair: u32,
+    before: Option<(RowName, RowName)>,
+) -> Result<Option<(RowName, RowName)>, Memory>
+    requires voting { IsVoting dag.now.parents frozen.now target.now }
+    requires listed { pair < length (pairs_of dag.now.parents) }
+    requires live { (r : ℕ) → holds before r ≤ count_of pool.old r }
+    requires once { (r : ℕ) → holds before r ≤ 1 }
+    requires few { (r : ℕ) → 0 < holds before r → count_of pool.old r < 2 ^ 32 - 1 }
+    requires room { live pool.old + 2 ≤ 2 ^ 31 }
+    ensures entry { IfOk result (λ entry. (x y : ℕ) →
+        slice_get (pairs_of dag.now.parents) pair ≡ Some (x, y) →
+        IsEntry (graph_of dag.now.parents) target.now x y pool.new entry) }
+    ensures kept { IfOk result (λ entry. (set : List ℕ) (x y : ℕ) →
+        slice_get (pairs_of dag.now.parents) pair ≡ Some (x, y) →
+        ((z : ℕ) → IsTrue (has set z) → IsTrue (has target.now z)) →
+        IsEntry (graph_of dag.now.parents) set x y pool.old before →
+        KeepIds (graph_of dag.now.parents) set target.now x y before entry) }
+    ensures counts { IfOk result (λ entry. (r : ℕ) →
+        count_of pool.new r ≡ count_of pool.old r + holds entry r) }
+    ensures err { OnErr result (pool.new.rows ≡ pool.old.rows) }
+    ensures others { (r : ℕ) → 0 < count_of pool.old r → row_of pool.new r ≡ row_of pool.old r }
+    ensures once { IfOk result (λ entry. (r : ℕ) →
+        IsOnce (count_of pool.old r) (holds before r) (holds entry r)) }
+    ensures moved { IfOk result (λ entry. live pool.new ≤ live pool.old + moved_of before entry) }
+{
+    // Tells the proof that there are at most 512 blocks.
+    let _blocks = dag.len();
+    let (x, y) = dag.pair(pair);
+    if !has_both(target, x, y) {
+        return Ok(None);
+    }
+    pool.reserve(2)?;
+    let new = new_rows(dag, target, frozen.plus(pair), frozen.minus(pair), x, y);
+    Ok(Some(placed(pool, before, &new)))
+}
+
+// The entries of the view of a set, from those of the view of a set within it.
+pub(crate) fn derive_entries(
+    dag: &Dag,
+    frozen: &Frozen,
+    pool: &mut RowPool,
+    target: &Row,
+    base: &[Option<(RowName, RowName)>],
+    entries: &mut Vec<Option<(RowName, RowName)>>,
+) -> Result<(), Memory>
+    requires voting { IsVoting dag.now.parents frozen.now target.now }
+    requires live { (r : ℕ) → held base.now r ≤ count_of pool.old r }
+    requires once { (r : ℕ) → held base.now r ≤ 1 }
+    requires few { (r : ℕ) → 0 < held base.now r → count_of pool.old r < 2 ^ 32 - 1 }
+    requires empty { entries.old.items ≡ [] }
+    requires capacity { length (pairs_of dag.now.parents) ≤ vec_capacity entries.old }
+    requires room { live pool.old < 2 ^ 29 }
+    ensures long { OnOk result (length entries.new.items ≡ length (pairs_of dag.now.parents)) }
+    ensures entry { OnOk result
+        (AreEntries dag.now.parents target.now pool.new entries.new.items) }
+    ensures kept { OnOk result ((set : List ℕ) →
+        ((z : ℕ) → IsTrue (has set z) → IsTrue (has target.now z)) →
+        AreEntries dag.now.parents set pool.old base.now →
+        AreKeptIds dag.now.parents set target.now base.now entries.new.items) }
+    ensures counts { (r : ℕ) →
+        count_of pool.new r ≡ count_of pool.old r + held entries.new.items r }
+    ensures others { (r : ℕ) → 0 < count_of pool.old r → row_of pool.new r ≡ row_of pool.old r }
+    ensures once { (r : ℕ) → held entries.new.items r ≤ 1 }
+    ensures live { OnOk result ((set : List ℕ) → IsRow set →
+        ((z : ℕ) → IsTrue (has set z) → IsTrue (has target.now z)) →
+        AreEntries dag.now.parents set pool.old base.now →
+        live pool.new ≤ live pool.old
+        + moved_rows (graph_of dag.now.parents) set target.now (pairs_of dag.now.parents)) }
+{
+    'pairs: for pair in 0..dag.pair_count() {
+        let before = entry_of(base, pair as usize);
+        let entry = derived_entry(dag, frozen, pool, target, pair, before)?;
+        entries.push_reserved(entry);
+    }
+    Ok(())
+}

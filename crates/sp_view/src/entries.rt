@@ -1,0 +1,280 @@
+//! The two rows of one pair in a pool, when a block joins the set.
+
+ghost use Rattle.std.specs.Prelude.{◌≡◌, ◌≢◌, ◌<◌, ◌≤◌, ◌+◌, ◌==◌, ◌↔◌, ℕ, length, IsTrue, if◌then◌else◌, slice_get, None, Some, IfSome, vec_len};
+ghost use Rattle.sp_dag.specs.Numbered.{graph_of, pairs_of};
+ghost use Rattle.sp_view.specs.Stored.{count_of, row_of, spare, live};
+ghost use Rattle.sp_bits.specs.Places.{difference};
+ghost use Rattle.sp_model.specs.Graph.{has};
+ghost use Rattle.sp_view.specs.Settled.{AreSides, AreOpen, AreKept};
+ghost use Rattle.sp_view.specs.Voting.{IsVoting, IsJoined};
+ghost use Rattle.sp_view.specs.Views.{holds, held, entry_at, moved_of, IsEntry, IsFresh, IsOnce, AreFresh, KeepIds, AreEntries, AreKeptIds};
+ghost use Rattle.sp_view.specs.Moving.{changes_of, moves_of, moved_rows};
+
+use crate::asking::{asked, has_both, is_none};
+use crate::pair_rows::{Sides, joined_rows, new_rows};
+use crate::stored::{RowName, give, holders, put, row_at, taken};
+use sp_bits::Row;
+use sp_dag::Dag;
+use sp_frozen::Frozen;
+use sp_rows::RowPool;
+
+// Whether two rows have the same places.
+pub(crate) fn are_same(one: &Row, other: &Row) -> bool
+    ensures { IsTrue result ↔ (one.now ≡ other.now) }
+{
+    // Tells the proof that both lists ascend.
+    let _one = one.count();
+    let _other = other.count();
+    one.within(other) && other.within(one)
+}
+
+// Writes a row over another one, if the two differ: in its place where nobody else holds that one,
+// and into a new row elsewhere.
+fn written(pool: &mut RowPool, id: RowName, row: &Row) -> RowName
+    requires some { 0 < count_of pool.old id }
+    requires room { row.now ≢ row_of pool.old id → 0 < spare pool.old }
+    ensures row { row_of pool.new result ≡ row.now }
+    ensures counts { (r : ℕ) → count_of pool.new r + (if r == id then 1 else 0) ≡
+        count_of pool.old r + (if r == result then 1 else 0) }
+    ensures others { (r : ℕ) → 0 < count_of pool.old r → (r ≡ id → 1 < count_of pool.old r) →
+        row_of pool.new r ≡ row_of pool.old r }
+    ensures kept { row.now ≡ row_of pool.old id → result ≡ id }
+    ensures fresh { result ≢ id → count_of pool.old result ≡ 0 }
+    ensures alive { (r : ℕ) → 0 < count_of pool.old r → 0 < count_of pool.new r }
+    ensures spare { spare pool.old ≤ spare pool.new + (if result == id then 0 else 1) }
+    ensures live { live pool.new ≤ live pool.old + (if result == id then 0 else 1) }
+{
+    if are_same(row, &row_at(pool, id)) {
+        return id;
+    }
+    if holders(pool, id) == 1 {
+        put(pool, id, row);
+        return id;
+    }
+    give(pool, id);
+    taken(pool, row)
+}
+
+// The rows of a pair that was inside the set before the block joined, where the votes of `todo` are
+// asked anew.
+fn asked_entry(
+    dag: &Dag,
+    frozen: &Frozen,
+    pool: &mut RowPool,
+    before: &Row,
+    members: &Row,
+    b: u16,
+    pair: u32,
+    entry: (RowName, RowName),
+    todo: &Row,
+) -> (RowName, RowName)
+    requires joined { IsJoined dag.now.parents frozen.now b before.now members.now }
+    requires listed { pair < length (pairs_of dag.now.parents) }
+    requires inside { pair < length frozen.now.pluses }
+    requires live { (r : ℕ) → holds (Some entry) r ≤ count_of pool.old r }
+    requires sides { (x y : ℕ) → slice_get (pairs_of dag.now.parents) pair ≡ Some (x, y) →
+        AreSides (graph_of dag.now.parents) before.now x y
+        (row_of pool.old entry.0) (row_of pool.old entry.1) }
+    requires room { (x y : ℕ) → slice_get (pairs_of dag.now.parents) pair ≡ Some (x, y) →
+        changes_of (graph_of dag.now.parents) before.now members.now x y ≤ spare pool.old }
+    requires within { (z : ℕ) → IsTrue (has todo.now z) → IsTrue (has members.now z) }
+    requires asked { (x y : ℕ) → slice_get (pairs_of dag.now.parents) pair ≡ Some (x, y) →
+        AreOpen (graph_of dag.now.parents) members.now x y (has todo.now)
+        × AreKept (graph_of dag.now.parents) members.now x y (has todo.now)
+        (difference (row_of pool.old entry.0) todo.now)
+        (difference (row_of pool.old entry.1) todo.now) }
+    ensures rows { (x y : ℕ) → slice_get (pairs_of dag.now.parents) pair ≡ Some (x, y) →
+        AreSides (graph_of dag.now.parents) members.now x y
+        (row_of pool.new result.0) (row_of pool.new result.1) }
+    ensures kept { (x y : ℕ) → slice_get (pairs_of dag.now.parents) pair ≡ Some (x, y) →
+        KeepIds (graph_of dag.now.parents) before.now members.now x y (Some entry) (Some result) }
+    ensures counts { (r : ℕ) → count_of pool.new r + holds (Some entry) r ≡
+        count_of pool.old r + holds (Some result) r }
+    ensures others { (r : ℕ) → holds (Some entry) r < count_of pool.old r →
+        row_of pool.new r ≡ row_of pool.old r }
+    ensures alive { (r : ℕ) → 0 < count_of pool.old r → 0 < count_of pool.new r }
+    ensures once { (r : ℕ) →
+        IsOnce (count_of pool.old r) (holds (Some entry) r) (holds (Some result) r) }
+    ensures spare { spare pool.old ≤ spare pool.new + moved_of (Some entry) (Some result) }
+    ensures live { live pool.new ≤ live pool.old + moved_of (Some entry) (Some result) }
+{
+    let sides = Sides {
+        plus: row_at(pool, entry.0),
+        minus: row_at(pool, entry.1),
+    };
+    let new = joined_rows(
+        dag,
+        members,
+        frozen.plus(pair),
+        frozen.minus(pair),
+        &sides,
+        todo,
+    );
+    let plus = written(pool, entry.0, &new.plus);
+    let minus = written(pool, entry.1, &new.minus);
+    (plus, minus)
+}
+
+// The rows of a pair that was inside the set before the block joined.
+fn joined_entry(
+    dag: &Dag,
+    frozen: &Frozen,
+    pool: &mut RowPool,
+    before: &Row,
+    members: &Row,
+    b: u16,
+    pair: u32,
+    entry: (RowName, RowName),
+) -> (RowName, RowName)
+    requires joined { IsJoined dag.now.parents frozen.now b before.now members.now }
+    requires listed { pair < length (pairs_of dag.now.parents) }
+    requires inside { pair < length frozen.now.pluses }
+    requires live { (r : ℕ) → holds (Some entry) r ≤ count_of pool.old r }
+    requires sides { (x y : ℕ) → slice_get (pairs_of dag.now.parents) pair ≡ Some (x, y) →
+        AreSides (graph_of dag.now.parents) before.now x y
+        (row_of pool.old entry.0) (row_of pool.old entry.1) }
+    requires room { (x y : ℕ) → slice_get (pairs_of dag.now.parents) pair ≡ Some (x, y) →
+        changes_of (graph_of dag.now.parents) before.now members.now x y ≤ spare pool.old }
+    ensures rows { (x y : ℕ) → slice_get (pairs_of dag.now.parents) pair ≡ Some (x, y) →
+        AreSides (graph_of dag.now.parents) members.now x y
+        (row_of pool.new result.0) (row_of pool.new result.1) }
+    ensures kept { (x y : ℕ) → slice_get (pairs_of dag.now.parents) pair ≡ Some (x, y) →
+        KeepIds (graph_of dag.now.parents) before.now members.now x y (Some entry) (Some result) }
+    ensures counts { (r : ℕ) → count_of pool.new r + holds (Some entry) r ≡
+        count_of pool.old r + holds (Some result) r }
+    ensures others { (r : ℕ) → holds (Some entry) r < count_of pool.old r →
+        row_of pool.new r ≡ row_of pool.old r }
+    ensures alive { (r : ℕ) → 0 < count_of pool.old r → 0 < count_of pool.new r }
+    ensures once { (r : ℕ) →
+        IsOnce (count_of pool.old r) (holds (Some entry) r) (holds (Some result) r) }
+    ensures spare { spare pool.old ≤ spare pool.new + moved_of (Some entry) (Some result) }
+    ensures live { live pool.new ≤ live pool.old + moved_of (Some entry) (Some result) }
+{
+    let todo = asked(dag, frozen, pool, members, b, pair, &entry);
+    if is_none(&todo) {
+        return entry;
+    }
+    asked_entry(dag, frozen, pool, before, members, b, pair, entry, &todo)
+}
+
+// The rows of a pair that the block brought into the set.
+fn new_entry(
+    dag: &Dag,
+    frozen: &Frozen,
+    pool: &mut RowPool,
+    members: &Row,
+    pair: u32,
+) -> (RowName, RowName)
+    requires voting { IsVoting dag.now.parents frozen.now members.now }
+    requires listed { pair < length (pairs_of dag.now.parents) }
+    requires inside { pair < length frozen.now.pluses }
+    requires room { 2 ≤ spare pool.old }
+    ensures rows { (x y : ℕ) → slice_get (pairs_of dag.now.parents) pair ≡ Some (x, y) →
+        AreSides (graph_of dag.now.parents) members.now x y
+        (row_of pool.new result.0) (row_of pool.new result.1) }
+    ensures fresh { IsFresh pool.old pool.new result }
+    ensures counts { (r : ℕ) → count_of pool.new r ≡
+        count_of pool.old r + holds (Some result) r }
+    ensures others { (r : ℕ) → 0 < count_of pool.old r →
+        row_of pool.new r ≡ row_of pool.old r }
+    ensures spare { spare pool.new + 2 ≡ spare pool.old }
+    ensures live { live pool.new ≡ live pool.old + 2 }
+{
+    let (x, y) = dag.pair(pair);
+    let new = new_rows(dag, members, frozen.plus(pair), frozen.minus(pair), x, y);
+    let plus = taken(pool, &new.plus);
+    let minus = taken(pool, &new.minus);
+    (plus, minus)
+}
+
+// The entry of a pair after the block joined.
+fn step_entry(
+    dag: &Dag,
+    frozen: &Frozen,
+    pool: &mut RowPool,
+    before: &Row,
+    members: &Row,
+    b: u16,
+    pair: u32,
+    entry: Option<(RowName, RowName)>,
+) -> Option<(RowName, RowName)>
+    requires joined { IsJoined dag.now.parents frozen.now b before.now members.now }
+    requires listed { pair < length (pairs_of dag.now.parents) }
+    requires inside { IfSome entry (λ _. pair < length frozen.now.pluses) }
+    requires live { (r : ℕ) → holds entry r ≤ count_of pool.old r }
+    requires entry { (x y : ℕ) → slice_get (pairs_of dag.now.parents) pair ≡ Some (x, y) →
+        IsEntry (graph_of dag.now.parents) before.now x y pool.old entry }
+    requires room { (x y : ℕ) → slice_get (pairs_of dag.now.parents) pair ≡ Some (x, y) →
+        moves_of (graph_of dag.now.parents) before.now members.now x y ≤ spare pool.old }
+    ensures entry { (x y : ℕ) → slice_get (pairs_of dag.now.parents) pair ≡ Some (x, y) →
+        IsEntry (graph_of dag.now.parents) members.now x y pool.new result }
+    ensures kept { (x y : ℕ) → slice_get (pairs_of dag.now.parents) pair ≡ Some (x, y) →
+        KeepIds (graph_of dag.now.parents) before.now members.now x y entry result }
+    ensures counts { (r : ℕ) → count_of pool.new r + holds entry r ≡
+        count_of pool.old r + holds result r }
+    ensures others { (r : ℕ) → holds entry r < count_of pool.old r →
+        row_of pool.new r ≡ row_of pool.old r }
+    ensures alive { (r : ℕ) → 0 < count_of pool.old r → 0 < count_of pool.new r }
+    ensures once { (r : ℕ) → IsOnce (count_of pool.old r) (holds entry r) (holds result r) }
+    ensures fresh { entry ≡ None → IfSome result (IsFresh pool.old pool.new) }
+    ensures spare { (x y : ℕ) → slice_get (pairs_of dag.now.parents) pair ≡ Some (x, y) →
+        spare pool.old ≤ spare pool.new
+        + moves_of (graph_of dag.now.parents) before.now members.now x y }
+    ensures live { (x y : ℕ) → slice_get (pairs_of dag.now.parents) pair ≡ Some (x, y) →
+        live pool.new ≤ live pool.old
+        + moves_of (graph_of dag.now.parents) before.now members.now x y }
+{
+    match entry {
+        Some(rows) => Some(joined_entry(dag, frozen, pool, before, members, b, pair, rows)),
+        None => {
+            // Tells the proof that there are at most 512 blocks.
+            let _blocks = dag.len();
+            let (x, y) = dag.pair(pair);
+            if has_both(members, x, y) {
+                Some(new_entry(dag, frozen, pool, members, pair))
+            } else {
+                None
+            }
+        }
+    }
+}
+
+// The entries of all pairs after the block joined.
+pub(crate) fn join_entries(
+    dag: &Dag,
+    frozen: &Frozen,
+    pool: &mut RowPool,
+    before: &Row,
+    members: &Row,
+    b: u16,
+    entries: &mut Vec<Option<(RowName, RowName)>>,
+)
+    requires joined { IsJoined dag.now.parents frozen.now b before.now members.now }
+    requires long { vec_len entries.old ≡ length (pairs_of dag.now.parents) }
+    requires inside { (i x y : ℕ) → slice_get (pairs_of dag.now.parents) i ≡ Some (x, y) →
+        IfSome (entry_at entries.old.items i) (λ _. y < frozen.now.blocks) }
+    requires live { (r : ℕ) → held entries.old.items r ≤ count_of pool.old r }
+    requires once { (r : ℕ) → held entries.old.items r ≤ 1 }
+    requires entry { AreEntries dag.now.parents before.now pool.old entries.old.items }
+    requires room { moved_rows (graph_of dag.now.parents) before.now members.now
+        (pairs_of dag.now.parents) ≤ spare pool.old }
+    ensures long { vec_len entries.new ≡ vec_len entries.old }
+    ensures entry { AreEntries dag.now.parents members.now pool.new entries.new.items }
+    ensures kept { AreKeptIds dag.now.parents before.now members.now
+        entries.old.items entries.new.items }
+    ensures counts { (r : ℕ) → count_of pool.new r + held entries.old.items r ≡
+        count_of pool.old r + held entries.new.items r }
+    ensures others { (r : ℕ) → held entries.old.items r < count_of pool.old r →
+        row_of pool.new r ≡ row_of pool.old r }
+    ensures once { (r : ℕ) → held entries.new.items r ≤ 1 }
+    ensures fresh { AreFresh entries.old.items entries.new.items pool.old pool.new }
+    ensures live { live pool.new ≤ live pool.old
+        + moved_rows (graph_of dag.now.parents) before.now members.now (pairs_of dag.now.parents) }
+{
+    // Tells the proof that there are at most 130,816 pairs.
+    let _pairs = dag.pair_count();
+    'pairs: for i in 0..entries.len() {
+        let entry = entries[i];
+        entries[i] = step_entry(dag, frozen, pool, before, members, b, i as u32, entry);
+    }
+}

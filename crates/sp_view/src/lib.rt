@@ -1,0 +1,20 @@
+//! Views: the votes of sets of present blocks, pair by pair, as rows that views share. A view grows
+//! by one block at a time; only the votes that the block can change are asked anew.
+#![tactic(auto)]
+
+mod asking;
+mod best;
+mod derive;
+mod entries;
+pub mod laws;
+mod pair_rows;
+mod settle;
+mod sharing;
+mod stored;
+mod tally;
+mod view;
+
+// A crate can name a view in a contract only if the types of its fields are exported.
+#[doc(hidden)]
+pub use stored::RowName;
+pub use view::View;

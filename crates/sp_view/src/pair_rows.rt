@@ -1,0 +1,138 @@
+//! The loose voters of one pair in a set, found anew for a new pair, and from those before for an
+//! old one when a block joins. Rows alone are spoken of here: where they are kept is the view's.
+
+ghost use Rattle.std.specs.Prelude.{◌≡◌, ◌<◌, ◌&&◌, not, ℕ, length, IsTrue};
+ghost use Rattle.sp_bits.specs.Places.{places_where, difference};
+ghost use Rattle.sp_model.specs.Graph.{has, in_past};
+ghost use Rattle.sp_frozen.specs.Loose.{is_loose};
+ghost use Rattle.sp_dag.specs.Numbered.{graph_of};
+ghost use Rattle.sp_frozen.specs.Voters.{AreFrozen};
+ghost use Rattle.sp_view.specs.Settled.{AreKept, AreOpen, AreSides, IsAsked};
+
+use crate::settle::settle;
+use sp_bits::Row;
+use sp_dag::Dag;
+
+// The loose voters of a pair that vote +1, and those that vote -1.
+#[derive(Clone, Copy)]
+pub(crate) struct Sides {
+    pub(crate) plus: Row,
+    pub(crate) minus: Row,
+}
+
+// The blocks that are bound on a pair: both of it and all that have one in their past.
+fn bound_on(dag: &Dag, x: u16, y: u16) -> Row
+    requires x_in { x < length dag.now.parents }
+    requires y_in { y < length dag.now.parents }
+    ensures { result ≡ places_where (λ z. not (is_loose (graph_of dag.now.parents) z x y)) }
+{
+    // Tells the proof that there are at most 512 blocks.
+    let _blocks = dag.len();
+    let mut bound = *dag.future(x);
+    bound.or_with(dag.future(y));
+    bound.set(x);
+    bound.set(y);
+    bound
+}
+
+// The loose members that vote +1 and -1 on a pair, by the frozen voters and the kept loose ones,
+// where the votes of `todo` alone are open.
+fn settled_rows(
+    dag: &Dag,
+    members: &Row,
+    frozen_plus: &Row,
+    frozen_minus: &Row,
+    kept: &Sides,
+    todo: &Row,
+) -> Sides
+    requires asked { IsAsked (graph_of dag.now.parents) members.now }
+    requires below { (z : ℕ) → IsTrue (has members.now z) → z < length dag.now.parents }
+    requires within { (z : ℕ) → IsTrue (has todo.now z) → IsTrue (has members.now z) }
+    ensures rows { (x y : ℕ) →
+        AreFrozen (graph_of dag.now.parents) members.now x y frozen_plus.now frozen_minus.now →
+        AreOpen (graph_of dag.now.parents) members.now x y (has todo.now) →
+        AreKept (graph_of dag.now.parents) members.now x y (has todo.now)
+        kept.now.plus kept.now.minus →
+        AreSides (graph_of dag.now.parents) members.now x y result.plus result.minus }
+{
+    // Tells the proof that the blocks stand in order.
+    let _blocks = dag.len();
+    let mut plus = *frozen_plus;
+    plus.and_with(members);
+    plus.or_with(&kept.plus);
+    let mut minus = *frozen_minus;
+    minus.and_with(members);
+    minus.or_with(&kept.minus);
+    settle(dag, todo, &mut plus, &mut minus);
+    plus.without(frozen_plus);
+    minus.without(frozen_minus);
+    Sides { plus, minus }
+}
+
+// The loose voters of a new pair. It takes two passes over a row for each of them.
+pub(crate) fn new_rows(
+    dag: &Dag,
+    members: &Row,
+    frozen_plus: &Row,
+    frozen_minus: &Row,
+    x: u16,
+    y: u16,
+) -> Sides
+    requires asked { IsAsked (graph_of dag.now.parents) members.now }
+    requires below { (z : ℕ) → IsTrue (has members.now z) → z < length dag.now.parents }
+    requires x_in { x < length dag.now.parents }
+    requires y_in { y < length dag.now.parents }
+    requires frozen { AreFrozen (graph_of dag.now.parents) members.now x y frozen_plus.now frozen_minus.now }
+    ensures { AreSides (graph_of dag.now.parents) members.now x y result.plus result.minus }
+{
+    let mut todo = *members;
+    todo.without(&bound_on(dag, x, y));
+    let none = Sides {
+        plus: Row::empty(),
+        minus: Row::empty(),
+    };
+    settled_rows(dag, members, frozen_plus, frozen_minus, &none, &todo)
+}
+
+// The loose voters in the past of block `b` that aren't among those of `agree`.
+pub(crate) fn open_voters(dag: &Dag, agree: &Row, x: u16, y: u16, b: u16) -> Row
+    requires x_in { x < length dag.now.parents }
+    requires y_in { y < length dag.now.parents }
+    requires b_in { b < length dag.now.parents }
+    ensures { (z : ℕ) → has result z
+        ≡ ((in_past (graph_of dag.now.parents) z b && is_loose (graph_of dag.now.parents) z x y)
+        && not (has agree.now z)) }
+{
+    // Tells the proof that there are at most 512 blocks, in order.
+    let _blocks = dag.len();
+    let mut todo = *dag.past(b);
+    todo.without(&bound_on(dag, x, y));
+    todo.without(agree);
+    todo
+}
+
+// The loose voters of a pair in a set that a block joined, from those before, where the votes of
+// `todo` are asked anew.
+pub(crate) fn joined_rows(
+    dag: &Dag,
+    members: &Row,
+    frozen_plus: &Row,
+    frozen_minus: &Row,
+    sides: &Sides,
+    todo: &Row,
+) -> Sides
+    requires asked { IsAsked (graph_of dag.now.parents) members.now }
+    requires below { (z : ℕ) → IsTrue (has members.now z) → z < length dag.now.parents }
+    requires within { (z : ℕ) → IsTrue (has todo.now z) → IsTrue (has members.now z) }
+    ensures rows { (x y : ℕ) →
+        AreFrozen (graph_of dag.now.parents) members.now x y frozen_plus.now frozen_minus.now →
+        AreOpen (graph_of dag.now.parents) members.now x y (has todo.now) →
+        AreKept (graph_of dag.now.parents) members.now x y (has todo.now)
+        (difference sides.now.plus todo.now) (difference sides.now.minus todo.now) →
+        AreSides (graph_of dag.now.parents) members.now x y result.plus result.minus }
+{
+    let mut kept = *sides;
+    kept.plus.without(todo);
+    kept.minus.without(todo);
+    settled_rows(dag, members, frozen_plus, frozen_minus, &kept, todo)
+}
