@@ -1,3 +1,4 @@
 pub mod Sets
 pub mod Counts
 pub mod Bits
+pub mod RowSets

@@ -53,7 +53,7 @@ not_in_range a b (suc n) le = at (eqb b a) refl (not_in_range a (b + 1) n (omega
     at true e rest = (let same : b ≡ a = eqb-true b a e in absurd (omega arith))
     at false e rest = rest
 
-AreDistinct-range : (a n : ℕ) → AreDistinct (range_with_len a n)
+pub AreDistinct-range : (a n : ℕ) → AreDistinct (range_with_len a n)
 AreDistinct-range a zero = tt
 AreDistinct-range a (suc n) = (not_in_range a (a + 1) n (omega arith), AreDistinct-range (a + 1) n)
 

@@ -7,13 +7,13 @@ use Rattle.sp_dag.specs.Numbered.{graph_of, pairs_of, unrelated_below, AreInOrde
 use Rattle.sp_dag.proofs.Grown.{past_old, pairs_behind}
 use Rattle.sp_dag.proofs.Indexing.{slice_get-longer, slice_get-shorter}
 use Rattle.sp_dag.proofs.Keys.{key_in, key_out}
-use Rattle.sp_frozen.proofs.Ranges.{AreDistinct-range}
+use Rattle.sp_dag.proofs.Whole.{AreDistinct-range}
 use Rattle.sp_dag.proofs.Whole.{keys_are_numbers, complete_numbered, downset_numbered, parents_numbered}
 use Rattle.sp_model.specs.Agreement.{AgreesOn}
 use Rattle.sp_model.specs.Graph.{AreDistinct, IsDownset, has, keys}
 use Rattle.sp_model.specs.Votes.{vote}
-use Rattle.sp_frozen.specs.Loose.{is_loose, is_plus, is_minus}
-use Rattle.sp_frozen.proofs.Loose.{frozen_same}
+use Rattle.sp_model.specs.Loose.{is_loose, is_plus, is_minus}
+use Rattle.sp_model.proofs.Loose.{frozen_same}
 use Rattle.sp_model.proofs.Match.{vote_restricted}
 use Rattle.sp_frozen.specs.Voters.{FrozenRows, HoldsFrozen}
 

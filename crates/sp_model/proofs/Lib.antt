@@ -11,3 +11,5 @@ pub mod Exchange
 pub mod Ancestors
 pub mod Renamed
 pub mod Everywhere
+pub mod Loose
+pub mod Joined

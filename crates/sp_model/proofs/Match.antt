@@ -15,7 +15,7 @@ use Rattle.sp_model.proofs.Recursion.{steps_enough}
 
 -- ---- sums over sets that match
 
-total_without : (f : ℕ → ℤ) (ys : List ℕ) (k : ℕ) → AreDistinct ys → has ys k ≡ true
+pub total_without : (f : ℕ → ℤ) (ys : List ℕ) (k : ℕ) → AreDistinct ys → has ys k ≡ true
     → total f ys ≡ f k +ℤ total f (filter (λ y. not (eqb y k)) ys)
 total_without f [] k apart h = absurd (false≢true h)
 total_without f (y ∷ ys) k apart h = at (eqb y k) refl (λ there. total_without f ys k apart.1 there)

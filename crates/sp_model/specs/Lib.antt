@@ -3,3 +3,5 @@ pub mod Votes
 pub mod Agreement
 pub mod Examples
 pub mod Renaming
+pub mod Loose
+pub mod Joining

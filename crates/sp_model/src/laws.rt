@@ -1,11 +1,13 @@
 //! Laws of pasts and votes, over the definitions alone. Each is the contract of a function that
 //! does nothing, so that the check proves it.
 
-ghost use Rattle.std.specs.Prelude.{◌≡◌, ◌≢◌, ◌==◌, ◌||◌, ℕ, List, [], ◌∷◌, IsTrue, negsuc, neg_ℤ};
+ghost use Rattle.std.specs.Prelude.{◌≡◌, ◌≢◌, ◌==◌, ◌||◌, ℕ, List, [], ◌∷◌, IsTrue, IsFalse, pos, negsuc, neg_ℤ};
 ghost use Rattle.std.specs.List.{list_any};
 ghost use Rattle.sp_model.specs.declared.word.Word.TheVariants.{Before, After, Tie, Same, Absent};
 ghost use Rattle.sp_model.specs.Graph.{Graph, IsDownset, AreDistinct, has, keys, parents_of, round, complete, reaches_within, in_past, past, bar, future, related, anticone};
 ghost use Rattle.sp_model.specs.Agreement.{AgreesOn};
+ghost use Rattle.sp_model.specs.Joining.{Joins};
+ghost use Rattle.sp_model.specs.Loose.{is_loose};
 ghost use Rattle.sp_model.specs.Renaming.{AreRenamed, IsRenamed, IsWhollyRenamed};
 ghost use Rattle.sp_model.specs.Votes.{sgn, total, case_of, vote_by, vote, virt, word};
 ghost use Rattle.sp_model.specs.Examples as example;
@@ -168,6 +170,37 @@ pub fn renaming_everywhere()
     ensures anticone { (rename : ℕ → ℕ) (graph other : Graph) (set new : List ℕ) (z a : ℕ) →
         IsWhollyRenamed rename graph other → AreRenamed rename set new →
         has (anticone other new (rename z)) (rename a) ≡ has (anticone graph set z) a }
+{}
+
+/// A frozen vote is the same in every downset, and a loose one is the sign of the sum of the votes
+/// of the future.
+#[tactic(auto, using(crate::proofs::Loose::frozen_same, crate::proofs::Loose::loose_vote))]
+pub fn frozen_and_loose_votes()
+    ensures frozen { (graph : Graph) (set other : List ℕ) (z x y : ℕ) →
+        IsDownset graph set → IsDownset graph other → IsTrue (has set z) → IsTrue (has other z) →
+        IsFalse (is_loose graph z x y) → vote graph set z x y ≡ vote graph other z x y }
+    ensures loose { (graph : Graph) (set : List ℕ) (z x y : ℕ) →
+        IsDownset graph set → IsTrue (has set z) → IsTrue (is_loose graph z x y) →
+        vote graph set z x y ≡ sgn (total (λ w. vote graph set w x y) (future graph set z)) }
+{}
+
+/// Where a block joins a downset, only the votes of its past can change, only those that differ from
+/// its own, and none where it votes for neither. A loose block votes for neither.
+#[tactic(auto, using(crate::proofs::Joined::apart_stays, crate::proofs::Joined::agreeing_stays, crate::proofs::Joined::tie_stays, crate::proofs::Joined::loose_joins))]
+pub fn votes_where_a_block_joins()
+    ensures apart { (graph : Graph) (b : ℕ) (set more : List ℕ) (z x y : ℕ) →
+        Joins graph b set more → IsTrue (has set z) → IsFalse (in_past graph z b) →
+        vote graph more z x y ≡ vote graph set z x y }
+    ensures agreeing { (graph : Graph) (b : ℕ) (set more : List ℕ) (z x y : ℕ) →
+        Joins graph b set more → x ≢ y → IsTrue (has set z) →
+        vote graph set z x y ≡ vote graph more b x y →
+        vote graph more z x y ≡ vote graph set z x y }
+    ensures tie { (graph : Graph) (b : ℕ) (set more : List ℕ) (z x y : ℕ) →
+        Joins graph b set more → x ≢ y → IsTrue (has set z) →
+        vote graph more b x y ≡ pos 0 →
+        vote graph more z x y ≡ vote graph set z x y }
+    ensures loose { (graph : Graph) (b : ℕ) (set more : List ℕ) (x y : ℕ) →
+        Joins graph b set more → IsTrue (is_loose graph b x y) → vote graph more b x y ≡ pos 0 }
 {}
 
 /// The definitions computed on small graphs: pasts, and words that were worked out by hand.

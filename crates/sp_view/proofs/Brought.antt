@@ -6,11 +6,11 @@ use Rattle.std.proofs.lemmas.Bool.{false≢true, cases_eq, cases_lt, eqb-true, e
 use Rattle.std.proofs.lemmas.List.Concat.{flat_map-append}
 use Rattle.std.proofs.lemmas.List.Elements.{filter-append}
 use Rattle.sp_bits.specs.Places.{IsRow, places_where}
-use Rattle.sp_frozen.proofs.RowSets.{filter-filter}
+use Rattle.sp_bits.proofs.RowSets.{filter-filter}
 use Rattle.sp_dag.specs.Numbered.{graph_of, pairs_of, pairs_below, unrelated_below}
 use Rattle.sp_dag.proofs.NewPairs.{range_more}
 use Rattle.sp_model.specs.Graph.{Graph, has, in_past, related, anticone}
-use Rattle.sp_frozen.specs.Joining.{Joins}
+use Rattle.sp_model.specs.Joining.{Joins}
 use Rattle.sp_model.proofs.Sets.{same_truth}
 use Rattle.sp_view.specs.Moving.{changes_of, changed_rows, moved_rows}
 

@@ -8,16 +8,16 @@ use Rattle.sp_bits.specs.Members.{has-filter}
 use Rattle.sp_bits.proofs.Sets.{places_same}
 use Rattle.sp_model.specs.Graph.{Graph, has, keys, in_past, IsDownset}
 use Rattle.sp_model.specs.Votes.{sgn, vote}
-use Rattle.sp_frozen.specs.Loose.{is_loose, is_plus, is_minus}
-use Rattle.sp_frozen.specs.Joining.{Joins}
-use Rattle.sp_frozen.proofs.Loose.{frozen_same, vote_sign}
-use Rattle.sp_frozen.proofs.Joined.{apart_stays, agreeing_stays, tie_stays, loose_joins}
+use Rattle.sp_model.specs.Loose.{is_loose, is_plus, is_minus}
+use Rattle.sp_model.specs.Joining.{Joins}
+use Rattle.sp_model.proofs.Loose.{frozen_same, vote_sign}
+use Rattle.sp_model.proofs.Joined.{apart_stays, agreeing_stays, tie_stays, loose_joins}
 use Rattle.sp_model.proofs.Pasts.{complete_key}
 use Rattle.sp_model.proofs.Sets.{same_truth}
 use Rattle.sp_frozen.specs.Voters.{AreFrozen}
 use Rattle.sp_view.specs.Settled.{AreKept, AreOpen, AreSides, IsAsked}
-use Rattle.sp_frozen.proofs.RowSets.{row_small}
-use Rattle.sp_frozen.proofs.RowSets.{has_places, has_difference, filter_row}
+use Rattle.sp_bits.proofs.RowSets.{row_small}
+use Rattle.sp_bits.proofs.RowSets.{has_places, has_difference, filter_row}
 
 -- ---- a new pair: all loose members are asked
 

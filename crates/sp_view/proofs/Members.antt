@@ -5,12 +5,12 @@ use Rattle.std.specs.List.{range_with_len}
 use Rattle.sp_bits.specs.Places.{places_where, IsRow}
 use Rattle.sp_bits.specs.Members.{has-places_where}
 use Rattle.sp_bits.proofs.Sets.{places_same}
-use Rattle.sp_frozen.proofs.RowSets.{has_places, row_small}
+use Rattle.sp_bits.proofs.RowSets.{has_places, row_small}
 use Rattle.sp_dag.specs.Numbered.{graph_of, AreInOrder}
-use Rattle.sp_frozen.proofs.Ranges.{AreDistinct-range}
+use Rattle.sp_dag.proofs.Whole.{AreDistinct-range}
 use Rattle.sp_dag.proofs.Whole.{complete_numbered}
 use Rattle.sp_model.specs.Graph.{AreDistinct, has, in_past}
-use Rattle.sp_frozen.specs.Joining.{Joins}
+use Rattle.sp_model.specs.Joining.{Joins}
 use Rattle.sp_model.proofs.Match.{distinct_filter}
 use Rattle.sp_view.specs.Settled.{IsAsked}
 

@@ -3,9 +3,9 @@ use Rattle.std.proofs.Common.{◌≡◌, ◌≢◌, ℕ, zero, suc, ◌+◌, ◌
 use Rattle.std.specs.Prelude.{filter, slice_get}
 use Rattle.std.proofs.lemmas.Bool.{eq-eqb, and_parts, and_from, false_from_ne_true}
 use Rattle.sp_bits.specs.Places.{IsRow}
-use Rattle.sp_frozen.proofs.RowSets.{filter_row}
+use Rattle.sp_bits.proofs.RowSets.{filter_row}
 use Rattle.sp_model.specs.Graph.{Graph, has}
-use Rattle.sp_frozen.specs.Loose.{is_loose, is_plus, is_minus, plus, minus}
+use Rattle.sp_model.specs.Loose.{is_loose, is_plus, is_minus, plus, minus}
 use Rattle.sp_model.specs.Votes.{vote}
 use Rattle.sp_rows.specs.Pool.{Pool}
 use Rattle.sp_view.specs.Views.{IsEntry, KeepIds, moved_of}

@@ -5,7 +5,7 @@ use Rattle.std.proofs.lemmas.Bool.{false_from_ne_true, or_left, or_right, eq-eqb
 use Rattle.sp_dag.specs.Numbered.{graph_of, AreInOrder}
 use Rattle.sp_model.specs.Graph.{has}
 use Rattle.sp_model.specs.Votes.{vote}
-use Rattle.sp_frozen.specs.Loose.{is_loose, is_plus, is_minus}
+use Rattle.sp_model.specs.Loose.{is_loose, is_plus, is_minus}
 use Rattle.sp_frozen.proofs.Growth.{pair_before, more_pairs, downset_stays, loose_stays, vote_stays}
 use Rattle.sp_rows.specs.Pool.{Pool}
 use Rattle.sp_view.specs.Stored.{count_of, row_of}

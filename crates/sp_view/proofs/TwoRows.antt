@@ -5,7 +5,7 @@ use Rattle.std.proofs.lemmas.Bool.{cases_eq, eq-eqb, ne_eqb, lt-ltb}
 use Rattle.sp_dag.specs.Numbered.{graph_of, pairs_of}
 use Rattle.sp_model.specs.Graph.{has, keys}
 use Rattle.sp_model.specs.Votes.{vote}
-use Rattle.sp_frozen.specs.Loose.{is_loose, is_plus, is_minus}
+use Rattle.sp_model.specs.Loose.{is_loose, is_plus, is_minus}
 use Rattle.sp_frozen.specs.Voters.{AreFrozen, AreFrozenBelow, FrozenRows, HoldsFrozen}
 use Rattle.sp_view.specs.Views.{IsOnce}
 

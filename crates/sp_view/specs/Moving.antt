@@ -2,7 +2,7 @@
 use Rattle.std.specs.Prelude.{ℕ, ◌+◌, Bool, ◌&&◌, List, [], ◌∷◌, if◌then◌else◌}
 use Rattle.std.specs.List.{list_all}
 use Rattle.sp_model.specs.Graph.{Graph, has}
-use Rattle.sp_frozen.specs.Loose.{plus, minus}
+use Rattle.sp_model.specs.Loose.{plus, minus}
 use Rattle.sp_view.specs.Changed.{is_inside}
 
 -- whether two sets have the same places

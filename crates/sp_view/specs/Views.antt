@@ -1,7 +1,7 @@
 -- Views: a set of blocks, and two rows of a pool for each unrelated pair inside it.
 use Rattle.std.specs.Prelude.{ℕ, true, false, ◌≡◌, ◌⊎◌, ◌≤◌, ◌<◌, ◌+◌, ◌==◌, ◌&&◌, List, [], ◌∷◌, length, Option, Some, None, if◌then◌else◌, slice_get, slice_index_or, IfSome}
 use Rattle.sp_model.specs.Graph.{Graph, has}
-use Rattle.sp_frozen.specs.Loose.{plus, minus}
+use Rattle.sp_model.specs.Loose.{plus, minus}
 use Rattle.sp_dag.specs.Numbered.{graph_of, pairs_of, AreInOrder}
 use Rattle.sp_rows.specs.Pool.{Pool}
 use Rattle.sp_view.specs.Stored.{count_of, row_of}

@@ -2,7 +2,7 @@
 use Rattle.std.specs.Prelude.{ℕ, true, ◌≡◌, ◌<◌, List, length}
 use Rattle.sp_bits.specs.Places.{IsRow}
 use Rattle.sp_model.specs.Graph.{has}
-use Rattle.sp_frozen.specs.Joining.{Joins}
+use Rattle.sp_model.specs.Joining.{Joins}
 use Rattle.sp_dag.specs.Numbered.{graph_of, AreInOrder}
 use Rattle.sp_frozen.specs.Voters.{FrozenRows, HoldsFrozen}
 use Rattle.sp_view.specs.Settled.{IsAsked}

@@ -4,7 +4,7 @@
 ghost use Rattle.std.specs.Prelude.{◌≡◌, ◌<◌, ◌≤◌, ◌*◌, ◌&&◌, false, ◌↔◌, [], ℕ, List, length, IsTrue, if◌then◌else◌, slice_get, Some, IfSome};
 ghost use Rattle.sp_bits.specs.Places.{difference, IsRow};
 ghost use Rattle.sp_model.specs.Graph.{has};
-ghost use Rattle.sp_frozen.specs.Joining.{Joins};
+ghost use Rattle.sp_model.specs.Joining.{Joins};
 ghost use Rattle.sp_dag.specs.Numbered.{graph_of, pairs_of};
 ghost use Rattle.sp_view.specs.Stored.{count_of, row_of};
 ghost use Rattle.sp_view.specs.Settled.{AreKept, AreOpen, AreSides};

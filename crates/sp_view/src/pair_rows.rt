@@ -4,7 +4,7 @@
 ghost use Rattle.std.specs.Prelude.{◌≡◌, ◌<◌, ◌&&◌, not, ℕ, length, IsTrue};
 ghost use Rattle.sp_bits.specs.Places.{places_where, difference};
 ghost use Rattle.sp_model.specs.Graph.{has, in_past};
-ghost use Rattle.sp_frozen.specs.Loose.{is_loose};
+ghost use Rattle.sp_model.specs.Loose.{is_loose};
 ghost use Rattle.sp_dag.specs.Numbered.{graph_of};
 ghost use Rattle.sp_frozen.specs.Voters.{AreFrozen};
 ghost use Rattle.sp_view.specs.Settled.{AreKept, AreOpen, AreSides, IsAsked};

@@ -4,7 +4,7 @@ use Rattle.sp_dag.specs.Numbered.{graph_of, pairs_of, IsPair}
 use Rattle.sp_dag.proofs.Whole.{downset_numbered, pair_kind}
 use Rattle.sp_frozen.specs.Voters.{AreFrozen}
 use Rattle.sp_model.specs.Graph.{Graph, IsDownset, has, keys, in_past}
-use Rattle.sp_frozen.specs.Loose.{is_loose}
+use Rattle.sp_model.specs.Loose.{is_loose}
 use Rattle.sp_model.specs.Votes.{vote}
 use Rattle.sp_view.specs.Stored.{row_of}
 use Rattle.sp_view.proofs.JoinedRows.{agreeing_side, joined_kept, open_joined, tie_kept}

@@ -9,7 +9,7 @@ use Rattle.sp_model.specs.Graph.{has}
 use Rattle.std.proofs.lemmas.Bool.{cases_eq, eq-eqb}
 use Rattle.sp_dag.specs.Numbered.{graph_of, pairs_of}
 use Rattle.sp_model.specs.Graph.{Graph}
-use Rattle.sp_frozen.specs.Loose.{minus}
+use Rattle.sp_model.specs.Loose.{minus}
 use Rattle.sp_view.specs.Stored.{count_of, row_of}
 use Rattle.sp_view.specs.Settled.{AreSides}
 use Rattle.sp_view.proofs.Held.{some_pair}

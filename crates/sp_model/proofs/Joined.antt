@@ -5,14 +5,14 @@ use Rattle.std.proofs.lemmas.Int.{ints}
 use Rattle.std.proofs.lemmas.Bool.{false≢true, eq-eqb, ne_eqb, eqb-true, or_left, or_right, cases_Bool, false_from_ne_true, not-true, not_from_false}
 use Rattle.sp_model.specs.Graph.{Graph, AreDistinct, has, in_past, future, complete}
 use Rattle.sp_model.specs.Votes.{total, sgn, vote}
-use Rattle.sp_frozen.specs.Loose.{is_loose}
-use Rattle.sp_frozen.specs.Joining.{Joins}
+use Rattle.sp_model.specs.Loose.{is_loose}
+use Rattle.sp_model.specs.Joining.{Joins}
 use Rattle.sp_model.proofs.Sets.{has-filter, has-filter_from, total_same}
 use Rattle.sp_model.proofs.Match.{distinct_filter, total_matched}
-use Rattle.sp_frozen.proofs.Ranges.{total_without}
+use Rattle.sp_model.proofs.Match.{total_without}
 use Rattle.sp_model.proofs.Exchange.{vote_neg}
 use Rattle.sp_model.proofs.Pasts.{not_in_own_past, past_trans}
-use Rattle.sp_frozen.proofs.Loose.{frozen_same, loose_vote, vote_sign, future_induction}
+use Rattle.sp_model.proofs.Loose.{frozen_same, loose_vote, vote_sign, future_induction}
 
 -- ---- sums
 

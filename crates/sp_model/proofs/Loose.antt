@@ -4,7 +4,7 @@ use Rattle.std.specs.Prelude.{ℤ, pos, negsuc, not}
 use Rattle.std.proofs.lemmas.Bool.{false≢true}
 use Rattle.sp_model.specs.Graph.{Graph, has, in_past, past, future, IsDownset}
 use Rattle.sp_model.specs.Votes.{total, sgn, case_by, vote_by, vote, virt}
-use Rattle.sp_frozen.specs.Loose.{is_loose}
+use Rattle.sp_model.specs.Loose.{is_loose}
 use Rattle.sp_model.proofs.Recursion.{vote_is, vote_induction}
 
 -- ---- frozen
