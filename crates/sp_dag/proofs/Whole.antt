@@ -96,7 +96,7 @@ filter_none test a (suc n) h =
     ap (λ (c : Bool). cond c (a ∷ filter test (range_with_len (a + 1) n)) (filter test (range_with_len (a + 1) n))) (h a (omega arith))
     ∙ filter_none test (a + 1) n (λ k le. h k (omega arith))
 
-filter_cut : (test : ℕ → Bool) (a n m : ℕ) → n ≤ m → ((k : ℕ) → a + n ≤ k → test k ≡ false) → filter test (range_with_len a m) ≡ filter test (range_with_len a n)
+pub filter_cut : (test : ℕ → Bool) (a n m : ℕ) → n ≤ m → ((k : ℕ) → a + n ≤ k → test k ≡ false) → filter test (range_with_len a m) ≡ filter test (range_with_len a n)
 filter_cut test a zero m le h = filter_none test a m (λ k low. h k (omega arith))
 filter_cut test a (suc n) zero le h = absurd (omega arith)
 filter_cut test a (suc n) (suc m) le h =
