@@ -8,15 +8,15 @@ use Rattle.sp_block.specs.Block.{IsBlock, IsGenesis, ReadBlock}
 use Rattle.sp_model.specs.Graph.{has, parents_of, parents_or_none}
 use Rattle.sp_pool.specs.Kept.{AreKept, graph_of, node_of, present}
 use Rattle.sp_pool.proofs.KeptBlocks.{no_parents}
-use Rattle.sp_dag.specs.Numbered.{graph_of as numbered_graph, IsNumbered, number_of, Numbered}
-use Rattle.sp_plain.specs.Virts.{HasVirts, Virts}
+use Rattle.sp_dag.specs.Numbered.{IsNumbered, number_of, Numbered}
 use Rattle.sp_tx.specs.Parts.{Transaction}
 use Rattle.sp_carry.specs.Carried.{Carried, IsCarried, nothing, with_block}
 use Rattle.sp_carry.proofs.Carrying.{block_carried, none_carried}
 use Rattle.sp_carry.proofs.Soundness.{sound_block}
 use Rattle.sp_accept.specs.Rows.{AreOf}
-use Rattle.sp_engine.specs.Engine.{AreCarried, AreNumbered, IsEngine, numbers}
+use Rattle.sp_engine.specs.Engine.{AreCarried, AreNumbered, IsEngine}
 use Rattle.sp_engine.specs.Presence.{joining, order_from, order_of}
+use Rattle.sp_engine.specs.Votes.{AreVoted, Tallied}
 use Rattle.sp_engine.specs.Transactions.{txs_of, txs_or_none}
 use Rattle.sp_engine.proofs.CarriedBlocks.{carried_alone}
 
@@ -76,11 +76,11 @@ carried_in_alone inside g pool blocks k is kept alone n added carried =
         ap (λ (l : List ReadBlock). txs_of l inside.id) (kept ∙ ap (λ (b : ReadBlock). b ∷ []) (sym is))
         ∙ ap (λ (c : Bool). txs_or_none (cond c (Some inside) None)) (eq-eqb inside.id inside.id refl)
 
-pub engine_alone : (bits : ℕ) (inside g : ReadBlock) (pool : List ReadBlock) (blocks : Numbered) (virts : Virts) → bits ≤ 64 → inside ≡ g → IsBlock inside → IsGenesis g
+pub engine_alone : (bits : ℕ) (inside g : ReadBlock) (pool : List ReadBlock) (blocks : Numbered) (votes : Tallied) → bits ≤ 64 → inside ≡ g → IsBlock inside → IsGenesis g
     → pool ≡ g ∷ [] → present pool ≡ g.id ∷ [] → blocks ≡ record { ids = inside.id ∷ []; parents = [] ∷ [] } → AreKept pool → IsNumbered blocks
-    → HasVirts (numbered_graph blocks.parents) (numbers blocks) (length blocks.parents) virts → IsEngine bits pool inside.id blocks virts
+    → AreVoted blocks.parents votes → IsEngine bits pool inside.id blocks votes
 unfolding one
-engine_alone bits inside g pool blocks virts small is block kind kept here alone are in_order votes =
+engine_alone bits inside g pool blocks votes small is block kind kept here alone are in_order voted =
     let none : g.parents ≡ [] = no_parents g (subst (λ (b : ReadBlock). IsBlock b) is block) kind in
     let id : inside.id ≡ g.id = ap (λ (b : ReadBlock). b.id) is in
     let blocks_are : blocks ≡ one g = alone ∙ ap (λ (i : ℕ). let n : Numbered = record { ids = i ∷ []; parents = [] ∷ [] } in n) id in
@@ -92,5 +92,5 @@ engine_alone bits inside g pool blocks virts small is block kind kept here alone
       numbered = subst (λ (k : List ReadBlock). AreNumbered k blocks) (sym kept) (subst (λ (n : Numbered). AreNumbered (g ∷ []) n) (sym blocks_are) (numbered_alone g none));
       order = ap (λ (n : Numbered). n.ids) blocks_are ∙ sym (order_alone g none) ∙ ap (λ (k : List ReadBlock). order_of k) (sym kept);
       same = λ z. ap (λ (n : Numbered). has n.ids z) blocks_are ∙ ap (λ (l : List ℕ). has l z) (sym here);
-      votes = votes;
+      voted = voted;
     }

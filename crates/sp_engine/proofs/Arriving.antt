@@ -17,14 +17,14 @@ use Rattle.sp_pool.proofs.Growth.{present_by_parents, present_kept, present_stay
 use Rattle.sp_pool.proofs.KeptBlocks.{AreKept-push}
 use Rattle.sp_pool.proofs.Runs.{Releases-distinct}
 use Rattle.sp_pool.proofs.Standings.{from_fresh}
-use Rattle.sp_dag.specs.Numbered.{graph_of as numbered_graph, IsNumbered, Numbered}
-use Rattle.sp_plain.specs.Virts.{HasVirts, Virts}
+use Rattle.sp_dag.specs.Numbered.{IsNumbered, Numbered}
 use Rattle.sp_engine.specs.Arrivals.{joined}
 use Rattle.sp_carry.specs.Carried.{Carried}
 use Rattle.sp_accept.specs.Acceptance.{Acceptance}
 use Rattle.sp_money.specs.Held.{Held as Purse}
-use Rattle.sp_engine.specs.Engine.{AreCarried, AreNumbered, IsAccepting, IsEngine, IsPaying, Ledger, numbers}
+use Rattle.sp_engine.specs.Engine.{AreCarried, AreNumbered, IsAccepting, IsEngine, IsPaying, Ledger}
 use Rattle.sp_engine.specs.Presence.{joining}
+use Rattle.sp_engine.specs.Votes.{AreVoted, Tallied}
 use Rattle.sp_engine.specs.declared.answer.Answer.TheVariants.{Kept, Held}
 use Rattle.sp_engine.proofs.CarriedBlocks.{AreCarried-kept}
 use Rattle.sp_engine.proofs.Counts.{distinct_within, present_counts}
@@ -33,8 +33,8 @@ use Rattle.sp_engine.proofs.NumberedBlocks.{AreNumbered-kept}
 use Rattle.sp_engine.proofs.Presence.{joining_released, order-push, Releases-none, Releases-same}
 
 -- a valid block of a new id comes to an engine
-pub record Comes (bits genesis : ℕ) (kept : List ReadBlock) (blocks : Numbered) (virts : Virts) (b : ReadBlock) : Type 0 where
-  pub engine : IsEngine bits kept genesis blocks virts
+pub record Comes (bits genesis : ℕ) (kept : List ReadBlock) (blocks : Numbered) (votes : Tallied) (b : ReadBlock) : Type 0 where
+  pub engine : IsEngine bits kept genesis blocks votes
   pub block : IsBlock b
   pub other : IsOther b
   pub fresh : standing_of kept b.id ≡ Fresh
@@ -43,53 +43,53 @@ first_stays : (kept : List ReadBlock) (b : ReadBlock) (genesis : ℕ) → option
 first_stays [] b genesis e = cc
 first_stays (x ∷ xs) b genesis e = e
 
-module _ {bits genesis : ℕ} {kept : List ReadBlock} {blocks : Numbered} {virts : Virts} {b : ReadBlock} where
-  pub kept_is : (new : List ReadBlock) → new ≡ keep kept b → Comes bits genesis kept blocks virts b → new ≡ kept ++ b ∷ []
+module _ {bits genesis : ℕ} {kept : List ReadBlock} {blocks : Numbered} {votes : Tallied} {b : ReadBlock} where
+  pub kept_is : (new : List ReadBlock) → new ≡ keep kept b → Comes bits genesis kept blocks votes b → new ≡ kept ++ b ∷ []
   kept_is new e h = e ∙ ap (λ (s : Standing). kept_by s kept b) h.fresh
 
-  new_id : Comes bits genesis kept blocks virts b → has (ids_of kept) b.id ≡ false
+  new_id : Comes bits genesis kept blocks votes b → has (ids_of kept) b.id ≡ false
   new_id h = (from_fresh kept b.id h.fresh).0
 
-  kept_more : Comes bits genesis kept blocks virts b → AreKept (kept ++ b ∷ [])
+  kept_more : Comes bits genesis kept blocks votes b → AreKept (kept ++ b ∷ [])
   kept_more h = AreKept-push kept b h.engine.all_kept h.block h.other (new_id h) (from_fresh kept b.id h.fresh).1
 
-  numbered_more : Comes bits genesis kept blocks virts b → AreNumbered (kept ++ b ∷ []) blocks
+  numbered_more : Comes bits genesis kept blocks votes b → AreNumbered (kept ++ b ∷ []) blocks
   numbered_more h = let some = (other_parents b h.block h.other).0 in AreNumbered-kept kept b blocks (new_id h) (omega (arith, some)) h.engine.numbered
 
-  pub comes_numbered : (new : List ReadBlock) → new ≡ keep kept b → Comes bits genesis kept blocks virts b → AreNumbered new blocks
+  pub comes_numbered : (new : List ReadBlock) → new ≡ keep kept b → Comes bits genesis kept blocks votes b → AreNumbered new blocks
   comes_numbered new e h = subst (λ (k : List ReadBlock). AreNumbered k blocks) (sym (kept_is new e h)) (numbered_more h)
 
-  pub comes_carried : {k : Carried} → (new : List ReadBlock) → new ≡ keep kept b → Comes bits genesis kept blocks virts b → AreCarried kept blocks k → AreCarried new blocks k
+  pub comes_carried : {k : Carried} → (new : List ReadBlock) → new ≡ keep kept b → Comes bits genesis kept blocks votes b → AreCarried kept blocks k → AreCarried new blocks k
   comes_carried {k} new e h c =
       subst (λ (l : List ReadBlock). AreCarried l blocks k) (sym (kept_is new e h)) (AreCarried-kept kept b blocks k h.engine.numbered c)
 
-  releases : (ids : List ℕ) → Comes bits genesis kept blocks virts b → Joins kept b ids → Releases (kept ++ b ∷ []) blocks.ids ids
+  releases : (ids : List ℕ) → Comes bits genesis kept blocks votes b → Joins kept b ids → Releases (kept ++ b ∷ []) blocks.ids ids
   releases ids h j = Releases-same (kept ++ b ∷ []) (present kept) blocks.ids ids (λ z. sym (h.engine.same z)) j.order
 
-  pub comes_order : (new : List ReadBlock) (ids : List ℕ) → new ≡ keep kept b → Comes bits genesis kept blocks virts b → Joins kept b ids → Releases new blocks.ids ids
+  pub comes_order : (new : List ReadBlock) (ids : List ℕ) → new ≡ keep kept b → Comes bits genesis kept blocks votes b → Joins kept b ids → Releases new blocks.ids ids
   comes_order new ids e h j = subst (λ (k : List ReadBlock). Releases k blocks.ids ids) (sym (kept_is new e h)) (releases ids h j)
 
-  apart : (ids : List ℕ) → Comes bits genesis kept blocks virts b → Joins kept b ids → AreDistinct (blocks.ids ++ ids)
+  apart : (ids : List ℕ) → Comes bits genesis kept blocks votes b → Joins kept b ids → AreDistinct (blocks.ids ++ ids)
   apart ids h j = Releases-distinct (kept ++ b ∷ []) blocks.ids blocks.ids ids (λ z. refl) h.engine.in_order.distinct (releases ids h j)
 
-  members : (ids : List ℕ) → Comes bits genesis kept blocks virts b → Joins kept b ids → (z : ℕ) → has (blocks.ids ++ ids) z ≡ has (present (kept ++ b ∷ [])) z
+  members : (ids : List ℕ) → Comes bits genesis kept blocks votes b → Joins kept b ids → (z : ℕ) → has (blocks.ids ++ ids) z ≡ has (present (kept ++ b ∷ [])) z
   members ids h j z = sym (released (kept ++ b ∷ []) blocks.ids ids (kept_more h).apart (λ y there. present_stays kept b y (sym (h.engine.same y) ∙ there)) (releases ids h j) z)
 
-  few : (ids : List ℕ) → Comes bits genesis kept blocks virts b → Joins kept b ids → length (blocks.ids ++ ids) ≤ length (kept ++ b ∷ [])
+  few : (ids : List ℕ) → Comes bits genesis kept blocks votes b → Joins kept b ids → length (blocks.ids ++ ids) ≤ length (kept ++ b ∷ [])
   few ids h j =
       let below : length (blocks.ids ++ ids) ≤ length (ids_of (kept ++ b ∷ [])) =
       distinct_within (blocks.ids ++ ids) (ids_of (kept ++ b ∷ [])) (apart ids h j) (λ z there. present_kept (kept ++ b ∷ []) z (sym (members ids h j z) ∙ there)) in
       let same : length (ids_of (kept ++ b ∷ [])) ≡ length (kept ++ b ∷ []) = length-map (kept ++ b ∷ []) (λ (x : ReadBlock). x.id) in
       omega (arith, below, same)
 
-  pub comes_few : (ids : List ℕ) → Comes bits genesis kept blocks virts b → Joins kept b ids → length ids ≤ 512
+  pub comes_few : (ids : List ℕ) → Comes bits genesis kept blocks votes b → Joins kept b ids → length ids ≤ 512
   comes_few ids h j = omega (arith, few ids h j, (kept_more h).few, length-append blocks.ids ids)
 
-  pub comes_engine : (new : List ReadBlock) (ids : List ℕ) (after : Numbered) (votes : Virts) → new ≡ keep kept b → Comes bits genesis kept blocks virts b → Joins kept b ids
-      → IsNumbered after → AreNumbered new after → after.ids ≡ blocks.ids ++ ids → HasVirts (numbered_graph after.parents) (numbers after) (length after.parents) votes
-      → IsEngine bits new genesis after votes
-  comes_engine new ids after votes e h j n are is v =
-      subst (λ (k : List ReadBlock). IsEngine bits k genesis after votes) (sym (kept_is new e h)) (record {
+  pub comes_engine : (new : List ReadBlock) (ids : List ℕ) (after : Numbered) (tallied : Tallied) → new ≡ keep kept b → Comes bits genesis kept blocks votes b → Joins kept b ids
+      → IsNumbered after → AreNumbered new after → after.ids ≡ blocks.ids ++ ids → AreVoted after.parents tallied
+      → IsEngine bits new genesis after tallied
+  comes_engine new ids after tallied e h j n are is v =
+      subst (λ (k : List ReadBlock). IsEngine bits k genesis after tallied) (sym (kept_is new e h)) (record {
         small = h.engine.small;
         all_kept = kept_more h;
         first = first_stays kept b genesis h.engine.first;
@@ -98,23 +98,23 @@ module _ {bits genesis : ℕ} {kept : List ReadBlock} {blocks : Numbered} {virts
         order = is ∙ ap (λ (l : List ℕ). blocks.ids ++ l) (sym (joining_released (length (kept ++ b ∷ [])) (kept ++ b ∷ []) blocks.ids ids (releases ids h j) (omega (arith, few ids h j, length-append blocks.ids ids))))
             ∙ ap (λ (l : List ℕ). l ++ joining (length (kept ++ b ∷ [])) (kept ++ b ∷ []) l) h.engine.order ∙ sym (order-push kept b);
         same = λ z. ap (λ (l : List ℕ). has l z) is ∙ members ids h j z;
-        votes = v;
+        voted = v;
       })
 
-  pub comes_answer : (ids : List ℕ) → Comes bits genesis kept blocks virts b → Joins kept b ids → Kept b.id (length ids) ≡ joined kept b
+  pub comes_answer : (ids : List ℕ) → Comes bits genesis kept blocks votes b → Joins kept b ids → Kept b.id (length ids) ≡ joined kept b
   unfolding joined
   comes_answer ids h j =
       let now : length (present (kept ++ b ∷ [])) ≡ length (blocks.ids ++ ids) = present_counts (kept ++ b ∷ []) (blocks.ids ++ ids) (kept_more h).apart (apart ids h j) (members ids h j) in
       let count : length ids ≡ length (present (kept ++ b ∷ [])) - length (present kept) = omega (arith, now, present_count h.engine, h.engine.in_order.long, length-append blocks.ids ids) in
       ap (Kept b.id) count ∙ sym (rw j.here refl)
 
-  unchanged : Comes bits genesis kept blocks virts b → Waits kept b → (z : ℕ) → has (present (kept ++ b ∷ [])) z ≡ has (present kept) z
+  unchanged : Comes bits genesis kept blocks votes b → Waits kept b → (z : ℕ) → has (present (kept ++ b ∷ [])) z ≡ has (present kept) z
   unchanged h w = present_waits kept b (new_id h) (sym (present_by_parents kept b (new_id h)) ∙ w.absent)
 
-  pub waits_engine : (new : List ReadBlock) → new ≡ keep kept b → Comes bits genesis kept blocks virts b → Waits kept b → IsEngine bits new genesis blocks virts
+  pub waits_engine : (new : List ReadBlock) → new ≡ keep kept b → Comes bits genesis kept blocks votes b → Waits kept b → IsEngine bits new genesis blocks votes
   waits_engine new e h w =
       let same : (z : ℕ) → has blocks.ids z ≡ has (present (kept ++ b ∷ [])) z = λ z. h.engine.same z ∙ sym (unchanged h w z) in
-      subst (λ (k : List ReadBlock). IsEngine bits k genesis blocks virts) (sym (kept_is new e h)) (record {
+      subst (λ (k : List ReadBlock). IsEngine bits k genesis blocks votes) (sym (kept_is new e h)) (record {
         small = h.engine.small;
         all_kept = kept_more h;
         first = first_stays kept b genesis h.engine.first;
@@ -123,14 +123,14 @@ module _ {bits genesis : ℕ} {kept : List ReadBlock} {blocks : Numbered} {virts
         order = sym (append-nil blocks.ids) ∙ ap (λ (l : List ℕ). blocks.ids ++ l) (sym (joining_released (length (kept ++ b ∷ [])) (kept ++ b ∷ []) blocks.ids [] (Releases-none (kept ++ b ∷ []) blocks.ids (kept_more h).apart same) (omega arith)))
             ∙ ap (λ (l : List ℕ). l ++ joining (length (kept ++ b ∷ [])) (kept ++ b ∷ []) l) h.engine.order ∙ sym (order-push kept b);
         same = same;
-        votes = h.engine.votes;
+        voted = h.engine.voted;
       })
 
-  pub waits_accepting : {k : Carried} {a : Acceptance} → (new : List ReadBlock) → new ≡ keep kept b → Comes bits genesis kept blocks virts b → IsAccepting kept blocks k a
+  pub waits_accepting : {k : Carried} {a : Acceptance} → (new : List ReadBlock) → new ≡ keep kept b → Comes bits genesis kept blocks votes b → IsAccepting kept blocks k a
       → IsAccepting new blocks k a
   waits_accepting new e h i = record { carriers = comes_carried new e h i.carriers; right = i.right; all = i.all }
 
-  pub waits_answer : Comes bits genesis kept blocks virts b → Waits kept b → Held b.id ≡ joined kept b
+  pub waits_answer : Comes bits genesis kept blocks votes b → Waits kept b → Held b.id ≡ joined kept b
   unfolding joined
   waits_answer h w = sym (rw w.absent refl)
 
@@ -142,10 +142,10 @@ pub waits_of : {kept : List ReadBlock} {b : ReadBlock} (o : Offer) → o ≡ Wai
 waits_of {kept = kept} {b = b} o e h = subst (λ (x : Offer). IsAnswer kept b x) e h
 
 -- a block that is taken comes to the engine
-pub comes_of : {bits genesis : ℕ} {kept : List ReadBlock} {blocks : Numbered} {virts : Virts} {k : Carried} {a : Acceptance} {p : Purse} {broken : Bool} {l : Ledger} {inside b : ReadBlock}
-    → (let seen : Ledger = record { bits = bits; kept = kept; broken = broken } in seen) ≡ l
-    → (broken ≡ false → IsEngine bits kept genesis blocks virts × IsAccepting kept blocks k a × IsPaying k a p) → l.broken ≡ false
-    → inside ≡ b → IsBlock inside → IsOther b → standing_of l.kept b.id ≡ Fresh → Comes bits genesis kept blocks virts b
+pub comes_of : {bits genesis : ℕ} {kept : List ReadBlock} {blocks : Numbered} {votes : Tallied} {k : Carried} {a : Acceptance} {p : Purse} {broken : Bool} {l : Ledger} {inside b : ReadBlock}
+    → (let seen : Ledger = record { bits = bits; kept = kept; broken = broken; numbered = blocks; votes = votes } in seen) ≡ l
+    → (broken ≡ false → IsEngine bits kept genesis blocks votes × IsAccepting kept blocks k a × IsPaying k a p) → l.broken ≡ false
+    → inside ≡ b → IsBlock inside → IsOther b → standing_of l.kept b.id ≡ Fresh → Comes bits genesis kept blocks votes b
 comes_of {b = b} view inv whole is block other fresh = record {
   engine = (inv (ap (λ (l : Ledger). l.broken) view ∙ whole)).0;
   block = subst (λ (x : ReadBlock). IsBlock x) is block;

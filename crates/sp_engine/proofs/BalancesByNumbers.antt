@@ -1,11 +1,9 @@
 -- Balances and locks of the kept blocks are those of the numbered transactions, each of which is counted where it is accepted.
 use Rattle.std.proofs.Common.{◌≡◌, ◌<◌, ℕ, zero, suc, Bool, true, false, cond, List, [], ◌∷◌, ◌++◌, length, map, get_or, refl, sym, ap, subst, ◌∙◌, eqb, inl, inr, arith}
-use Rattle.std.specs.Prelude.{filter, flat_map, fold, slice_index_or}
-use Rattle.std.proofs.lemmas.Bool.{eq-eqb, false≢true, false_from_ne_true, eqb-true, or_left, or_right}
-use Rattle.std.proofs.lemmas.List.{append-nil, map-append}
-use Rattle.std.proofs.lemmas.List.Sums.{fold-append}
+use Rattle.std.specs.Prelude.{filter, flat_map, slice_index_or}
+use Rattle.std.proofs.lemmas.Bool.{eq-eqb, false≢true, false_from_ne_true, eqb-true}
+use Rattle.std.proofs.lemmas.List.{map-append}
 use Rattle.std.proofs.lemmas.List.Folds.{flat_map-map}
-use Rattle.std.proofs.lemmas.Grind.{flat_map-append}
 use Rattle.std.proofs.Math.ListN.{length-map}
 use Rattle.sp_tx.specs.declared.parts.Output.{Output}
 use Rattle.sp_tx.specs.Parts.{Transaction, of_parts}
@@ -13,25 +11,24 @@ use Rattle.sp_tx.specs.Spending.{id_of}
 use Rattle.sp_block.specs.Block.{ReadBlock}
 use Rattle.sp_model.specs.Graph.{AreDistinct, has}
 use Rattle.sp_pool.specs.Kept.{present}
-use Rattle.sp_pool.proofs.KeptBlocks.{has-push}
 use Rattle.sp_dag.specs.Numbered.{Numbered}
-use Rattle.sp_plain.specs.Virts.{Virts}
+use Rattle.sp_engine.specs.Votes.{Tallied}
 use Rattle.sp_carry.specs.declared.carrier.Carrier.{Carrier}
 use Rattle.sp_carry.specs.Payment.{Payment, payment_of}
-use Rattle.sp_carry.specs.Ledger.{accepted_carriers, carried, is_accepted, IsPlain}
+use Rattle.sp_carry.specs.Ledger.{accepted_carriers, carried, is_accepted}
 use Rattle.sp_carry.specs.Money.{accepted_txs, balance, balance_of, Coin, coins, coins_from}
 use Rattle.sp_carry.specs.Carried.{Carried, first_like, payments_in, tx_at}
 use Rattle.sp_carry.proofs.Balances.{balance_same}
 use Rattle.sp_carry.proofs.Conflicts.{in_from_has}
 use Rattle.sp_carry.proofs.Firsts.{found_in, likes_named, named, named_same}
-use Rattle.sp_carry.proofs.Grants.{carried_in, firsts_ids}
-use Rattle.sp_carry.proofs.Members.{any_of_member, contains_from_in, in_filter, in_flat_map, in_flat_map_from, in_map, in_map_from, IsIn, list_in, member_meets, member_of_any}
+use Rattle.sp_carry.proofs.Grants.{firsts_ids}
+use Rattle.sp_carry.proofs.Members.{any_of_member, contains_from_in, in_filter, in_flat_map, in_map, in_map_from, IsIn, list_in, member_meets, member_of_any}
 use Rattle.sp_accept.specs.Acceptance.{Acceptance, is_set}
 use Rattle.sp_money.specs.Accepted.{accepted_in}
-use Rattle.sp_money.specs.Locks.{each_once, locks_of, with_id}
+use Rattle.sp_money.specs.Locks.{each_once, locks_of}
 use Rattle.sp_engine.specs.Engine.{IsAccepting, IsEngine}
 use Rattle.sp_engine.specs.Presence.{order_of}
-use Rattle.sp_engine.specs.Transactions.{balance_by_id, ledger_by_id, ledger_of, locks, tx_ids_in, txs_in, txs_of}
+use Rattle.sp_engine.specs.Transactions.{balance_by_id, ledger_by_id, locks, tx_ids_in, txs_in, txs_of}
 use Rattle.sp_engine.proofs.SameBalances.{carried_accepted, id_accepted, id_in, ids_apart, is_among_accepted}
 use Rattle.sp_engine.proofs.EachOnce.{once_of_once}
 use Rattle.sp_engine.proofs.StatesByNumbers.{accepted_is}
@@ -138,7 +135,7 @@ all_locks (p ∷ ps) =
 
 -- ---- balances and locks by numbers
 
-module _ {bits genesis : ℕ} {kept : List ReadBlock} {blocks : Numbered} {virts : Virts} {k : Carried} {a : Acceptance} (e : IsEngine bits kept genesis blocks virts) (h : IsAccepting kept blocks k a) where
+module _ {bits genesis : ℕ} {kept : List ReadBlock} {blocks : Numbered} {votes : Tallied} {k : Carried} {a : Acceptance} (e : IsEngine bits kept genesis blocks votes) (h : IsAccepting kept blocks k a) where
   abbrev flat : List Transaction
   flat = flat_map (λ b. b) (map (txs_of kept) blocks.ids)
 

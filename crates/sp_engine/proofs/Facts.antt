@@ -4,58 +4,55 @@ use Rattle.std.specs.Prelude.{find, slice_get}
 use Rattle.std.specs.List.{list_all}
 use Rattle.std.specs.Option.{option_map}
 use Rattle.std.proofs.Math.ListN.{length-map}
-use Rattle.std.proofs.lemmas.Bool.{and_parts, cases_lt, eq-eqb, false≢true, or_cases, eqb-true}
+use Rattle.std.proofs.lemmas.Bool.{and_parts, eq-eqb, false≢true, or_cases, eqb-true}
 use Rattle.sp_block.specs.Block.{ReadBlock}
 use Rattle.sp_model.specs.Graph.{has}
-use Rattle.sp_model.specs.Votes.{word, word_of}
+use Rattle.sp_model.specs.Votes.{virt, word, word_of}
 use Rattle.sp_pool.specs.Kept.{AreKept, graph_of, ids_of, IsNext, present}
 use Rattle.sp_pool.proofs.KeptBlocks.{AreDistinct-push, has-push}
 use Rattle.sp_dag.specs.Numbered.{graph_of as numbered_graph, IsNumbered, Numbered}
-use Rattle.sp_dag.proofs.Whole.{ancestors_lower}
-use Rattle.sp_plain.specs.Plain.{IsClosed}
-use Rattle.sp_plain.specs.Virts.{entry, Virts}
 use Rattle.sp_carry.specs.Carried.{Carried}
 use Rattle.sp_accept.specs.Acceptance.{Acceptance}
 use Rattle.sp_money.specs.Held.{Held}
 use Rattle.sp_engine.specs.Engine.{AreNumbered, IsAccepting, IsEngine, IsPaying, Ledger, numbers}
 use Rattle.sp_engine.specs.Presence.{order_of}
+use Rattle.sp_engine.specs.Votes.{Tallied}
 use Rattle.sp_engine.proofs.Counts.{distinct_within, present_counts}
 use Rattle.sp_engine.proofs.NumberedBlocks.{next_fresh, next_kept}
-use Rattle.sp_engine.proofs.Ranges.{in_range, past_range}
 use Rattle.sp_engine.proofs.WordsByNumbers.{word_by_vote}
 
-abbrev seen : ℕ → List ReadBlock → Bool → Ledger
-seen bits kept broken = record { bits = bits; kept = kept; broken = broken }
+abbrev seen : ℕ → List ReadBlock → Bool → Numbered → Tallied → Ledger
+seen bits kept broken blocks votes = record { bits = bits; kept = kept; broken = broken; numbered = blocks; votes = votes }
 
-module _ {bits genesis : ℕ} {kept : List ReadBlock} {blocks : Numbered} {virts : Virts} where
+module _ {bits genesis : ℕ} {kept : List ReadBlock} {blocks : Numbered} {votes : Tallied} where
   -- what is kept, of the value that contracts see
-  pub engine_of : {broken : Bool} {l : Ledger} {k : Carried} {a : Acceptance} {p : Held} → seen bits kept broken ≡ l
-      → (broken ≡ false → IsEngine bits kept genesis blocks virts × IsAccepting kept blocks k a × IsPaying k a p) → l.broken ≡ false → IsEngine l.bits l.kept genesis blocks virts
-  engine_of view inv whole = subst (λ (l : Ledger). l.broken ≡ false → IsEngine l.bits l.kept genesis blocks virts) view (λ b. (inv b).0) whole
+  pub engine_of : {broken : Bool} {l : Ledger} {k : Carried} {a : Acceptance} {p : Held} → seen bits kept broken blocks votes ≡ l
+      → (broken ≡ false → IsEngine bits kept genesis blocks votes × IsAccepting kept blocks k a × IsPaying k a p) → l.broken ≡ false → IsEngine l.bits l.kept genesis blocks votes
+  engine_of view inv whole = subst (λ (l : Ledger). l.broken ≡ false → IsEngine l.bits l.kept genesis blocks votes) view (λ b. (inv b).0) whole
 
-  pub accepting_of : {broken : Bool} {l : Ledger} {k : Carried} {a : Acceptance} {p : Held} → seen bits kept broken ≡ l
-      → (broken ≡ false → IsEngine bits kept genesis blocks virts × IsAccepting kept blocks k a × IsPaying k a p) → l.broken ≡ false → IsAccepting l.kept blocks k a
+  pub accepting_of : {broken : Bool} {l : Ledger} {k : Carried} {a : Acceptance} {p : Held} → seen bits kept broken blocks votes ≡ l
+      → (broken ≡ false → IsEngine bits kept genesis blocks votes × IsAccepting kept blocks k a × IsPaying k a p) → l.broken ≡ false → IsAccepting l.kept blocks k a
   accepting_of {k = k} {a = a} view inv whole = subst (λ (l : Ledger). l.broken ≡ false → IsAccepting l.kept blocks k a) view (λ b. (inv b).1) whole
 
-  pub paying_of : {broken : Bool} {l : Ledger} {k : Carried} {a : Acceptance} {p : Held} → seen bits kept broken ≡ l
-      → (broken ≡ false → IsEngine bits kept genesis blocks virts × IsAccepting kept blocks k a × IsPaying k a p) → l.broken ≡ false → IsPaying k a p
+  pub paying_of : {broken : Bool} {l : Ledger} {k : Carried} {a : Acceptance} {p : Held} → seen bits kept broken blocks votes ≡ l
+      → (broken ≡ false → IsEngine bits kept genesis blocks votes × IsAccepting kept blocks k a × IsPaying k a p) → l.broken ≡ false → IsPaying k a p
   paying_of view inv whole = (inv (ap (λ (l : Ledger). l.broken) view ∙ whole)).2
 
-  pub present_count : IsEngine bits kept genesis blocks virts → length (present kept) ≡ length blocks.parents
+  pub present_count : IsEngine bits kept genesis blocks votes → length (present kept) ≡ length blocks.parents
   present_count e = present_counts kept blocks.ids e.all_kept.apart e.in_order.distinct e.same ∙ e.in_order.long
 
-  pub order_count : IsEngine bits kept genesis blocks virts → length (order_of kept) ≡ length (present kept)
+  pub order_count : IsEngine bits kept genesis blocks votes → length (order_of kept) ≡ length (present kept)
   order_count e = ap length (sym e.order) ∙ e.in_order.long ∙ sym (present_count e)
 
-  pub few_present : IsEngine bits kept genesis blocks virts → length blocks.parents ≤ length kept
+  pub few_present : IsEngine bits kept genesis blocks votes → length blocks.parents ≤ length kept
   few_present e =
       let few : length blocks.ids ≤ length (ids_of kept) = distinct_within blocks.ids (ids_of kept) e.in_order.distinct e.numbered.there in
       let same : length (ids_of kept) ≡ length kept = length-map kept (λ (b : ReadBlock). b.id) in
       omega (arith, few, same, e.in_order.long)
 
-  pub voted : (x y m n : ℕ) → IsEngine bits kept genesis blocks virts → slice_get blocks.ids m ≡ Some x → slice_get blocks.ids n ≡ Some y → m < length blocks.parents → n < length blocks.parents → (m ≡ n → ⊥)
-      → word_of (entry virts m n) ≡ word (graph_of kept) (present kept) x y
-  voted x y m n e at_x at_y lm ln apart = sym (word_by_vote kept blocks virts x y m n e.all_kept e.in_order e.numbered e.same e.votes at_x at_y lm ln apart)
+  pub voted : (x y m n : ℕ) → IsEngine bits kept genesis blocks votes → slice_get blocks.ids m ≡ Some x → slice_get blocks.ids n ≡ Some y → m < length blocks.parents → n < length blocks.parents → (m ≡ n → ⊥)
+      → word_of (virt (numbered_graph blocks.parents) (numbers blocks) m n) ≡ word (graph_of kept) (present kept) x y
+  voted x y m n e at_x at_y lm ln apart = sym (word_by_vote kept blocks x y m n e.all_kept e.in_order e.numbered e.same at_x at_y lm ln apart)
 
 -- the first block is found by its id
 pub found_first : (kept : List ReadBlock) (id : ℕ) → option_map (λ (b : ReadBlock). b.id) (slice_get kept 0) ≡ Some id → find (λ (b : ReadBlock). eqb b.id id) kept ≡ slice_get kept 0
@@ -65,20 +62,6 @@ found_first (b ∷ rest) id e = (let same : b.id ≡ id = cc in rw (eq-eqb b.id 
 pub is_first : (kept : List ReadBlock) (id : ℕ) → option_map (λ (b : ReadBlock). b.id) (slice_get kept 0) ≡ Some id → find (λ (b : ReadBlock). eqb b.id id) kept ≡ None → ⊥
 is_first [] id e none = cc
 is_first (b ∷ rest) id e none = (let same : b.id ≡ id = cc in let here : Some b ≡ find (λ (b : ReadBlock). eqb b.id id) (b ∷ rest) = sym (found_first (b ∷ rest) id e) in cc)
-
--- all blocks hold the past of each
-pub all_closed : (blocks : Numbered) (set : List ℕ) → IsNumbered blocks → set ≡ numbers blocks → IsClosed (numbered_graph blocks.parents) (length blocks.parents) set
-all_closed blocks set n e = subst (λ (s : List ℕ). IsClosed (numbered_graph blocks.parents) (length blocks.parents) s) (sym e) (record {
-  below = below;
-  closed = λ z a there reached. let lower : a < z = ancestors_lower blocks.parents a z n.order (below z there) reached in
-      let small : z < length blocks.parents = below z there in in_range 0 (length blocks.parents) a (omega arith) (omega arith);
-})
-  where
-    below : (z : ℕ) → has (numbers blocks) z ≡ true → z < length blocks.parents
-    below z there = elim (cases_lt z (length blocks.parents)) [
-      | inl less ↦ less
-      | inr more ↦ absurd (false≢true (sym (past_range 0 (length blocks.parents) z (omega arith)) ∙ there))
-    ]
 
 pub all_items : (p : ℕ → Bool) (xs : List ℕ) (k d : ℕ) → list_all p xs ≡ true → k < length xs → p (get_or xs k d) ≡ true
 all_items p [] k d all le = absurd (omega arith)

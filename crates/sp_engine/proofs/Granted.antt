@@ -1,31 +1,23 @@
 -- Where no two transactions of the present blocks have one id, those that stand for the first of their id don't conflict in a block, and all they leave
 -- is at most what genesis grants.
-use Rattle.std.proofs.Common.{◌≡◌, ℕ, zero, suc, ◌≤◌, Bool, true, false, cond, ◌||◌, eqb, List, [], ◌∷◌, ◌++◌, length, map, Option, Some, None, refl, sym, ap, subst, ◌∙◌, append_assoc, inl, inr}
+use Rattle.std.proofs.Common.{◌≡◌, ℕ, ◌≤◌, Bool, true, cond, eqb, List, [], ◌∷◌, map, Some, refl, sym, ap, subst, ◌∙◌}
 use Rattle.std.specs.Prelude.{find, sum_by, Contains, IsFalse, IsTrue}
 use Rattle.std.specs.List.{list_all}
-use Rattle.std.proofs.lemmas.Bool.{and_parts, eqb-true, eq-eqb, false≢true, or_cases}
-use Rattle.std.proofs.lemmas.List.{append-nil, map-append}
-use Rattle.std.proofs.lemmas.List.Folds.{list_any-append}
+use Rattle.std.proofs.lemmas.Bool.{eq-eqb}
 use Rattle.sp_tx.specs.Parts.{Transaction}
 use Rattle.sp_block.specs.Block.{ReadBlock}
 use Rattle.sp_model.specs.Graph.{AreDistinct, has, IsGraph, keys, parents_of}
 use Rattle.sp_model.proofs.Pasts.{complete_downset}
 use Rattle.sp_model.proofs.Paths.{complete_round}
-use Rattle.sp_model.proofs.Sets.{all_at, all_from, has-filter_from}
-use Rattle.sp_pool.specs.Kept.{AreApart, AreKept, graph_of, ids_of, is_ready, present}
-use Rattle.sp_pool.proofs.Growth.{present_stays, round_from}
-use Rattle.sp_pool.proofs.KeptBlocks.{has-push}
-use Rattle.sp_pool.proofs.Parents.{found_id, found_parents, found_passes}
+use Rattle.sp_model.proofs.Sets.{has-filter_from}
+use Rattle.sp_pool.specs.Kept.{AreKept, graph_of, present}
 use Rattle.sp_carry.specs.Payment.{conflicts, paid_amount, Payment, payment_of, Spent}
-use Rattle.sp_carry.specs.Carried.{first_like}
 use Rattle.sp_carry.specs.Ledger.{accepted_carriers, carried, HasNoTwins, is_accepted, IsPlain, NamesOnce}
 use Rattle.sp_carry.proofs.Conflicts.{sources_accepted, two_accepted}
-use Rattle.sp_carry.proofs.Firsts.{first_or_self}
 use Rattle.sp_carry.proofs.Genesis.{balances_in_graph}
 use Rattle.sp_carry.proofs.Grants.{carried_in}
-use Rattle.sp_carry.proofs.Members.{any_of_member, contains_from_in, in_flat_map, in_from_contains, in_map_from, IsIn}
-use Rattle.sp_engine.specs.Presence.{joining, joins_then, order_from, order_of}
-use Rattle.sp_engine.specs.Transactions.{balance_by_id, ledger_by_id, ledger_of, txs_in, txs_of, txs_or_none}
+use Rattle.sp_carry.proofs.Members.{any_of_member, contains_from_in, in_flat_map, in_from_contains, IsIn}
+use Rattle.sp_engine.specs.Transactions.{balance_by_id, ledger_by_id, ledger_of, txs_of, txs_or_none}
 use Rattle.sp_engine.proofs.ByIds.{txs_own}
 use Rattle.sp_engine.proofs.Twins.{named_once, no_twins}
 

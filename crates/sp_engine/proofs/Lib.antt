@@ -1,4 +1,14 @@
 pub mod Ranges
+pub mod Sharing
+pub mod Tips
+pub mod Bars
+pub mod Covered
+pub mod Beginning
+pub mod Onward
+pub mod Ending
+pub mod Covering
+pub mod Voted
+pub mod Asked
 pub mod SpelledBlocks
 pub mod Presence
 pub mod NumberedBlocks

@@ -1,11 +1,11 @@
 -- The numbers from one on, as a list: which are in it, tests over it, and the row that has them.
-use Rattle.std.proofs.Common.{◌≡◌, ℕ, zero, suc, ◌+◌, ◌-◌, ◌≤◌, ◌<◌, Bool, true, false, cond, ◌||◌, List, ◌∷◌, refl, sym, ap, ◌∙◌, inl, inr, eqb, arith}
+use Rattle.std.proofs.Common.{◌≡◌, ℕ, zero, suc, ◌+◌, ◌≤◌, ◌<◌, Bool, true, false, cond, ◌||◌, List, ◌∷◌, refl, sym, ap, ◌∙◌, inl, inr, eqb, arith}
 use Rattle.std.specs.Prelude.{filter}
 use Rattle.std.specs.List.{list_all, range_with_len}
 use Rattle.std.proofs.lemmas.Bool.{and_from, and_parts, cases_lt, eq-eqb, ne_eqb, or_left, or_right}
 use Rattle.sp_bits.specs.Places.{has as has_place, places_where}
 use Rattle.sp_model.specs.Graph.{has}
-use Rattle.sp_plain.proofs.Ranges.{filter_short}
+use Rattle.sp_dag.proofs.Whole.{filter_cut}
 
 pub all_range : (p : ℕ → Bool) (a n : ℕ) → ((k : ℕ) → a ≤ k → k < a + n → p k ≡ true) → list_all p (range_with_len a n) ≡ true
 all_range p a zero h = refl
@@ -43,8 +43,7 @@ filter_all p a (suc n) h =
 places_range : (p : ℕ → Bool) (n : ℕ) → n ≤ 512 → ((k : ℕ) → k < n → p k ≡ true) → ((k : ℕ) → n ≤ k → p k ≡ false) → places_where p ≡ range_with_len 0 n
 unfolding places_where
 places_range p n le inside outside =
-    let all : n + (512 - n) ≡ 512 = omega arith in
-    ap (λ (m : ℕ). filter p (range_with_len 0 m)) (sym all) ∙ filter_short p n (512 - n) outside
+    filter_cut p 0 n 512 le (λ k high. outside k (omega (arith, high)))
     ∙ filter_all p 0 n (λ k low high. inside k (omega arith))
 
 -- one more number

@@ -11,7 +11,7 @@ use Rattle.sp_model.specs.Graph.{AreDistinct, has, IsDownset}
 use Rattle.sp_pool.specs.Kept.{present}
 use Rattle.sp_dag.specs.Numbered.{graph_of as numbered_graph, Numbered}
 use Rattle.sp_dag.proofs.Whole.{downset_numbered, IsGraph_numbered, keys_are_numbers}
-use Rattle.sp_plain.specs.Virts.{Virts}
+use Rattle.sp_engine.specs.Votes.{Tallied}
 use Rattle.sp_carry.specs.declared.state.TxState.{TxState}
 use Rattle.sp_carry.specs.declared.state.TxState.TheVariants.{Absent}
 use Rattle.sp_carry.specs.Payment.{Payment, payment_of}
@@ -47,7 +47,7 @@ flat_of_map : (f : ℕ → List Transaction) (xs : List ℕ) → flat_map (λ b.
 flat_of_map f [] = refl
 flat_of_map f (x ∷ xs) = ap (λ (l : List Transaction). f x ++ l) (flat_of_map f xs)
 
-module _ {bits genesis : ℕ} {kept : List ReadBlock} {blocks : Numbered} {virts : Virts} {k : Carried} {a : Acceptance} (e : IsEngine bits kept genesis blocks virts) (h : IsAccepting kept blocks k a) where
+module _ {bits genesis : ℕ} {kept : List ReadBlock} {blocks : Numbered} {votes : Tallied} {k : Carried} {a : Acceptance} (e : IsEngine bits kept genesis blocks votes) (h : IsAccepting kept blocks k a) where
   abbrev lists : List (List Transaction)
   lists = map (txs_of kept) blocks.ids
 

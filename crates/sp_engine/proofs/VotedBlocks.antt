@@ -1,5 +1,5 @@
--- Which of two numbered blocks comes first, as acceptance asks it, by the word that the table of votes says.
-use Rattle.std.proofs.Common.{◌≡◌, ◌<◌, Bool, true, false, List, ℕ, zero, suc, length, arith, refl, sym, ap, ◌∙◌}
+-- Which of two numbered blocks comes first, as acceptance asks it, by the word that their virtual vote says.
+use Rattle.std.proofs.Common.{◌≡◌, Bool, true, false, List, ℕ, zero, suc, refl, sym, ap, ◌∙◌}
 use Rattle.std.specs.Prelude.{ℤ, pos, negsuc}
 use Rattle.std.specs.Ordering.{int_eq}
 use Rattle.sp_model.specs.Graph.{Graph}
@@ -8,7 +8,6 @@ use Rattle.sp_model.specs.declared.word.Word.{Word}
 use Rattle.sp_model.specs.declared.word.Word.TheVariants.{Before, After, Tie, Same, Absent}
 use Rattle.sp_dag.specs.Numbered.{graph_of, Numbered}
 use Rattle.sp_dag.proofs.Whole.{keys_are_numbers}
-use Rattle.sp_plain.specs.Virts.{entry, HasVirts, Virts}
 use Rattle.sp_accept.specs.Standing.{is_before}
 use Rattle.sp_engine.specs.Engine.{numbers}
 
@@ -36,10 +35,10 @@ not_first Same isnt = refl
 not_first Absent isnt = refl
 
 -- the word says it
-pub before_is : (blocks : Numbered) (virts : Virts) (table : List (List ℕ)) (x y : ℕ) (w : Word) → HasVirts (graph_of blocks.parents) (numbers blocks) (length blocks.parents) virts
-    → blocks.parents ≡ table → x < length table → y < length table → w ≡ word_of (entry virts x y) → is_first w ≡ is_before table x y
-before_is blocks virts table x y w votes same lx ly is =
-    ap is_first (is ∙ ap word_of (votes.each x y (omega (arith, lx, ap length same)) (omega (arith, ly, ap length same))))
+pub before_is : (blocks : Numbered) (table : List (List ℕ)) (x y : ℕ) (w : Word) → blocks.parents ≡ table
+    → w ≡ word_of (virt (graph_of blocks.parents) (numbers blocks) x y) → is_first w ≡ is_before table x y
+before_is blocks table x y w same is =
+    ap is_first is
     ∙ first_by_vote (graph_of blocks.parents) (numbers blocks) x y
     ∙ ap (λ (s : List ℕ). int_eq (virt (graph_of blocks.parents) s x y) (negsuc 0)) (sym (keys_are_numbers blocks.parents))
     ∙ ap (λ (t : List (List ℕ)). is_before t x y) same

@@ -17,7 +17,6 @@ use Rattle.sp_dag.specs.Numbered.{graph_of as numbered_graph, IsNumbered, number
 use Rattle.sp_dag.proofs.Ids.{id_of_number, number_of_id}
 use Rattle.sp_dag.proofs.Keys.{key_in, key_out}
 use Rattle.sp_dag.proofs.Whole.{downset_numbered, IsGraph_numbered, keys_are_numbers, parents_numbered}
-use Rattle.sp_plain.specs.Virts.{entry, HasVirts, Virts}
 use Rattle.sp_engine.specs.Engine.{AreNumbered, numbers}
 use Rattle.sp_engine.proofs.Counts.{AreDistinct-present}
 
@@ -144,24 +143,22 @@ word_by_numbers kept blocks x y m n are is numbered same at_x at_y =
     ∙ ap (λ (k : ℕ). word (graph_of kept) (present kept) (get_or blocks.ids m 0) k) (sym (get_or_from_slice_get blocks.ids n y 0 at_y))
     ∙ word_of_ids kept blocks are is numbered m n same (omega (arith, is.long)) (omega (arith, is.long))
 
--- ---- words by the table of votes
+-- ---- words by votes
 
--- the word of two different numbers is what the table's entry says
-word_of_numbers : (blocks : Numbered) (virts : Virts) (m n : ℕ) → HasVirts (numbered_graph blocks.parents) (numbers blocks) (length blocks.parents) virts
-    → m < length blocks.parents → n < length blocks.parents → (m ≡ n → ⊥)
-    → word (numbered_graph blocks.parents) (numbers blocks) m n ≡ word_of (entry virts m n)
-word_of_numbers blocks virts m n votes lm ln apart =
+-- the word of two different numbers is what their virtual vote says
+word_of_numbers : (blocks : Numbered) (m n : ℕ) → m < length blocks.parents → n < length blocks.parents → (m ≡ n → ⊥)
+    → word (numbered_graph blocks.parents) (numbers blocks) m n ≡ word_of (virt (numbered_graph blocks.parents) (numbers blocks) m n)
+word_of_numbers blocks m n lm ln apart =
     apart_by (has (numbers blocks) m) (has (numbers blocks) n) (eqb m n) (word_of (virt (numbered_graph blocks.parents) (numbers blocks) m n))
     (number_in blocks m lm) (number_in blocks n ln) (ne_eqb m n apart)
-    ∙ ap word_of (sym (votes.each m n lm ln))
 
--- the word of two different present blocks is what the table says of their numbers
-pub word_by_vote : (kept : List ReadBlock) (blocks : Numbered) (virts : Virts) (x y m n : ℕ) → AreKept kept → IsNumbered blocks → AreNumbered kept blocks
-    → ((id : ℕ) → has blocks.ids id ≡ has (present kept) id) → HasVirts (numbered_graph blocks.parents) (numbers blocks) (length blocks.parents) virts
+-- the word of two different present blocks is what the virtual vote on their numbers says
+pub word_by_vote : (kept : List ReadBlock) (blocks : Numbered) (x y m n : ℕ) → AreKept kept → IsNumbered blocks → AreNumbered kept blocks
+    → ((id : ℕ) → has blocks.ids id ≡ has (present kept) id)
     → slice_get blocks.ids m ≡ Some x → slice_get blocks.ids n ≡ Some y → m < length blocks.parents → n < length blocks.parents → (m ≡ n → ⊥)
-    → word (graph_of kept) (present kept) x y ≡ word_of (entry virts m n)
-word_by_vote kept blocks virts x y m n are is numbered same votes at_x at_y lm ln apart =
-    word_by_numbers kept blocks x y m n are is numbered same at_x at_y ∙ word_of_numbers blocks virts m n votes lm ln apart
+    → word (graph_of kept) (present kept) x y ≡ word_of (virt (numbered_graph blocks.parents) (numbers blocks) m n)
+word_by_vote kept blocks x y m n are is numbered same at_x at_y lm ln apart =
+    word_by_numbers kept blocks x y m n are is numbered same at_x at_y ∙ word_of_numbers blocks m n lm ln apart
 
 -- and where the numbers are the same, the blocks are
 pub word_at_one : (kept : List ReadBlock) (blocks : Numbered) (x y m n : ℕ) → ((id : ℕ) → has blocks.ids id ≡ has (present kept) id)

@@ -1,12 +1,11 @@
 -- What contracts see of the engine, which is `Ledger`, and what it keeps: an invariant, which no public contract cites.
-use Rattle.std.specs.Prelude.{ℕ, ◌≡◌, ◌≤◌, ◌<◌, true, false, Bool, List, [], ◌++◌, map, length, slice_get, slice_index_or, Some, take}
+use Rattle.std.specs.Prelude.{ℕ, ◌≡◌, ◌≤◌, ◌<◌, ◌+◌, true, false, Bool, List, [], ◌++◌, map, length, slice_get, slice_index_or, Some, take}
 use Rattle.std.specs.List.{list_all, range_with_len}
 use Rattle.std.specs.Option.{option_map}
 use Rattle.sp_block.specs.Block.{ReadBlock}
 use Rattle.sp_model.specs.Graph.{has, parents_of}
 use Rattle.sp_pool.specs.Kept.{AreKept, graph_of, ids_of, present}
-use Rattle.sp_dag.specs.Numbered.{graph_of as numbered_graph, IsNumbered, number_of, Numbered}
-use Rattle.sp_plain.specs.Virts.{HasVirts, Virts}
+use Rattle.sp_dag.specs.Numbered.{IsNumbered, number_of, Numbered}
 use Rattle.sp_tx.specs.Parts.{Transaction}
 use Rattle.sp_tx.specs.Spending.{id_of}
 use Rattle.sp_carry.specs.Carried.{AreSound, Carried, Carries, IsCarried}
@@ -14,16 +13,40 @@ use Rattle.sp_accept.specs.Acceptance.{Acceptance, IsRight, is_set}
 use Rattle.sp_money.specs.Held.{Held, IsOf}
 use Rattle.sp_money.specs.Locks.{each_once}
 use Rattle.sp_engine.specs.Presence.{order_of}
+use Rattle.sp_engine.specs.Votes.{AreVoted, Grew, Tallied}
+use Rattle.sp_engine.specs.declared.answer.Answer.{Answer}
+use Rattle.sp_engine.specs.declared.answer.Answer.TheVariants as answer
 use Rattle.sp_engine.specs.Transactions.{tx_ids_in, txs_of}
 
--- the bits of work, the kept blocks, and whether memory was refused
+-- the bits of work, the kept blocks, whether memory was refused, and the present blocks by number with their votes
 pub record Ledger : Type 0 where
   pub bits : ℕ
   pub kept : List ReadBlock
   pub broken : Bool
+  pub numbered : Numbered
+  pub votes : Tallied
 
-abbrev pub ledger : ℕ → List ReadBlock → Ledger
-ledger bits kept = record { bits = bits; kept = kept; broken = false }
+-- an engine of these bits and kept blocks, to which memory wasn't refused
+pub record IsLedger (bits : ℕ) (kept : List ReadBlock) (engine : Ledger) : Type 0 where
+  pub bits_are : engine.bits ≡ bits
+  pub kept_are : engine.kept ≡ kept
+  pub whole : engine.broken ≡ false
+
+-- whether blocks became present
+abbrev pub is_growth : Answer → Bool
+is_growth (answer.Kept id present) = true
+is_growth (answer.Held id) = false
+is_growth (answer.Known id) = false
+is_growth (answer.Refused refusal) = false
+is_growth answer.Full = false
+
+-- where nothing became present, the blocks that are numbered stay, and all their votes, rows and views
+abbrev pub Stays : Ledger → Ledger → Type 0
+Stays old new = (new.numbered ≡ old.numbered) × (new.votes ≡ old.votes)
+
+-- Where one block became present, it has the next number, and the votes grew by it.
+abbrev pub GrewByOne : Ledger → Ledger → Type 0
+GrewByOne old new = (length new.numbered.parents ≡ length old.numbered.parents + 1) × Grew new.numbered.parents (length old.numbered.parents) old.votes new.votes
 
 -- the numbered blocks are kept ones, genesis among them, with the parents of each, which are numbered too
 pub record AreNumbered (kept : List ReadBlock) (blocks : Numbered) : Type 0 where
@@ -37,7 +60,7 @@ abbrev pub numbers : Numbered → List ℕ
 numbers blocks = range_with_len 0 (length blocks.parents)
 
 -- the numbered blocks are the present ones in their order, and the votes are those of all of them
-pub record IsEngine (bits : ℕ) (kept : List ReadBlock) (genesis : ℕ) (blocks : Numbered) (virts : Virts) : Type 0 where
+pub record IsEngine (bits : ℕ) (kept : List ReadBlock) (genesis : ℕ) (blocks : Numbered) (votes : Tallied) : Type 0 where
   pub small : bits ≤ 64
   pub all_kept : AreKept kept
   pub first : option_map (λ (block : ReadBlock). block.id) (slice_get kept 0) ≡ Some genesis
@@ -45,7 +68,7 @@ pub record IsEngine (bits : ℕ) (kept : List ReadBlock) (genesis : ℕ) (blocks
   pub numbered : AreNumbered kept blocks
   pub order : blocks.ids ≡ order_of kept
   pub same : (id : ℕ) → has blocks.ids id ≡ has (present kept) id
-  pub votes : HasVirts (numbered_graph blocks.parents) (numbers blocks) (length blocks.parents) virts
+  pub voted : AreVoted blocks.parents votes
 
 -- the carriers are those of the numbered blocks, in their order, and are marked sound where they are so in their graph
 pub record AreCarried (kept : List ReadBlock) (blocks : Numbered) (k : Carried) : Type 0 where

@@ -1,9 +1,8 @@
 -- The transactions of the kept blocks: the ledger that they make, and the order in which they became present.
-use Rattle.std.specs.Prelude.{ℕ, ◌==◌, if◌then◌else◌, List, [], ◌∷◌, ◌++◌, map, find, fold, flat_map, Option, Some, None}
+use Rattle.std.specs.Prelude.{ℕ, ◌==◌, List, [], map, find, flat_map, Option, Some, None}
 use Rattle.sp_tx.specs.Parts.{Transaction}
 use Rattle.sp_tx.specs.Spending.{id_of}
 use Rattle.sp_block.specs.Block.{ReadBlock}
-use Rattle.sp_model.specs.Graph.{has}
 use Rattle.sp_pool.specs.Kept.{graph_of, present}
 use Rattle.sp_carry.specs.declared.state.TxState.{TxState}
 use Rattle.sp_carry.specs.Carried.{first_like}

@@ -1,21 +1,19 @@
 //! Acceptance over the present blocks, where their votes say how two of them stand, and what it turns
 //! in the purse.
 
-ghost use Rattle.std.specs.Prelude.{◌≡◌, length, OnOk};
-ghost use Rattle.sp_dag.specs.Numbered.{graph_of};
-ghost use Rattle.sp_plain.specs.Virts.{HasVirts};
+ghost use Rattle.std.specs.Prelude.{◌≡◌, OnOk};
 ghost use Rattle.sp_accept.specs.Acceptance.{IsRight};
 ghost use Rattle.sp_accept.specs.Rows.{AreOf};
-ghost use Rattle.sp_engine.specs.Engine.{numbers, IsPaying, WasPaying};
+ghost use Rattle.sp_engine.specs.Engine.{IsPaying, WasPaying};
+ghost use Rattle.sp_engine.specs.Votes.{AreVoted};
 
-use crate::votes::word_at;
+use crate::votes::Votes;
 use sp_accept::{Accepted, Order};
 use sp_carry::Carriers;
 use sp_dag::Dag;
 use sp_ids::Memory;
 use sp_model::Word;
 use sp_money::Purse;
-use sp_plain::Matrix;
 use std::marker::Model;
 
 /// The present blocks by number, in the order that the votes of all of them give. Contracts see the
@@ -23,28 +21,25 @@ use std::marker::Model;
 #[derive(Drop)]
 struct VotedOrder<'a> {
     dag: &'a Dag,
-    votes: &'a Matrix,
+    votes: &'a Votes,
 }
 
 impl<'a> Model for VotedOrder<'a> {
-    ghost use Rattle.std.specs.Prelude.{List, ℕ, length};
-    ghost use Rattle.sp_dag.specs.Numbered.{graph_of};
-    ghost use Rattle.sp_plain.specs.Virts.{HasVirts};
-    ghost use Rattle.sp_engine.specs.Engine.{numbers};
+    ghost use Rattle.std.specs.Prelude.{List, ℕ};
+    ghost use Rattle.sp_engine.specs.Votes.{AreVoted};
 
     ghost Value = { List (List ℕ) };
 
     ghost view = { λ o. o.dag.now.parents };
 
-    ghost invariant = { λ o. HasVirts (graph_of o.dag.now.parents) (numbers o.dag.now)
-        (length o.dag.now.parents) o.votes.now };
+    ghost invariant = { λ o. AreVoted o.dag.now.parents o.votes.now };
 }
 
 impl<'a> Order for VotedOrder<'a> {
     ghost table = { λ o. o };
 
     fn before(&self, x: u16, y: u16) -> bool {
-        matches!(word_at(self.votes, x, y), Word::Before)
+        matches!(self.votes.word(self.dag, x, y), Word::Before)
     }
 
     fn in_past(&self, x: u16, y: u16) -> bool {
@@ -60,13 +55,12 @@ impl<'a> Order for VotedOrder<'a> {
 /// `Memory` where there was none; what was accepted stays.
 pub(crate) fn accept_all(
     dag: &Dag,
-    votes: &Matrix,
+    votes: &Votes,
     carriers: &Carriers,
     accepted: &mut Accepted,
     purse: &mut Purse,
 ) -> Result<(), Memory>
-    requires votes { HasVirts (graph_of dag.now.parents) (numbers dag.now)
-        (length dag.now.parents) votes.now }
+    requires voted { AreVoted dag.now.parents votes.now }
     requires of { AreOf dag.now.parents carriers.now }
     requires paying { WasPaying carriers.now accepted.old purse.old }
     ensures right { OnOk result (IsRight dag.now.parents carriers.now accepted.new) }

@@ -1,7 +1,8 @@
 //! The engine: the kept blocks, the graph of the present ones, the votes of all of them, which of
 //! their transactions are accepted, and what these leave under each lock.
 
-ghost use Rattle.std.specs.Prelude.{◌≡◌, ◌≤◌, ◌<◌, ◌+◌, ◌++◌, ◌∷◌, [], ◌==◌, ℕ, false, find, length, slice_get, Some, IfOk, OnOk, is_err, ◌↔◌, IsFalse};
+ghost use Rattle.std.specs.Prelude.{◌≡◌, ◌≤◌, ◌<◌, ◌+◌, ◌++◌, ◌∷◌, [], ◌==◌, ℕ, false, find, length, slice_get, Some, IfNone, IfOk, IfSome, OnOk, is_err, ◌↔◌, IsFalse, IsTrue};
+ghost use Rattle.std.specs.List.{range_with_len};
 ghost use Rattle.std.specs.Option.{option_copied};
 ghost use Rattle.sp_ids.specs.Bits.{BeginsWithZeros};
 ghost use Rattle.sp_block.specs.Block.{IsGenesis, IsOther};
@@ -9,8 +10,13 @@ ghost use Rattle.sp_model.specs.Graph.{has, AreDistinct};
 ghost use Rattle.sp_model.specs.Votes.{word};
 ghost use Rattle.sp_pool.specs.Kept.{AreKept, graph_of, present, standing_of};
 ghost use Rattle.sp_pool.specs.declared.answers.Standing.{Standing};
+ghost use Rattle.sp_dag.specs.Numbered.{IsNumbered};
+ghost use Rattle.sp_frozen.specs.Voters.{HoldsFrozen};
+ghost use Rattle.sp_view.specs.Stored.{count_of};
+ghost use Rattle.sp_view.specs.Views.{IsView};
 ghost use Rattle.sp_engine.specs.Arrivals.{answer_of, joined, kept_after};
 ghost use Rattle.sp_engine.specs.Presence.{order_of};
+ghost use Rattle.sp_engine.specs.declared.answer.Answer.TheVariants.{Kept};
 ghost use Rattle.sp_engine.specs.Transactions.{balance_by_id, ledger_by_id, ledger_of, locks, state_of, tx_ids};
 ghost use Rattle.sp_carry.specs.declared.state.TxState.{TxState};
 ghost use Rattle.sp_carry.specs.Ledger.{is_accepted, is_carried, state, IsPlain};
@@ -21,21 +27,25 @@ use crate::answer::{Answer, Refusal};
 use crate::first::first_of;
 use crate::numbering::add_all;
 use crate::valid::valid_block;
-use crate::votes::{votes_of_all, word_at};
+use crate::votes::Votes;
 use sp_accept::Accepted;
 use sp_block::Block;
 use sp_carry::{Carriers, TxState};
 use sp_dag::Dag;
+use sp_frozen::Frozen;
 use sp_ids::{BlockId, Lock, Memory, TxId};
 use sp_model::Word;
 use sp_money::Purse;
-use sp_plain::Matrix;
 use sp_pool::{Offer, Pool, Standing};
+use sp_rows::RowPool;
+use sp_view::View;
 use std::alloc::Global;
 use std::marker::Model;
 
 /// The ledger at one node: the blocks that it keeps, and what they say. Contracts see the bits of
-/// work, the kept blocks in their order, genesis first, and whether memory was refused.
+/// work, the kept blocks in their order, genesis first, whether memory was refused, and the present
+/// blocks by number with their votes: frozen ones, and views of the tips and of all of them, whose
+/// rows one pool has.
 #[derive(Drop)]
 pub struct Engine {
     alloc: Global,
@@ -44,8 +54,8 @@ pub struct Engine {
     pool: Pool,
     // The present blocks by number.
     dag: Dag,
-    // The virtual votes of all of them.
-    votes: Matrix,
+    // Their votes.
+    votes: Votes,
     // Their transactions, and the carriers of each.
     carriers: Carriers,
     // Which of these are accepted.
@@ -61,7 +71,13 @@ impl Model for Engine {
 
     ghost Value = { Ledger };
 
-    ghost view = { λ e. record { bits = e.bits; kept = e.pool; broken = e.broken } };
+    ghost view = { λ e. record {
+      bits = e.bits;
+      kept = e.pool;
+      broken = e.broken;
+      numbered = e.dag;
+      votes = e.votes;
+    } };
 
     ghost invariant = { λ e. e.broken ≡ false →
         IsEngine e.bits e.pool e.genesis e.dag e.votes × IsAccepting e.pool e.dag e.carriers e.accepted
@@ -69,7 +85,8 @@ impl Model for Engine {
 }
 
 impl Engine {
-    ghost use Rattle.sp_engine.specs.Engine.{ledger};
+    ghost use Rattle.sp_engine.specs.Engine.{AreNumbered, GrewByOne, is_growth, IsLedger, Stays};
+    ghost use Rattle.sp_engine.specs.Votes.{held_by, is_tip, IsOfAll, IsOfTip};
 
     /// An engine of genesis alone, which is present.
     ///
@@ -79,7 +96,7 @@ impl Engine {
     pub fn new(alloc: Global, genesis: Block, bits: u8) -> Result<Engine, Memory>
         requires genesis { IsGenesis genesis }
         requires bits { bits ≤ 64 }
-        ensures { IfOk result (λ engine. engine ≡ ledger bits (genesis ∷ [])) }
+        ensures { IfOk result (IsLedger bits (genesis ∷ [])) }
     {
         let id = genesis.id;
         let first = first_of(alloc, id, &genesis.txs)?;
@@ -104,8 +121,8 @@ impl Engine {
     /// finds room. They are refused by their first fault or for their work; else the block is
     /// known, else there is no room for it, else it is kept, and waits or is present.
     ///
-    /// A block that becomes present takes the time of the votes of all present blocks anew, and of
-    /// one pass over their transactions.
+    /// A block that becomes present takes the time of its own votes and of those that it changes, and
+    /// of one pass over all transactions.
     ///
     /// # Errors
     ///
@@ -118,6 +135,10 @@ impl Engine {
             (self.new.kept ≡ kept_after self.old.bits self.old.kept bytes.now) }
         ensures bits { self.new.bits ≡ self.old.bits }
         ensures broken { self.new.broken ≡ is_err result }
+        ensures idle { IfOk result (λ answer. IsFalse (is_growth answer) →
+            Stays self.old self.new) }
+        ensures one { IfOk result (λ answer. (id : ℕ) → answer ≡ Kept id 1 →
+            GrewByOne self.old self.new) }
     {
         let found = valid_block(self.alloc, self.bits, bytes);
         let Ok(found) = found else {
@@ -150,14 +171,23 @@ impl Engine {
         ensures kept { OnOk result (self.new.kept ≡ self.old.kept ++ block ∷ []) }
         ensures bits { self.new.bits ≡ self.old.bits }
         ensures broken { self.new.broken ≡ is_err result }
+        ensures idle { IfOk result (λ answer. IsFalse (is_growth answer) →
+            Stays self.old self.new) }
+        ensures one { IfOk result (λ answer. (id : ℕ) → answer ≡ Kept id 1 →
+            GrewByOne self.old self.new) }
     {
         let id = block.id;
         self.broken = true;
         match self.pool.offer(block)? {
             Offer::Present(ids) => {
                 let ids = ids.as_slice();
-                add_all(&self.pool, &mut self.dag, &mut self.carriers, ids)?;
-                self.votes = votes_of_all(self.alloc, &self.dag)?;
+                add_all(
+                    &self.pool,
+                    &mut self.dag,
+                    &mut self.votes,
+                    &mut self.carriers,
+                    ids,
+                )?;
                 // Tells the proof what numbered blocks are.
                 let _blocks = self.dag.len();
                 accept_all(
@@ -180,8 +210,8 @@ impl Engine {
         }
     }
 
-    /// What the present blocks say of two blocks. Their votes stand ready, so it takes about the
-    /// time of two look-ups by hash.
+    /// What the present blocks say of two blocks. Their rows stand ready, so it takes about the time
+    /// of two look-ups by hash and of four counts.
     pub fn vote(&self, x: &BlockId, y: &BlockId) -> Word
         requires { self.now.broken ≡ false }
         ensures { result ≡
@@ -196,7 +226,7 @@ impl Engine {
         if first == second {
             return Word::Same;
         }
-        word_at(&self.votes, first, second)
+        self.votes.word(&self.dag, first, second)
     }
 
     /// What the present blocks say of a transaction: accepted, rejected, or carried by none of them.
@@ -327,6 +357,64 @@ impl Engine {
         ensures { slice_get (order_of self.now.kept) n ≡ Some result }
     {
         self.dag.id(n)
+    }
+
+    /// The present blocks by number, in the order in which they became so.
+    pub fn dag(&self) -> &Dag
+        requires { self.now.broken ≡ false }
+        ensures dag { result.now ≡ self.now.numbered }
+        ensures numbered { IsNumbered result.now }
+        ensures ids { result.now.ids ≡ order_of self.now.kept }
+        ensures blocks { AreNumbered self.now.kept result.now }
+    {
+        &self.dag
+    }
+
+    /// The frozen votes of the present blocks.
+    pub fn frozen(&self) -> &Frozen
+        requires { self.now.broken ≡ false }
+        ensures frozen { result.now ≡ self.now.votes.frozen }
+        ensures holds { HoldsFrozen self.now.numbered.parents result.now }
+        ensures blocks { result.now.blocks ≡ length self.now.numbered.parents }
+    {
+        self.votes.frozen()
+    }
+
+    /// The pool of all rows that the views hold: each row is counted once for each entry of a view that
+    /// holds it.
+    pub fn row_pool(&self) -> &RowPool
+        requires { self.now.broken ≡ false }
+        ensures pool { result.now ≡ self.now.votes.rows }
+        ensures counts { (row : ℕ) →
+            count_of result.now row ≡ held_by self.now.votes.views row }
+    {
+        self.votes.rows()
+    }
+
+    /// The view of all present blocks.
+    pub fn view_all(&self) -> &View
+        requires { self.now.broken ≡ false }
+        ensures view { IsOfAll self.now.votes result.now }
+        ensures members { result.now.members
+            ≡ range_with_len 0 (length self.now.numbered.parents) }
+        ensures holds { IsView self.now.numbered.parents result.now self.now.votes.rows }
+    {
+        self.votes.all()
+    }
+
+    /// The view of the block of this number and its past, or `None` where a present block has it as a
+    /// parent. It takes a step for each tip.
+    pub fn tip_view(&self, n: u16) -> Option<&View>
+        requires whole { self.now.broken ≡ false }
+        requires within { n < length self.now.numbered.parents }
+        ensures view { IfSome result (λ view.
+            IsOfTip self.now.numbered.parents self.now.votes n view.now) }
+        ensures holds { IfSome result (λ view.
+            IsView self.now.numbered.parents view.now self.now.votes.rows) }
+        ensures tip { IfSome result (λ view. IsTrue (is_tip self.now.numbered.parents n)) }
+        ensures none { IfNone result (IsFalse (is_tip self.now.numbered.parents n)) }
+    {
+        self.votes.tip(&self.dag, n)
     }
 
     /// The bits of work that an id has to meet.

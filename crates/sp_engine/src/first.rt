@@ -4,21 +4,20 @@
 //! makes the proof of one function long.
 
 ghost use Rattle.std.specs.Prelude.{◌≡◌, ◌≤◌, ◌∷◌, [], IfOk, length};
-ghost use Rattle.sp_dag.specs.Numbered.{graph_of, IsNumbered};
-ghost use Rattle.sp_plain.specs.Virts.{HasVirts};
+ghost use Rattle.sp_dag.specs.Numbered.{IsNumbered};
 ghost use Rattle.sp_carry.specs.Carried.{IsCarried, nothing, with_block};
 ghost use Rattle.sp_accept.specs.Acceptance.{IsRight};
 ghost use Rattle.sp_accept.specs.Rows.{AreOf};
-ghost use Rattle.sp_engine.specs.Engine.{numbers, IsPaying};
+ghost use Rattle.sp_engine.specs.Engine.{IsPaying};
+ghost use Rattle.sp_engine.specs.Votes.{AreVoted};
 
 use crate::acceptance::accept_all;
-use crate::votes::votes_of_all;
+use crate::votes::Votes;
 use sp_accept::Accepted;
 use sp_carry::Carriers;
 use sp_dag::Dag;
 use sp_ids::{BlockId, Memory};
 use sp_money::Purse;
-use sp_plain::Matrix;
 use sp_tx::Txs;
 use std::alloc::Global;
 
@@ -32,7 +31,7 @@ pub(crate) struct First {
 /// The votes of genesis, its carriers, which of these are accepted, and what they leave.
 #[derive(Drop)]
 pub(crate) struct Decided {
-    pub(crate) votes: Matrix,
+    pub(crate) votes: Votes,
     pub(crate) carriers: Carriers,
     pub(crate) accepted: Accepted,
     pub(crate) purse: Purse,
@@ -48,8 +47,7 @@ pub(crate) fn first_of(alloc: Global, id: BlockId, txs: &Txs) -> Result<First, M
     ensures dag { IfOk result (λ first.
         first.dag ≡ record { ids = id ∷ []; parents = [] ∷ [] }) }
     ensures numbered { IfOk result (λ first. IsNumbered first.dag) }
-    ensures votes { IfOk result (λ first. HasVirts (graph_of first.dag.parents)
-        (numbers first.dag) (length first.dag.parents) first.decided.votes) }
+    ensures voted { IfOk result (λ first. AreVoted first.dag.parents first.decided.votes) }
     ensures carriers { IfOk result (λ first. first.decided.carriers
         ≡ with_block first.dag.parents nothing txs.now) }
     ensures carried { IfOk result (λ first. IsCarried first.decided.carriers) }
@@ -71,8 +69,7 @@ pub(crate) fn first_of(alloc: Global, id: BlockId, txs: &Txs) -> Result<First, M
 fn first_decided(alloc: Global, dag: &Dag, txs: &Txs) -> Result<Decided, Memory>
     requires alone { dag.now.parents ≡ [] ∷ [] }
     requires few { length txs.now ≤ 256 }
-    ensures votes { IfOk result (λ decided. HasVirts (graph_of dag.now.parents)
-        (numbers dag.now) (length dag.now.parents) decided.votes) }
+    ensures voted { IfOk result (λ decided. AreVoted dag.now.parents decided.votes) }
     ensures carriers { IfOk result (λ decided.
         decided.carriers ≡ with_block dag.now.parents nothing txs.now) }
     ensures carried { IfOk result (λ decided. IsCarried decided.carriers) }
@@ -85,7 +82,7 @@ fn first_decided(alloc: Global, dag: &Dag, txs: &Txs) -> Result<Decided, Memory>
 {
     // Tells the proof what numbered blocks are.
     let _blocks = dag.len();
-    let votes = votes_of_all(alloc, dag)?;
+    let votes = first_votes(alloc, dag)?;
     let carriers = first_carriers(alloc, dag, txs)?;
     let (accepted, purse) = first_accepted(alloc, dag, &votes, &carriers)?;
     Ok(Decided {
@@ -94,6 +91,18 @@ fn first_decided(alloc: Global, dag: &Dag, txs: &Txs) -> Result<Decided, Memory>
         accepted,
         purse,
     })
+}
+
+// The votes of genesis.
+fn first_votes(alloc: Global, dag: &Dag) -> Result<Votes, Memory>
+    requires { dag.now.parents ≡ [] ∷ [] }
+    ensures { IfOk result (AreVoted dag.now.parents) }
+{
+    // Tells the proof what numbered blocks are.
+    let _blocks = dag.len();
+    let mut votes = Votes::new(alloc)?;
+    votes.add(dag)?;
+    Ok(votes)
 }
 
 // The carriers of genesis.
@@ -116,11 +125,10 @@ fn first_carriers(alloc: Global, dag: &Dag, txs: &Txs) -> Result<Carriers, Memor
 fn first_accepted(
     alloc: Global,
     dag: &Dag,
-    votes: &Matrix,
+    votes: &Votes,
     carriers: &Carriers,
 ) -> Result<(Accepted, Purse), Memory>
-    requires votes { HasVirts (graph_of dag.now.parents) (numbers dag.now)
-        (length dag.now.parents) votes.now }
+    requires voted { AreVoted dag.now.parents votes.now }
     requires of { AreOf dag.now.parents carriers.now }
     ensures right { IfOk result (λ found. IsRight dag.now.parents carriers.now found.0) }
     ensures all { IfOk result (λ found. found.0.blocks ≡ carriers.now.blocks) }

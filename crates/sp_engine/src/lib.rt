@@ -12,11 +12,13 @@ mod acceptance;
 mod answer;
 mod engine;
 mod first;
+mod joining;
 pub mod laws;
 mod numbering;
 pub mod payments;
 mod valid;
 mod votes;
+mod words;
 
 pub use answer::{Answer, Refusal};
 pub use engine::Engine;

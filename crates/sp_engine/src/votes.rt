@@ -1,53 +1,156 @@
-//! The votes of all present blocks, and the word that a vote says.
+//! The votes of all present blocks: frozen ones, and rows of loose ones that the views of the tips
+//! and of all blocks share.
 
-ghost use Rattle.std.specs.Prelude.{◌≡◌, ◌≤◌, ◌<◌, IfOk, length};
-ghost use Rattle.std.specs.List.{range_with_len};
-ghost use Rattle.sp_model.specs.Votes.{word_of};
-ghost use Rattle.sp_dag.specs.Numbered.{graph_of};
-ghost use Rattle.sp_plain.specs.Virts.{entry, HasVirts};
+ghost use Rattle.std.specs.Prelude.{◌≡◌, ◌≢◌, ◌<◌, ◌≤◌, ◌+◌, ℕ, List, length, IfOk, IfSome, IfNone, OnOk, IsTrue, IsFalse, ◌↔◌};
+ghost use Rattle.sp_bits.specs.Places.{IsGreatest};
+ghost use Rattle.sp_model.specs.Votes.{virt, word_of};
+ghost use Rattle.sp_dag.specs.Numbered.{graph_of, AreInOrder};
+ghost use Rattle.sp_view.specs.Views.{IsView};
 ghost use Rattle.sp_engine.specs.Engine.{numbers};
+ghost use Rattle.sp_engine.specs.Votes.{AreVoted, Grew, HoldsVotes, IsOfAll, IsOfTip, is_tip};
 
+use crate::joining::{new_tip, put_tip, release_within};
+use crate::words::{related_word, word_by};
 use sp_bits::Row;
 use sp_dag::Dag;
+use sp_frozen::Frozen;
 use sp_ids::Memory;
 use sp_model::Word;
-use sp_plain::{Matrix, plain_votes};
+use sp_rows::RowPool;
+use sp_view::View;
 use std::alloc::Global;
+use std::marker::Model;
 
-/// The row of all numbers below the count.
-fn row_below(count: u16) -> Row
-    requires { count ≤ 512 }
-    ensures { result ≡ range_with_len 0 count }
+/// The votes of the first blocks of a graph. Contracts see the frozen votes, the pool of rows, and
+/// the views over it: those of the tips, ascending, and behind them that of all blocks.
+#[derive(Drop)]
+pub(crate) struct Votes {
+    alloc: Global,
+    frozen: Frozen,
+    rows: RowPool,
+    views: Vec<View>,
+}
+
+impl Model for Votes {
+    ghost use Rattle.sp_engine.specs.Votes.{Tallied};
+
+    ghost Value = { Tallied };
+
+    ghost view = { λ v. record { frozen = v.frozen; rows = v.rows; views = v.views.items } };
+}
+
+// Whether a place is the highest one of a row.
+fn is_top(row: &Row, place: u16) -> bool
+    ensures { IsTrue result ↔ IsGreatest row.now place }
 {
-    let mut row = Row::empty();
-    for number in 0..count {
-        row.set(number);
+    match row.highest() {
+        Some(top) => top == place,
+        None => false,
     }
-    row
 }
 
-/// The virtual votes of all blocks on each two of them.
-pub(crate) fn votes_of_all(alloc: Global, dag: &Dag) -> Result<Matrix, Memory>
-    ensures { IfOk result
-        (HasVirts (graph_of dag.now.parents) (numbers dag.now) (length dag.now.parents)) }
-{
-    let members = row_below(dag.len());
-    let votes = plain_votes(alloc, dag, &members)?;
-    Ok(votes)
-}
+impl Votes {
+    /// The votes of no blocks.
+    ///
+    /// # Errors
+    ///
+    /// Memory was refused.
+    pub(crate) fn new(alloc: Global) -> Result<Votes, Memory>
+        ensures holds { IfOk result (λ votes. (table : List (List ℕ)) → AreInOrder table →
+            HoldsVotes table votes) }
+        ensures blocks { IfOk result (λ votes. votes.frozen.blocks ≡ 0) }
+    {
+        let mut views = Vec::new(alloc);
+        views.push(View::empty(alloc))?;
+        Ok(Votes {
+            alloc,
+            frozen: Frozen::new(alloc),
+            rows: RowPool::new(alloc),
+            views,
+        })
+    }
 
-/// The word that the virtual vote on two blocks says.
-pub(crate) fn word_at(votes: &Matrix, x: u16, y: u16) -> Word
-    requires x_in { x < votes.now.width }
-    requires y_in { y < votes.now.width }
-    ensures { result ≡ word_of (entry votes.now x y) }
-{
-    let vote = votes.vote(x, y);
-    if vote < 0 {
-        Word::Before
-    } else if vote == 0 {
-        Word::Tie
-    } else {
-        Word::After
+    /// Adds the last block of a graph, whose other blocks were added.
+    ///
+    /// # Errors
+    ///
+    /// Memory was refused.
+    pub(crate) fn add(&mut self, dag: &Dag) -> Result<(), Memory>
+        requires holds { HoldsVotes dag.now.parents self.old }
+        requires next { length dag.now.parents ≡ self.old.frozen.blocks + 1 }
+        ensures voted { OnOk result (AreVoted dag.now.parents self.new) }
+        ensures grew { OnOk result
+            (Grew dag.now.parents self.old.frozen.blocks self.old self.new) }
+    {
+        // Tells the proof that there are at most 512 blocks.
+        let b = dag.len() - 1;
+        self.views.reserve(1)?;
+        let views = self.views.as_slice();
+        let tip = new_tip(self.alloc, views, dag, &mut self.frozen, &mut self.rows)?;
+        put_tip(&mut self.views, dag, &self.frozen, &mut self.rows, tip)?;
+        release_within(&mut self.views, &mut self.rows, dag.past(b));
+        Ok(())
+    }
+
+    /// The frozen votes, lent as they stand.
+    pub(crate) fn frozen(&self) -> &Frozen
+        ensures { result.now ≡ self.now.frozen }
+    {
+        &self.frozen
+    }
+
+    /// The pool of rows, lent as it stands.
+    pub(crate) fn rows(&self) -> &RowPool
+        ensures { result.now ≡ self.now.rows }
+    {
+        &self.rows
+    }
+
+    /// The view of all blocks.
+    pub(crate) fn all(&self) -> &View
+        requires { 0 < length self.now.views }
+        ensures { IsOfAll self.now result.now }
+    {
+        &self.views[self.views.len() - 1]
+    }
+
+    /// The view of a tip and its past, or `None` where a block has it as a parent.
+    pub(crate) fn tip(&self, dag: &Dag, n: u16) -> Option<&View>
+        requires voted { AreVoted dag.now.parents self.now }
+        requires within { n < length dag.now.parents }
+        ensures some { IfSome result (λ view. IsOfTip dag.now.parents self.now n view.now) }
+        ensures holds { IfSome result (λ view. IsView dag.now.parents view.now self.now.rows) }
+        ensures tip { IfSome result (λ view. IsTrue (is_tip dag.now.parents n)) }
+        ensures none { IfNone result (IsFalse (is_tip dag.now.parents n)) }
+    {
+        // Tells the proof that the blocks stand in order.
+        let _blocks = dag.len();
+        let tips = self.views.len() - 1;
+        'tips: for i in 0..tips {
+            if is_top(self.views[i].members(), n) {
+                return Some(&self.views[i]);
+            }
+        }
+        None
+    }
+
+    /// The word of two different blocks, by four counts at most.
+    pub(crate) fn word(&self, dag: &Dag, x: u16, y: u16) -> Word
+        requires voted { AreVoted dag.now.parents self.now }
+        requires x_in { x < length dag.now.parents }
+        requires y_in { y < length dag.now.parents }
+        requires other { x ≢ y }
+        ensures { result ≡
+            word_of (virt (graph_of dag.now.parents) (numbers dag.now) x y) }
+    {
+        // Tells the proof that the blocks stand in order.
+        let _blocks = dag.len();
+        match dag.pair_of(x, y) {
+            Some(pair) => {
+                let vote = self.all().virtual_vote(&self.frozen, &self.rows, pair);
+                word_by(vote, x < y)
+            }
+            None => related_word(dag, x, y),
+        }
     }
 }

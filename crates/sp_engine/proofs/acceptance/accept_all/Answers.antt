@@ -1,4 +1,4 @@
-use Rattle.std.proofs.Common.{◌∙◌, ap, sym}
+use Rattle.std.proofs.Common.{◌∙◌}
 use Rattle.sp_engine.proofs.Paying.{now_paying, off_all}
 use Rattle.sp_engine.proofs.acceptance.accept_all.Goals as goal
 

@@ -1,4 +1,6 @@
 use Rattle.sp_engine.proofs.Released.{more_ids, next_of, rest_of}
+use Rattle.std.proofs.Common.{arith}
+use Rattle.sp_engine.proofs.Onward.{one_more}
 use Rattle.sp_engine.proofs.Paying.{goes_then}
 use Rattle.sp_engine.proofs.numbering.add_all.Goals as goal
 
@@ -8,6 +10,11 @@ add_one-requires-clause-next c = next_of c.args.pool.now c.loop-id.dag.ids c.arg
 pub loop-id-preserved : goal.loop-id-preserved
 loop-id-preserved c = record {
   numbered = c.in_ok-add_one.ensures.numbered;
+  voted = c.in_ok-add_one.ensures.voted;
+  none = λ at. absurd (omega (arith, at));
+  one = λ at.
+      let first = c.loop-id.invariant.none (omega (arith, at)) in
+      one_more c.args.dag.now c.loop-id.dag c.add_one.new.dag c.args.votes.now c.loop-id.votes c.add_one.new.votes first.0 first.1 c.in_ok-add_one.ensures.long c.in_ok-add_one.ensures.grew;
   carried = c.in_ok-add_one.ensures.carried;
   ids = more_ids c.args.dag.now.ids c.loop-id.dag.ids c.add_one.new.dag.ids c.args.ids.now c.loop-id.id-index c.id-item.result c.loop-id.invariant.ids c.loop-id-test.true c.id-item.is c.in_ok-add_one.ensures.ids;
   more = goes_then c.args.carriers.now.txs c.loop-id.carriers.txs c.add_one.new.carriers.txs c.loop-id.invariant.more c.in_ok-add_one.ensures.more;

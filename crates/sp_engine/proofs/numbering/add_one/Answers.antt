@@ -1,4 +1,4 @@
-use Rattle.std.proofs.Common.{◌≡◌, ◌<◌, ◌∙◌, sym, ap, length, arith}
+use Rattle.std.proofs.Common.{◌≡◌, ◌<◌, ◌∙◌, map, sym, ap, length, arith}
 use Rattle.std.specs.Option.{option_copied}
 use Rattle.sp_block.specs.Block.{ReadBlock}
 use Rattle.std.specs.List.{list_all}
@@ -8,6 +8,8 @@ use Rattle.sp_carry.specs.Carried.{with_block}
 use Rattle.sp_engine.proofs.CarriedBlocks.{AreCarried-more, few_txs}
 use Rattle.sp_engine.proofs.Facts.{all_items, is_found, room_left}
 use Rattle.sp_engine.proofs.NumberedBlocks.{AreNumbered-more, found_by, next_closed, next_fresh, next_kept}
+use Rattle.sp_dag.specs.Numbered.{number_of, Numbered}
+use Rattle.sp_engine.proofs.Onward.{votes_stay}
 use Rattle.sp_engine.proofs.Paying.{block_goes}
 use Rattle.sp_engine.proofs.numbering.add_one.Goals as goal
 
@@ -45,16 +47,21 @@ returns-clause-numbered c =
     ∙ sym (ap (λ (b : ReadBlock). b.parents) c.block-in-Some.view_is) ∙ sym c.as_slice.ensures in
     AreNumbered-more kept c.args.dag.now c.add.new.self c.args.id.now c.as_slice.result.now c.kept-kept.ensures.blocks c.len-blocks.ensures.numbered c.requires.numbered c.requires.next is c.in_ok-number-in-Some.ensures.ok
 
-pub add-requires-in-Some-clause-few : goal.add-requires-in-Some-clause-few
-add-requires-in-Some-clause-few c = few_txs _ c.block-in-Some.invariant
+pub add-requires-in-Some-2-clause-few : goal.add-requires-in-Some-2-clause-few
+add-requires-in-Some-2-clause-few c = few_txs _ c.block-in-Some.invariant
 
 pub returns-clause-carried : goal.returns-clause-carried
 returns-clause-carried c =
-    AreCarried-more c.args.pool.now c.args.dag.now c.add.new.self c.args.carriers.now c.add-in-Some.new.self c.args.id.now c.as_slice.result.now c.in-Some.block.now
+    AreCarried-more c.args.pool.now c.args.dag.now c.add.new.self c.args.carriers.now c.add-in-Some-2.new.self c.args.id.now c.as_slice.result.now c.in-Some.block.now
     c.len-blocks.ensures.numbered c.len-more.ensures.numbered c.requires.carried (sym c.block.ensures ∙ ap option_copied c.in-Some.is) c.in_ok-number-in-Some.ensures.ok
-    c.block_count-added.ensures.carried (c.in_ok-add-in-Some.ensures.ok ∙ ap (λ (b : ReadBlock). with_block c.add.new.self.parents c.args.carriers.now b.txs) c.block-in-Some.view_is)
+    c.block_count-added.ensures.carried (c.in_ok-add-in-Some-2.ensures.ok ∙ ap (λ (b : ReadBlock). with_block c.add.new.self.parents c.args.carriers.now b.txs) c.block-in-Some.view_is)
 
 pub returns-clause-more : goal.returns-clause-more
 returns-clause-more c =
-    block_goes c.add.new.self.parents c.args.carriers.now c.add-in-Some.new.self c.in-Some.block.now.txs
-    (c.in_ok-add-in-Some.ensures.ok ∙ ap (λ (b : ReadBlock). with_block c.add.new.self.parents c.args.carriers.now b.txs) c.block-in-Some.view_is)
+    block_goes c.add.new.self.parents c.args.carriers.now c.add-in-Some-2.new.self c.in-Some.block.now.txs
+    (c.in_ok-add-in-Some-2.ensures.ok ∙ ap (λ (b : ReadBlock). with_block c.add.new.self.parents c.args.carriers.now b.txs) c.block-in-Some.view_is)
+
+pub add-requires-in-Some-clause-holds : goal.add-requires-in-Some-clause-holds
+add-requires-in-Some-clause-holds c =
+    votes_stay c.args.dag.now.parents c.add.new.self.parents (map (number_of c.args.dag.now.ids) c.as_slice.result.now) c.args.votes.now
+    (ap (λ (n : Numbered). n.parents) c.in_ok-number-in-Some.ensures.ok) c.len-blocks.ensures.numbered.order c.len-more.ensures.numbered.order (omega (arith, c.requires.voted.every)) c.requires.voted.holds

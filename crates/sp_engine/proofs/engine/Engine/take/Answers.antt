@@ -38,9 +38,9 @@ add_all-requires-clause-order c =
 pub invariant_of-self-in-Present : goal.invariant_of-self-in-Present
 invariant_of-self-in-Present c = λ _.
     let came = comes_of c.self.view_is c.self.invariant c.requires.whole c.block.view_is c.block.invariant c.requires.other c.requires.fresh in (
-      comes_engine c.offer.new.self c.in-Present.ids c.add_all.new.dag c.in_ok-self-inside-in-Present.field-0 c.in_ok-ids.ensures.kept came
+      comes_engine c.offer.new.self c.in-Present.ids c.add_all.new.dag c.add_all.new.votes c.in_ok-ids.ensures.kept came
           (joins_of c.in_ok-ids.field-0 c.in-Present.ids c.in-Present.is c.in_ok-ids.ensures.answer) c.len-blocks.ensures.numbered c.in_ok-add_all-in-Present.ensures.numbered
-          (c.in_ok-add_all-in-Present.ensures.ids ∙ ap (λ ids. c.self.inside.dag.ids ++ ids) c.as_slice-ids.ensures) c.in_ok-self-inside-in-Present.ensures,
+          (c.in_ok-add_all-in-Present.ensures.ids ∙ ap (λ ids. c.self.inside.dag.ids ++ ids) c.as_slice-ids.ensures) c.in_ok-add_all-in-Present.ensures.voted,
       record { carriers = c.in_ok-add_all-in-Present.ensures.carried; right = c.in_ok-accept_all-in-Present.ensures.right; all = c.in_ok-accept_all-in-Present.ensures.all },
       c.in_ok-accept_all-in-Present.ensures.paying,
     )

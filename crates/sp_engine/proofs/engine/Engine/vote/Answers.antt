@@ -5,5 +5,5 @@ use Rattle.sp_engine.proofs.engine.Engine.vote.Goals as goal
 pub returns : goal.returns
 returns c =
     let e = engine_of c.self.view_is c.self.invariant c.requires in
-    c.word_at.ensures
+    c.word.ensures
     ∙ voted c.args.x.now c.args.y.now c.in-Some.first c.in-Some-number.second e c.in-Some.ensures.found c.in-Some-number.ensures.found c.in-Some.ensures.within c.in-Some-number.ensures.within c.if-first-second.false

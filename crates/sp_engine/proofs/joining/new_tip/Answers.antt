@@ -1,0 +1,126 @@
+use Rattle.std.proofs.Common.{◌≡◌, ◌∙◌, ◌<◌, ◌≤◌, ◌-◌, ◌+◌, ℕ, List, ◌∷◌, ap, sym, arith, subst, inl, inr, length}
+use Rattle.sp_dag.specs.Numbered.{graph_of, pairs_of}
+use Rattle.sp_model.specs.Graph.{has, past}
+use Rattle.sp_frozen.specs.PastVotes.{signs_of}
+use Rattle.sp_view.specs.Views.{AreKeptIds, IsBest, Viewed}
+use Rattle.sp_view.proofs.Listing.{view_listed}
+use Rattle.sp_view.proofs.Members.{more_parts}
+use Rattle.sp_engine.specs.Votes.{AreKeptIdsBy, AreViews, bar_row}
+use Rattle.sp_engine.proofs.Sharing.{few_held_by, few_live, held_one, view_of, views_move}
+use Rattle.sp_engine.proofs.Tips.{kept_by_two, others_stay, past_and_block, past_asked, past_lower, past_there, past_without}
+use Rattle.sp_engine.proofs.joining.new_tip.Goals as goal
+
+pub derive-requires-clause-views : goal.derive-requires-clause-views
+derive-requires-clause-views c = λ i view at. (view_of c.args.dag.now.parents c.args.rows.now c.args.frozen.now.blocks c.args.views.now i view c.requires.views at).0
+
+pub derive-requires-clause-counts : goal.derive-requires-clause-counts
+derive-requires-clause-counts c = λ i view at r.
+    let small : length (pairs_of c.args.dag.now.parents) ≤ 130816 = omega (arith, c.pair_count-pairs.ensures.value, c.pair_count-pairs.ensures.bound) in
+    omega (
+      arith,
+      c.requires.counts r,
+      held_one c.args.views.now i view r at,
+      few_held_by c.args.dag.now.parents c.args.rows.now c.args.frozen.now.blocks small c.args.views.now r c.requires.views,
+      c.requires.few,
+    )
+
+pub derive-requires-clause-asked : goal.derive-requires-clause-asked
+derive-requires-clause-asked c =
+    past_asked c.args.dag.now.parents (c.len-b.result - 1) c.len-b.ensures.numbered.order (omega (arith, c.len-b.ensures.value, c.len-b.ensures.numbered.some)) c.past-past.result.now c.past-past.ensures
+    c.count-members.ensures.row
+
+pub derive-requires-clause-added : goal.derive-requires-clause-added
+derive-requires-clause-added c = λ z h.
+    let less : z < c.len-b.result - 1 =
+    past_lower c.args.dag.now.parents (c.len-b.result - 1) c.len-b.ensures.numbered.order (omega (arith, c.len-b.ensures.value, c.len-b.ensures.numbered.some)) c.past-past.result.now c.past-past.ensures z h in
+    omega (arith, less, c.requires.next, c.len-b.ensures.value)
+
+pub derive-requires-clause-few : goal.derive-requires-clause-few
+derive-requires-clause-few c =
+    let small : length (pairs_of c.args.dag.now.parents) ≤ 130816 = omega (arith, c.pair_count-pairs.ensures.value, c.pair_count-pairs.ensures.bound) in
+    omega (arith, few_live c.args.dag.now.parents c.args.rows.now c.args.frozen.now.blocks small c.args.views.now c.live-live.ensures.rows c.requires.counts c.requires.views, c.requires.few)
+
+pub past_votes-requires-clause-listed : goal.past_votes-requires-clause-listed
+past_votes-requires-clause-listed c =
+    view_listed c.args.dag.now.parents c.in_ok-tip.tip c.derive.new.pool c.args.frozen.now c.in_ok-tip.ensures.ok c.requires.frozen
+    (λ z h.
+    let less : z < c.len-b.result - 1 =
+    past_lower c.args.dag.now.parents (c.len-b.result - 1) c.len-b.ensures.numbered.order (omega (arith, c.len-b.ensures.value, c.len-b.ensures.numbered.some)) c.in_ok-tip.tip.members
+    (c.in_ok-tip.ensures.members ∙ c.past-past.ensures) z h in
+    omega (arith, less, c.requires.next, c.len-b.ensures.value))
+
+pub add-requires-clause-votes : goal.add-requires-clause-votes
+add-requires-clause-votes c =
+    c.in_ok-signs.ensures c.args.dag.now.parents c.in_ok-tip.ensures.ok c.requires.frozen
+    (λ z h.
+    let less : z < c.len-b.result - 1 =
+    past_lower c.args.dag.now.parents (c.len-b.result - 1) c.len-b.ensures.numbered.order (omega (arith, c.len-b.ensures.value, c.len-b.ensures.numbered.some)) c.in_ok-tip.tip.members
+    (c.in_ok-tip.ensures.members ∙ c.past-past.ensures) z h in
+    omega (arith, less, c.requires.next, c.len-b.ensures.value))
+    ∙ ap (λ (l : List ℕ). signs_of c.args.dag.now.parents l) (c.in_ok-tip.ensures.members ∙ c.past-past.ensures)
+
+pub add-requires-2-clause-new : goal.add-requires-2-clause-new
+add-requires-2-clause-new c =
+    past_without c.args.dag.now.parents (c.len-b.result - 1) c.len-b.ensures.numbered.order (omega (arith, c.len-b.ensures.value, c.len-b.ensures.numbered.some)) c.in_ok-tip.tip.members
+    (c.in_ok-tip.ensures.members ∙ c.past-past.ensures)
+
+pub add-requires-2-clause-past : goal.add-requires-2-clause-past
+add-requires-2-clause-past c =
+    past_there c.args.dag.now.parents (c.len-b.result - 1) c.len-b.ensures.numbered.order (omega (arith, c.len-b.ensures.value, c.len-b.ensures.numbered.some)) c.in_ok-tip.tip.members
+    (c.in_ok-tip.ensures.members ∙ c.past-past.ensures)
+
+pub add-requires-2-clause-few : goal.add-requires-2-clause-few
+add-requires-2-clause-few c =
+    let small : length (pairs_of c.args.dag.now.parents) ≤ 130816 = omega (arith, c.pair_count-pairs.ensures.value, c.pair_count-pairs.ensures.bound) in
+    let tip : Viewed = c.in_ok-tip.tip in
+    let lower = past_lower c.args.dag.now.parents (c.len-b.result - 1) c.len-b.ensures.numbered.order (omega (arith, c.len-b.ensures.value, c.len-b.ensures.numbered.some)) tip.members
+    (c.in_ok-tip.ensures.members ∙ c.past-past.ensures) in
+    let others : AreViews c.args.dag.now.parents c.derive.new.pool c.args.frozen.now.blocks c.args.views.now =
+    views_move c.args.dag.now.parents c.args.rows.now c.args.frozen.now.blocks c.derive.new.pool c.args.views.now
+    (λ r. omega (arith, c.requires.counts r, c.in_ok-tip.ensures.counts r))
+    (λ r some. c.in_ok-tip.ensures.rows r (omega (arith, some, c.requires.counts r)))
+    c.requires.views in
+    omega (
+      arith,
+      few_live c.args.dag.now.parents c.derive.new.pool c.args.frozen.now.blocks small (tip ∷ c.args.views.now) c.live-derived.ensures.rows
+          (λ r. omega (arith, c.requires.counts r, c.in_ok-tip.ensures.counts r))
+          (c.in_ok-tip.ensures.ok, (λ z h. (let less : z < c.len-b.result - 1 = lower z h in omega (arith, less, c.requires.next, c.len-b.ensures.value))), others),
+      c.requires.few,
+    )
+
+pub returns-clause-views : goal.returns-clause-views
+returns-clause-views c =
+    let table : List (List ℕ) = c.args.dag.now.parents in
+    let tip : Viewed = c.in_ok-tip.tip in
+    let lt : c.len-b.result - 1 < length table = omega (arith, c.len-b.ensures.value, c.len-b.ensures.numbered.some) in
+    let is = c.in_ok-tip.ensures.members ∙ c.past-past.ensures in (
+      c.in_ok-add-2.ensures.ok,
+      (λ z h. elim (more_parts table c.len-b.ensures.numbered.order c.len-b.ensures.numbered.small tip.members (c.len-b.result - 1) c.in_ok-tip.ensures.ok.asked c.in_ok-tip.ensures.ok.below lt
+          (past_without table (c.len-b.result - 1) c.len-b.ensures.numbered.order lt tip.members is)
+          (past_there table (c.len-b.result - 1) c.len-b.ensures.numbered.order lt tip.members is)
+          z (ap (λ (l : List ℕ). has l z) (sym c.in_ok-add-2.ensures.members) ∙ h)) [
+            | inl there ↦ (let less : z < c.len-b.result - 1 = past_lower table (c.len-b.result - 1) c.len-b.ensures.numbered.order lt tip.members is z there in omega (arith, less, c.in_ok-add.ensures.blocks))
+            | inr e ↦ omega (arith, e, c.in_ok-add.ensures.blocks)
+          ]),
+      subst (λ (n : ℕ). AreViews table c.add-2.new.pool n c.args.views.now) (let e : c.args.frozen.now.blocks + 1 ≡ c.add.new.self.blocks = omega (arith, c.in_ok-add.ensures.blocks, c.requires.next, c.len-b.ensures.value, c.len-b.ensures.numbered.some) in e)
+          (others_stay table c.args.rows.now c.derive.new.pool c.add-2.new.pool c.args.frozen.now.blocks c.args.views.now tip c.add-2.new.self
+          c.requires.counts c.in_ok-tip.ensures.counts c.in_ok-tip.ensures.rows c.in_ok-add-2.ensures.counts c.in_ok-add-2.ensures.others c.requires.views),
+    )
+
+pub returns-clause-members : goal.returns-clause-members
+returns-clause-members c =
+    let table : List (List ℕ) = c.args.dag.now.parents in
+    let lt : c.len-b.result - 1 < length table = omega (arith, c.len-b.ensures.value, c.len-b.ensures.numbered.some) in
+    let at_b : c.len-b.result - 1 ≡ c.args.frozen.now.blocks = omega (arith, c.requires.next, c.len-b.ensures.value) in
+    past_and_block table (c.len-b.result - 1) c.len-b.ensures.numbered.order lt c.in_ok-tip.tip.members (c.in_ok-tip.ensures.members ∙ c.past-past.ensures) c.add-2.new.self.members c.in_ok-add-2.ensures.members
+    ∙ ap (bar_row table) at_b
+
+pub returns-clause-kept : goal.returns-clause-kept
+returns-clause-kept c = λ i base best.
+    let table : List (List ℕ) = c.args.dag.now.parents in
+    let at_b : c.len-b.result - 1 ≡ c.args.frozen.now.blocks = omega (arith, c.requires.next, c.len-b.ensures.value) in
+    let is : c.past-past.result.now ≡ past (graph_of table) c.args.frozen.now.blocks = c.past-past.ensures ∙ ap (past (graph_of table)) at_b in
+    subst (λ (mid : List ℕ). AreKeptIdsBy table base.members mid c.add-2.new.self.members base.entries c.add-2.new.self.entries) is
+    (kept_by_two table base.members c.past-past.result.now c.add-2.new.self.members base.entries c.in_ok-tip.tip.entries c.add-2.new.self.entries
+    (c.in_ok-tip.ensures.kept i base (subst (λ (mid : List ℕ). IsBest c.args.views.now mid i base) (sym is) best))
+    (subst (λ (mid : List ℕ). AreKeptIds table mid c.add-2.new.self.members c.in_ok-tip.tip.entries c.add-2.new.self.entries) c.in_ok-tip.ensures.members c.in_ok-add-2.ensures.kept))

@@ -1,0 +1,31 @@
+use Rattle.std.proofs.Common.{◌≡◌, ◌<◌, ◌∙◌, ℕ, List, false, ap, sym, arith, length, get_or}
+use Rattle.std.specs.Prelude.{not}
+use Rattle.std.specs.List.{list_all}
+use Rattle.sp_model.specs.Graph.{has}
+use Rattle.sp_view.specs.Views.{Viewed, held}
+use Rattle.sp_engine.specs.Votes.{is_beyond}
+use Rattle.sp_engine.proofs.Covered.{held_without, views_without, without_it}
+use Rattle.sp_engine.proofs.joining.release_within.Goals as goal
+
+pub release-requires : goal.release-requires
+release-requires c = λ r.
+    let lt : c.views.i < length c.views.views.items = omega (arith, c.views-test.true, c.len.ensures, c.views.views.ok) in
+    let same : held (get_or c.views.views.items c.views.i c.remove.result).entries r ≡ held c.remove.result.entries r = ap (λ (v : Viewed). held v.entries r) (sym c.remove.ensures.value) in
+    omega (arith, same, c.views.invariant.counts r, held_without c.views.views.items c.remove.new.self.items c.views.i c.remove.result c.remove.ensures.by_index.2 lt r)
+
+pub views-preserved-then-within : goal.views-preserved-then-within
+views-preserved-then-within c =
+    let xs = c.views.views.items in
+    let lt : c.views.i < length xs = omega (arith, c.views-test.true, c.len.ensures, c.views.views.ok) in
+    let same : (r : ℕ) → held (get_or xs c.views.i c.remove.result).entries r ≡ held c.remove.result.entries r = λ r. ap (λ (v : Viewed). held v.entries r) (sym c.remove.ensures.value) in
+    let counts : (r : ℕ) → _ = λ r. held_without xs c.remove.new.self.items c.views.i c.remove.result c.remove.ensures.by_index.2 lt r in
+    let within : is_beyond c.args.past.now (get_or xs c.views.i c.index.result.now) ≡ false =
+    ap (is_beyond c.args.past.now) (sym c.index.ensures) ∙ ap (λ (l : List ℕ). not (list_all (has c.args.past.now) l)) (sym c.members.ensures) ∙ ap not (sym c.within.ensures ∙ c.if-within.true) in
+    record {
+      place = omega (arith, c.views-test.true, c.len.ensures, c.remove.ensures.len);
+      rest = without_it (is_beyond c.args.past.now) c.args.views.now.items xs c.remove.new.self.items c.views.i c.index.result.now c.remove.ensures.by_index.2 lt within c.views.invariant.rest;
+      views = λ table n are. views_without xs c.remove.new.self.items c.views.i c.remove.result c.remove.ensures.by_index.2 lt table c.views.rows c.release.new.pool n
+          (λ r. omega (arith, same r, counts r, c.views.invariant.counts r, c.release.ensures.counts r))
+          (λ r some. c.release.ensures.rows r (omega (arith, some, same r, counts r, c.views.invariant.counts r, c.release.ensures.counts r))) (c.views.invariant.views table n are);
+      counts = λ r. omega (arith, same r, counts r, c.views.invariant.counts r, c.release.ensures.counts r);
+    }

@@ -1,0 +1,112 @@
+-- The votes of the first blocks of a graph, as the engine keeps them: views of the tips' pasts and of all blocks, whose rows they share.
+use Rattle.std.specs.Prelude.{ℕ, true, false, ◌≡◌, ◌<◌, ◌+◌, Bool, not, List, [], ◌∷◌, ◌++◌, length, map, filter, take, slice_get, slice_index_or, Option, Some, None}
+use Rattle.std.specs.List.{list_all, list_any, range_with_len}
+use Rattle.sp_bits.specs.Places.{places_where}
+use Rattle.sp_model.specs.Graph.{Graph, has, past}
+use Rattle.sp_model.specs.Loose.{in_bar, plus, minus}
+use Rattle.sp_dag.specs.Numbered.{graph_of, pairs_of}
+use Rattle.sp_frozen.specs.Voters.{FrozenRows, HoldsFrozen}
+use Rattle.sp_rows.specs.Pool.{Pool}
+use Rattle.sp_view.specs.Stored.{count_of}
+use Rattle.sp_view.specs.Views.{AreKeptIds, IsBest, Viewed, entry_at, held, IsView}
+
+-- the frozen votes, the pool of rows, and the views over it: those of the tips, ascending, and behind them that of all blocks
+pub record Tallied : Type 0 where
+  pub frozen : FrozenRows
+  pub rows : Pool
+  pub views : List Viewed
+
+-- how often some views hold a row
+abbrev pub held_by : List Viewed → ℕ → ℕ
+held_by [] row = 0
+held_by (view ∷ views) row = held view.entries row + held_by views row
+
+-- each of some is a view over the pool, of blocks below a number
+abbrev pub AreViews : List (List ℕ) → Pool → ℕ → List Viewed → Type 0
+AreViews table pool n [] = Unit {0}
+AreViews table pool n (view ∷ views) = IsView table view pool × ((z : ℕ) → has view.members z ≡ true → z < n) × AreViews table pool n views
+
+-- a block and its past, as a row
+abbrev pub bar_row : List (List ℕ) → ℕ → List ℕ
+bar_row table n = places_where (λ z. in_bar (graph_of table) z n)
+
+-- whether no block of a table has this one as a parent
+abbrev pub is_tip : List (List ℕ) → ℕ → Bool
+is_tip table n = not (list_any (λ parents. has parents n) table)
+
+-- the tips, ascending
+abbrev pub tips_of : List (List ℕ) → List ℕ
+tips_of table = filter (is_tip table) (range_with_len 0 (length table))
+
+-- views of the first n blocks: for each tip, ascending, that of the tip and its past, and behind them that of all these blocks
+pub record AreOfTips (table : List (List ℕ)) (n : ℕ) (views : List Viewed) : Type 0 where
+  pub tips : List Viewed
+  pub all : Viewed
+  pub is : views ≡ tips ++ all ∷ []
+  pub each : map (λ (view : Viewed). view.members) tips ≡ map (bar_row table) (tips_of (take n table))
+  pub members : all.members ≡ range_with_len 0 n
+
+-- the votes of the first blocks of a table: no row is held but by the views, each as often as it is counted
+pub record HoldsVotes (table : List (List ℕ)) (v : Tallied) : Type 0 where
+  pub frozen : HoldsFrozen table v.frozen
+  pub views : AreViews table v.rows v.frozen.blocks v.views
+  pub counts : (row : ℕ) → count_of v.rows row ≡ held_by v.views row
+  pub tips : AreOfTips table v.frozen.blocks v.views
+
+-- those of all its blocks
+pub record AreVoted (table : List (List ℕ)) (v : Tallied) : Type 0 where
+  pub holds : HoldsVotes table v
+  pub every : v.frozen.blocks ≡ length table
+
+-- the view of all blocks, which is the last one
+abbrev pub IsOfAll : Tallied → Viewed → Type 0
+IsOfAll v view = (i : ℕ) × (slice_get v.views i ≡ Some view) × (i + 1 ≡ length v.views)
+
+-- the view of a tip and its past
+abbrev pub IsOfTip : List (List ℕ) → Tallied → ℕ → Viewed → Type 0
+IsOfTip table v n view = (i : ℕ) × (slice_get v.views i ≡ Some view) × (i + 1 < length v.views) × (view.members ≡ bar_row table n)
+
+-- where a pair had rows, and those of one side are the same in a set, in a larger one and in a third one, the row keeps its id
+abbrev pub KeepIdsBy : Graph → List ℕ → List ℕ → List ℕ → ℕ → ℕ → Option (ℕ × ℕ) → Option (ℕ × ℕ) → Type 0
+KeepIdsBy g set mid more x y None after = Unit {0}
+KeepIdsBy g set mid more x y (Some before) None = ⊥
+KeepIdsBy g set mid more x y (Some before) (Some after) =
+    (plus g set x y ≡ plus g mid x y → plus g mid x y ≡ plus g more x y → after.0 ≡ before.0)
+    × (minus g set x y ≡ minus g mid x y → minus g mid x y ≡ minus g more x y → after.1 ≡ before.1)
+
+-- so it is for each pair of a table
+abbrev pub AreKeptIdsBy : List (List ℕ) → List ℕ → List ℕ → List ℕ → List (Option (ℕ × ℕ)) → List (Option (ℕ × ℕ)) → Type 0
+AreKeptIdsBy table set mid more entries entries' =
+    (i x y : ℕ) → slice_get (pairs_of table) i ≡ Some (x, y) → KeepIdsBy (graph_of table) set mid more x y (entry_at entries i) (entry_at entries' i)
+
+-- What the votes become where block b, the last one of a table, joins them. In the view of all blocks each row whose content stays keeps
+-- its id. So it is in the new tip's view, beside the view that it was derived from, which is that one within b's past that has most
+-- members. The views of the other tips stay, but for b's parents.
+pub record Grew (table : List (List ℕ)) (b : ℕ) (old new : Tallied) : Type 0 where
+  pub all : (view view' : Viewed) → IsOfAll old view → IsOfAll new view' → AreKeptIds table view.members view'.members view.entries view'.entries
+  pub tip : (i : ℕ) (base view : Viewed) → IsBest old.views (past (graph_of table) b) i base → IsOfTip table new b view
+      → AreKeptIdsBy table base.members (past (graph_of table) b) view.members base.entries view.entries
+  pub others : (n : ℕ) (view : Viewed) → n < b → IsOfTip table old n view → has (slice_index_or table b []) n ≡ false → IsOfTip table new n view
+
+-- ---- while a block joins
+
+-- whether a view has a member outside a past
+abbrev pub is_beyond : List ℕ → Viewed → Bool
+is_beyond past view = not (list_all (has past) view.members)
+
+-- the last one of some views is that of all blocks below a number
+pub record IsLast (n : ℕ) (views : List Viewed) : Type 0 where
+  pub front : List Viewed
+  pub all : Viewed
+  pub is : views ≡ front ++ all ∷ []
+  pub members : all.members ≡ range_with_len 0 n
+
+-- the last one of some views took block b, and another view stands before it
+pub record IsPut (table : List (List ℕ)) (b : ℕ) (old : List Viewed) (tip : Viewed) (new : List Viewed) : Type 0 where
+  pub front : List Viewed
+  pub all : Viewed
+  pub more : Viewed
+  pub old_is : old ≡ front ++ all ∷ []
+  pub new_is : new ≡ front ++ tip ∷ more ∷ []
+  pub members : more.members ≡ range_with_len 0 (b + 1)
+  pub kept : AreKeptIds table all.members more.members all.entries more.entries
