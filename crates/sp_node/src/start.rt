@@ -6,7 +6,7 @@ ghost use Rattle.sp_io.specs.Causes.{Rose};
 ghost use Rattle.sp_disk.specs.Moments.{Leaves};
 ghost use Rattle.sp_engine.specs.Arrivals.{kept_after, kept_by_all};
 ghost use Rattle.sp_engine.specs.Blocks.{block_in};
-ghost use Rattle.sp_engine.specs.Engine.{ledger};
+ghost use Rattle.sp_engine.specs.Engine.{IsLedger};
 ghost use Rattle.sp_journal.specs.Creation.{HoldsNoneOrNew, IsSynced, IsVacant};
 ghost use Rattle.sp_journal.specs.Journal.{contents};
 ghost use Rattle.sp_journal.specs.Recovery.{bytes_in, id_behind, IsGood};
@@ -60,7 +60,7 @@ pub(crate) fn start_new<D: Disk>(
 ) -> Result<(Engine, Journal), StartFault>
     requires vacant { IfSome (D.now disk.old).reads (IsVacant gate) }
     requires synced { gate ≡ Shut → IsSynced (D.now disk.old) }
-    ensures engine { IfOk result (λ made. made.0 ≡ ledger head.bits (head.genesis ∷ [])) }
+    ensures engine { IfOk result (λ made. IsLedger head.bits (head.genesis ∷ []) made.0) }
     ensures fits { IfOk result (λ made. FitsKept head.bits (head.genesis ∷ []) made.1) }
     ensures stands { IfOk result (λ made. IsTold (D.now disk.old)
         → StandsForKept head.bits (head.genesis ∷ []) made.1 (D.now disk.new)) }
@@ -109,7 +109,7 @@ pub(crate) fn start_found(
     opened: Opened,
     head: FeedHead,
 ) -> Result<(Engine, Journal), StartFault>
-    ensures engine { IfOk result (λ made. made.0 ≡ ledger head.bits (head.genesis ∷ opened.blocks)) }
+    ensures engine { IfOk result (λ made. IsLedger head.bits (head.genesis ∷ opened.blocks) made.0) }
     ensures sent { IfOk result (λ made. made.0.kept ≡ kept_by_all head.bits head.genesis (map bytes_in opened.blocks)) }
     ensures same { OnOk result (IsSameChain opened head) }
     ensures journal { IfOk result (λ made. made.1 ≡ opened.journal) }
@@ -146,7 +146,7 @@ pub(crate) fn start_found(
 ///
 /// `Memory` where there was none for them.
 pub fn recovered(alloc: Global, opened: Opened) -> Result<Engine, Memory>
-    ensures engine { IfOk result (λ engine. engine ≡ ledger opened.bits (opened.genesis ∷ opened.blocks)) }
+    ensures engine { IfOk result (IsLedger opened.bits (opened.genesis ∷ opened.blocks)) }
     ensures sent { IfOk result (λ engine. engine.kept ≡ kept_by_all opened.bits opened.genesis (map bytes_in opened.blocks)) }
     ensures spelled { OnOk result (block_in true opened.genesis.bytes ≡ Ok opened.genesis) }
 {

@@ -1,7 +1,6 @@
 use Rattle.std.proofs.Common.{List, ℕ, ◌-◌, OnErr, OnOk, ap, subst}
 use Rattle.std.specs.Io.KnownBytes.{Appends}
 use Rattle.sp_io.specs.Whole.{AppendsFront}
-use Rattle.sp_engine.specs.Engine.{Ledger}
 use Rattle.spectre.proofs.Shown.{shown_is}
 use Rattle.spectre.proofs.show.tell_opened.Goals as goal
 
@@ -9,12 +8,12 @@ pub returns-clause-ok : goal.returns-clause-ok
 returns-clause-ok g c =
     let taken = g.K.Sink.taken in
     let e = c.in_ok-engine.ensures in
-    let is = shown_is c.args.opened (c.kept_count-count.result - 1) c.in_ok-engine.engine.kept (ap (λ (k : ℕ). k - 1) c.kept_count-count.ensures.count) (ap (λ (l : Ledger). l.kept) e.engine) e.sent e.spelled in
+    let is = shown_is c.args.opened (c.kept_count-count.result - 1) c.in_ok-engine.engine.kept (ap (λ (k : ℕ). k - 1) c.kept_count-count.ensures.count) e.engine.kept_are e.sent e.spelled in
     subst (λ (t : List ℕ). OnOk c.tell.result (Appends (taken c.args.sink.now) (taken c.tell.new.sink) t)) is c.tell.ensures.ok
 
 pub returns-clause-err : goal.returns-clause-err
 returns-clause-err g c =
     let taken = g.K.Sink.taken in
     let e = c.in_ok-engine.ensures in
-    let is = shown_is c.args.opened (c.kept_count-count.result - 1) c.in_ok-engine.engine.kept (ap (λ (k : ℕ). k - 1) c.kept_count-count.ensures.count) (ap (λ (l : Ledger). l.kept) e.engine) e.sent e.spelled in
+    let is = shown_is c.args.opened (c.kept_count-count.result - 1) c.in_ok-engine.engine.kept (ap (λ (k : ℕ). k - 1) c.kept_count-count.ensures.count) e.engine.kept_are e.sent e.spelled in
     subst (λ (t : List ℕ). OnErr c.tell.result (AppendsFront (taken c.args.sink.now) (taken c.tell.new.sink) t)) is c.tell.ensures.err
