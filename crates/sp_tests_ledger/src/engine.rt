@@ -68,7 +68,8 @@ pub struct Ran {
     pub words: Vec<Word>,
 }
 
-fn offer(engine: &mut Engine, bytes: &[u8]) -> Result<Told, Fail> {
+/// Bytes come to an engine.
+pub fn offer(engine: &mut Engine, bytes: &[u8]) -> Result<Told, Fail> {
     if engine.broken() {
         return Err("broken".into());
     }

@@ -3,13 +3,15 @@
 //!
 //! `rivals` tests which carriers conflict, and `collisions` that outpoints which crowd a table by hash
 //! don't make the look-ups of carriers slow. `rebuild` tests which transactions turn as blocks come.
+//! `votes` tests what an engine says of each two blocks, and `shared_rows` the rows that its views share.
 //! `arrivals`, `refusals` and `full_engine` test what an engine says of the bytes that come, and
 //! `acceptance` which transactions it accepts. `purse` tests what is left as transactions are accepted
 //! and taken back, by the purse itself, and `balances` what an engine says is left.
 //!
 //! `arrival_rows`, `acceptance_rows`, `balance_rows` and `purse_rows` are tables of these. `engine`
-//! makes an engine and runs it, `blocks` makes blocks that carry transactions, `payments` makes
-//! transactions, `left` compares what is left under each lock, and `rows` judges a table's row.
+//! makes an engine and runs it, `plain` asks the plain votes beside it, `drawn` draws graphs, `blocks`
+//! makes blocks that carry transactions, `payments` makes transactions, `left` compares what is left
+//! under each lock, and `rows` judges a table's row.
 #![tactic(auto)]
 
 #[cfg(test)]
@@ -29,6 +31,8 @@ mod blocks;
 #[cfg(test)]
 mod collisions;
 #[cfg(test)]
+mod drawn;
+#[cfg(test)]
 mod engine;
 #[cfg(test)]
 mod full_engine;
@@ -36,6 +40,8 @@ mod full_engine;
 mod left;
 #[cfg(test)]
 mod payments;
+#[cfg(test)]
+mod plain;
 #[cfg(test)]
 mod purse;
 #[cfg(test)]
@@ -48,3 +54,7 @@ mod refusals;
 mod rivals;
 #[cfg(test)]
 mod rows;
+#[cfg(test)]
+mod shared_rows;
+#[cfg(test)]
+mod votes;

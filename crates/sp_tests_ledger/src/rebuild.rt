@@ -10,13 +10,13 @@ ghost use Rattle.sp_carry.specs.Carried.{AreSound};
 ghost use Rattle.sp_accept.specs.Rows.{AreOf};
 ghost use Rattle.sp_engine.specs.Engine.{numbers};
 
+use crate::plain::votes_of_all;
 use crate::rows::right;
 use sp_accept::{Accepted, Order};
-use sp_bits::Row as Places;
 use sp_carry::{Carriers, Flip};
 use sp_dag::Dag;
 use sp_ids::{BlockId, Lock, Memory, Outpoint, TxId};
-use sp_plain::{Matrix, plain_votes};
+use sp_plain::Matrix;
 use sp_tx::{Bytes, Input, Inputs, Output, Outputs, Tx, Txs};
 use std::alloc::Global;
 use std::marker::Model;
@@ -112,27 +112,6 @@ impl<'a> Order for VotedOrder<'a> {
     fn in_past(&self, x: u16, y: u16) -> bool {
         self.dag.in_past(x, y)
     }
-}
-
-/// The row of all numbers below the count.
-fn row_below(count: u16) -> Places
-    requires { count ≤ 512 }
-    ensures { result ≡ range_with_len 0 count }
-{
-    let mut row = Places::empty();
-    for number in 0..count {
-        row.set(number);
-    }
-    row
-}
-
-/// The virtual votes of all blocks on each two of them.
-fn votes_of_all(alloc: Global, dag: &Dag) -> Result<Matrix, Memory>
-    ensures { IfOk result
-        (HasVirts (graph_of dag.now.parents) (numbers dag.now) (length dag.now.parents)) }
-{
-    let members = row_below(dag.len());
-    plain_votes(alloc, dag, &members)
 }
 
 /// What spends Alice's output of each of these transactions.

@@ -1,0 +1,106 @@
+//! The plain votes of all blocks of a graph, and what an engine says beside them.
+
+ghost use Rattle.std.specs.Prelude.{◌≡◌, ◌≤◌, ◌<◌, false, length, IfOk};
+ghost use Rattle.std.specs.List.{range_with_len};
+ghost use Rattle.sp_dag.specs.Numbered.{graph_of};
+ghost use Rattle.sp_plain.specs.Virts.{HasVirts};
+ghost use Rattle.sp_engine.specs.Engine.{numbers};
+
+use sp_bits::Row;
+use sp_dag::Dag;
+use sp_engine::Engine;
+use sp_ids::Memory;
+use sp_model::Word;
+use sp_plain::{Matrix, plain_votes};
+use std::alloc::Global;
+use std::test::Fail;
+
+/// The row of all numbers below the count.
+fn row_below(count: u16) -> Row
+    requires { count ≤ 512 }
+    ensures { result ≡ range_with_len 0 count }
+{
+    let mut row = Row::empty();
+    for number in 0..count {
+        row.set(number);
+    }
+    row
+}
+
+/// The virtual votes of all blocks on each two of them.
+pub fn votes_of_all(alloc: Global, dag: &Dag) -> Result<Matrix, Memory>
+    ensures { IfOk result
+        (HasVirts (graph_of dag.now.parents) (numbers dag.now) (length dag.now.parents)) }
+{
+    let members = row_below(dag.len());
+    plain_votes(alloc, dag, &members)
+}
+
+fn word_of(vote: i8) -> Word {
+    if vote < 0 {
+        Word::Before
+    } else if vote == 0 {
+        Word::Tie
+    } else {
+        Word::After
+    }
+}
+
+/// Whether the engine says of a block and each one before it, in both orders, what the votes say.
+fn row_agrees(engine: &Engine, votes: &Matrix, x: u16) -> bool
+    requires whole { engine.now.broken ≡ false }
+    requires within { x < length engine.now.numbered.parents }
+    requires votes { HasVirts (graph_of engine.now.numbered.parents)
+        (numbers engine.now.numbered) (length engine.now.numbered.parents) votes.now }
+{
+    let dag = engine.dag();
+    let first = dag.id(x);
+    for y in 0..x {
+        let second = dag.id(y);
+        let one = engine.vote(&first, &second) == word_of(votes.vote(x, y));
+        let other = engine.vote(&second, &first) == word_of(votes.vote(y, x));
+        if !(one && other) {
+            return false;
+        }
+    }
+    true
+}
+
+/// Whether the engine says of each two present blocks what their plain votes say.
+pub fn all_agree(alloc: Global, engine: &Engine) -> Result<bool, Fail> {
+    if engine.broken() {
+        return Err("broken".into());
+    }
+    let dag = engine.dag();
+    let votes = votes_of_all(alloc, dag)?;
+    for x in 0..dag.len() {
+        if !row_agrees(engine, &votes, x) {
+            return Ok(false);
+        }
+    }
+    Ok(true)
+}
+
+/// Whether a row has the places of a past and one more.
+fn is_bar(row: &Row, past: &Row, n: u16) -> bool {
+    past.within(row) && row.count() == past.count().saturating_add(1) && row.highest() == Some(n)
+}
+
+/// Whether the views that the engine keeps are those of all blocks, and of each block that is no
+/// parent with its past.
+pub fn views_are_right(engine: &Engine) -> Result<bool, Fail> {
+    if engine.broken() {
+        return Err("broken".into());
+    }
+    let dag = engine.dag();
+    for n in 0..dag.len() {
+        let right = match engine.tip_view(n) {
+            Some(view) => dag.future(n).count() == 0 && is_bar(view.members(), dag.past(n), n),
+            None => dag.future(n).count() > 0,
+        };
+        if !right {
+            return Ok(false);
+        }
+    }
+    Ok(engine.view_all().members().count() == u32::from(dag.len()))
+}
