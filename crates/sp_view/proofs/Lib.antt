@@ -5,6 +5,8 @@ pub mod Downward
 pub mod Kept
 pub mod Bound
 pub mod JoinedRows
+pub mod Several
+pub mod Opened
 pub mod SameRows
 pub mod TwoRows
 pub mod Held
