@@ -7,6 +7,8 @@ pub mod Bound
 pub mod JoinedRows
 pub mod Several
 pub mod Opened
+pub mod Reached
+pub mod Opening
 pub mod SameRows
 pub mod TwoRows
 pub mod Held
