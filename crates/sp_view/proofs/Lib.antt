@@ -20,6 +20,7 @@ pub mod Tallies
 pub mod Votes
 pub mod Staying
 pub mod Bests
+pub mod Derived
 pub mod Starting
 pub mod Fresh
 pub mod Changes

@@ -1,7 +1,7 @@
 -- The voters that are asked anew when several blocks join a set, by rows.
 use Rattle.std.proofs.Common.{◌≡◌, ℕ, ◌<◌, Bool, true, false, ◌||◌, ◌&&◌, List, [], refl, sym, ap, ◌∙◌}
 use Rattle.std.specs.Prelude.{not}
-use Rattle.std.proofs.lemmas.Bool.{false≢true, and_parts, and_from, not-true, not_from_false, or_left, or_right}
+use Rattle.std.proofs.lemmas.Bool.{and_parts, and_from, not_from_false, or_left, or_right}
 use Rattle.sp_bits.specs.Places.{difference, meet, places_where, union}
 use Rattle.sp_bits.proofs.RowSets.{has_difference, has_places, has_union}
 use Rattle.sp_model.specs.Graph.{Graph, has}

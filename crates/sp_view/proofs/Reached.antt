@@ -1,14 +1,14 @@
 -- The pasts of some blocks, taken from the highest one down, where those that are in the past of another one are passed over.
 use Rattle.std.proofs.Common.{◌≡◌, ◌⊎◌, ℕ, suc, ◌<◌, ◌≤◌, Bool, true, false, ◌||◌, ◌&&◌, List, [], length, Option, Some, None, refl, sym, ap, ◌∙◌, eqb, ltb, inl, inr, arith}
 use Rattle.std.specs.Prelude.{not, IfSome, IsNone, ◌↔◌}
-use Rattle.std.proofs.lemmas.Bool.{false≢true, eqb-true, and_parts, and_from, or_left, or_right, cases_Bool, not_from_false}
+use Rattle.std.proofs.lemmas.Bool.{false≢true, eqb-true, and_parts, and_from, or_left, or_right, not_from_false}
 use Rattle.sp_bits.specs.Places.{difference, members_below, union, IsGreatest}
 use Rattle.sp_bits.proofs.RowSets.{has_difference, has_union}
 use Rattle.sp_dag.specs.Numbered.{graph_of, AreInOrder}
 use Rattle.sp_dag.proofs.Whole.{ancestors_lower, complete_numbered, past_members}
 use Rattle.sp_model.specs.Graph.{has, in_past, past, IsDownset}
 use Rattle.sp_model.proofs.Pasts.{past_trans}
-use Rattle.sp_view.specs.Settled.{without, is_left, left_of}
+use Rattle.sp_view.specs.Settled.{left_of}
 use Rattle.sp_view.proofs.Downward.{left_first, left_next}
 
 -- each block is left, or its past is there

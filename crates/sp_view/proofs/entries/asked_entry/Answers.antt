@@ -1,11 +1,6 @@
-use Rattle.std.proofs.Common.{◌≡◌, ◌≢◌, ◌∙◌, ◌<◌, ◌≤◌, ℕ, List, Some, cond, eqb, get_or, arith, refl, sym, inl, inr}
-use Rattle.std.proofs.Common.{Bool, true, false, [], length}
+use Rattle.std.proofs.Common.{◌≡◌, ◌≢◌, ◌∙◌, ◌≤◌, ℕ, Some, cond, eqb, get_or, arith, refl, sym, inl, inr}
+use Rattle.std.proofs.Common.{Bool, true, false}
 use Rattle.std.specs.Prelude.{slice_get}
-use Rattle.sp_bits.specs.Places.{difference}
-use Rattle.sp_frozen.specs.Voters.{AreFrozen, FrozenRows}
-use Rattle.sp_view.specs.Settled.{AreKept, AreOpen}
-use Rattle.sp_view.specs.Voting.{IsVoting}
-use Rattle.sp_model.specs.Graph.{has}
 use Rattle.std.proofs.lemmas.Bool.{cases_eq, eq-eqb}
 use Rattle.sp_dag.specs.Numbered.{graph_of, pairs_of}
 use Rattle.sp_model.specs.Graph.{Graph}
@@ -14,7 +9,7 @@ use Rattle.sp_view.specs.Stored.{count_of, row_of}
 use Rattle.sp_view.specs.Settled.{AreSides}
 use Rattle.sp_view.proofs.Held.{some_pair}
 use Rattle.sp_view.proofs.Moves.{first_changes, second_changes, both_change}
-use Rattle.sp_view.proofs.TwoRows.{frozen_among, first_stays, second_before, others_stay}
+use Rattle.sp_view.proofs.TwoRows.{first_stays, second_before, others_stay}
 use Rattle.sp_view.proofs.entries.asked_entry.Goals as goal
 
 kept_id : {a b : ℕ} → a ≡ b → cond {A = ℕ} (eqb a b) 0 1 ≡ 0

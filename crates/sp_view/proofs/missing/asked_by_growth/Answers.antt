@@ -1,11 +1,10 @@
-use Rattle.std.proofs.Common.{◌≡◌, ◌≢◌, ◌∙◌, ◌<◌, ◌&&◌, ℕ, List, [], true, false, arith, get_or, sym}
+use Rattle.std.proofs.Common.{◌≡◌, ◌≢◌, ◌∙◌, ◌<◌, ◌&&◌, ℕ, List, [], true, arith, get_or, sym}
 use Rattle.std.proofs.lemmas.Bool.{and_parts}
 use Rattle.sp_dag.specs.Numbered.{graph_of, pairs_of, IsPair}
 use Rattle.sp_dag.proofs.Whole.{downset_numbered, pair_kind}
 use Rattle.sp_frozen.specs.Voters.{AreFrozen}
 use Rattle.sp_model.specs.Graph.{Graph, has}
 use Rattle.sp_model.specs.Loose.{is_loose}
-use Rattle.sp_view.specs.Settled.{AreOpen}
 use Rattle.sp_view.specs.Stored.{row_of}
 use Rattle.sp_view.proofs.Held.{some_pair}
 use Rattle.sp_view.proofs.Opened.{several_kept}

@@ -1,7 +1,6 @@
-use Rattle.std.proofs.Common.{◌≡◌, ◌∙◌, ◌<◌, ◌≤◌, ℕ, List, [], true, ap, arith, length, sym}
+use Rattle.std.proofs.Common.{◌≡◌, ◌∙◌, ◌<◌, ℕ, List, [], true, ap, arith, sym}
 use Rattle.std.proofs.lemmas.Bool.{false≢true}
 use Rattle.sp_model.specs.Graph.{has}
-use Rattle.sp_view.specs.Stored.{row_of}
 use Rattle.sp_view.proofs.Opening.{joining_member, joining_there, left_from, left_there}
 use Rattle.sp_view.proofs.missing.opened_by.Goals as goal
 

@@ -1,11 +1,10 @@
-use Rattle.std.proofs.Common.{◌≡◌, ◌∙◌, ◌<◌, ◌≤◌, ℕ, List, [], Option, Some, true, ap, arith, length, subst, sym}
+use Rattle.std.proofs.Common.{◌≡◌, ◌∙◌, ◌<◌, ◌≤◌, ℕ, List, [], Option, true, ap, arith, length, subst, sym}
 use Rattle.std.specs.Prelude.{IfSome, IsNone, ◌↔◌}
 use Rattle.sp_bits.specs.Places.{difference, members_below, union, IsGreatest}
-use Rattle.sp_bits.proofs.RowSets.{row_small}
 use Rattle.sp_dag.specs.Numbered.{graph_of, AreInOrder}
 use Rattle.sp_model.specs.Graph.{has, past}
-use Rattle.sp_view.proofs.Downward.{first_member, next_member}
-use Rattle.sp_view.proofs.Reached.{AreCovered, covered_first, covered_last, covered_next, joined_small, joined_within, left_parts}
+use Rattle.sp_view.proofs.Downward.{next_member}
+use Rattle.sp_view.proofs.Reached.{AreCovered, covered_next, joined_small, joined_within, left_parts}
 use Rattle.sp_view.proofs.missing.pasts_of.Goals as goal
 
 pub pasts-preserved : goal.pasts-preserved
