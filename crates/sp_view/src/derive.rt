@@ -185,10 +185,10 @@ fn derived_entry(
     ensures moved { IfOk result (λ entry. live pool.new ≤ live pool.old + moved_of before entry) }
 {
     match before {
-        Some(entry) => match old_entry(dag, frozen, pool, from, target, pair, entry) {
-            Ok(rows) => Ok(Some(rows)),
-            Err(refused) => Err(refused),
-        },
+        Some(entry) => {
+            let rows = old_entry(dag, frozen, pool, from, target, pair, entry)?;
+            Ok(Some(rows))
+        }
         None => brought_entry(dag, frozen, pool, target, pair),
     }
 }
