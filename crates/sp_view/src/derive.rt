@@ -1,5 +1,5 @@
 //! The entries of a view of a set, from those of a view within it, in one pass over the pairs. An old
-//! pair of which no vote is asked shares both rows as they stand: none is copied or compared.
+//! pair of which no vote is asked shares both rows as they stand; none is made anew and compared.
 
 ghost use Rattle.std.specs.Prelude.{◌≡◌, ◌≢◌, ◌<◌, ◌≤◌, ◌+◌, ◌-◌, ◌^◌, ◌==◌, ℕ, [], length, IfOk, OnOk, OnErr, if◌then◌else◌, slice_get, None, Some, vec_capacity};
 ghost use Rattle.sp_dag.specs.Numbered.{graph_of, pairs_of};

@@ -20,8 +20,8 @@ use sp_dag::Dag;
 use sp_frozen::Frozen;
 use sp_rows::RowPool;
 
-// The blocks in the past of some others. It takes one step over a row for each of these that isn't in
-// the past of another one.
+// The blocks in the past of some others. It takes three steps over rows for each of these that isn't
+// in the past of another one.
 fn pasts_of(dag: &Dag, blocks: &Row) -> Row
     requires { (b : ℕ) → IsTrue (has blocks.now b) → b < length dag.now.parents }
     ensures covers { (b z : ℕ) → IsTrue (has blocks.now b) →

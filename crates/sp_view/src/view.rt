@@ -262,11 +262,10 @@ impl View {
     /// The view of a set, from that one of some views within it that has most members, the first of
     /// equals, or from none. A row that has the same places in both sets is the same one.
     ///
-    /// It goes over the pairs once. For a pair inside that view it takes a step over a row for each
-    /// side and each block that joins, votes so and isn't in the past of another such one, and two
-    /// passes over a row for each voter that is asked anew. Where none is asked, the view that is
-    /// made shares both rows: neither is copied or compared. For another pair inside the set it takes
-    /// two passes over a row for each loose voter.
+    /// It goes over the pairs once. For a pair inside that view it takes a few steps over rows, three
+    /// for each block that joins, is frozen on the pair and isn't in the past of another such block,
+    /// and two for each voter that is asked anew; where none is asked, both rows are shared as they
+    /// stand. For another pair inside the set it takes two for each loose voter.
     ///
     /// # Errors
     ///
