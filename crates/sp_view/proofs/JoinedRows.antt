@@ -52,14 +52,14 @@ kept_new g set x y todo is = record {
 
 -- ---- signs
 
-plus_one : (v : ℤ) → is_plus v ≡ true → v ≡ pos 1
+pub plus_one : (v : ℤ) → is_plus v ≡ true → v ≡ pos 1
 plus_one (negsuc zero) h = absurd (false≢true h)
 plus_one (negsuc (suc n)) h = absurd (false≢true h)
 plus_one (pos zero) h = absurd (false≢true h)
 plus_one (pos (suc zero)) h = refl
 plus_one (pos (suc (suc n))) h = absurd (false≢true h)
 
-minus_one : (v : ℤ) → is_minus v ≡ true → v ≡ negsuc 0
+pub minus_one : (v : ℤ) → is_minus v ≡ true → v ≡ negsuc 0
 minus_one (negsuc zero) h = refl
 minus_one (negsuc (suc n)) h = absurd (false≢true h)
 minus_one (pos zero) h = absurd (false≢true h)

@@ -5,6 +5,10 @@ pub mod Downward
 pub mod Kept
 pub mod Bound
 pub mod JoinedRows
+pub mod Several
+pub mod Opened
+pub mod Reached
+pub mod Opening
 pub mod SameRows
 pub mod TwoRows
 pub mod Held
@@ -16,6 +20,7 @@ pub mod Tallies
 pub mod Votes
 pub mod Staying
 pub mod Bests
+pub mod Derived
 pub mod Starting
 pub mod Fresh
 pub mod Changes

@@ -20,3 +20,9 @@ pub record IsJoined (table : List (List ℕ)) (frozen : FrozenRows) (b : ℕ) (b
   pub voting : IsVoting table frozen set
   pub joins : Joins (graph_of table) b before set
   pub row : IsRow before
+
+-- such a set that holds a smaller one, which has the past of each of its members too
+pub record IsGrown (table : List (List ℕ)) (frozen : FrozenRows) (before set : List ℕ) : Type 0 where
+  pub voting : IsVoting table frozen set
+  pub asked : IsAsked (graph_of table) before
+  pub into : (z : ℕ) → has before z ≡ true → has set z ≡ true

@@ -1,18 +1,18 @@
-//! The entries of a view of a set, from those of a view within it. One pass over the pairs finds the
-//! rows of each pair over the whole set; a row that is the same as before is shared.
+//! The entries of a view of a set, from those of a view within it, in one pass over the pairs. An old
+//! pair of which no vote is asked shares both rows as they stand; none is made anew and compared.
 
-ghost use Rattle.std.specs.Prelude.{◌≡◌, ◌≢◌, ◌<◌, ◌≤◌, ◌+◌, ◌-◌, ◌^◌, ◌==◌, ℕ, List, [], length, IsTrue, IfOk, OnOk, OnErr, if◌then◌else◌, slice_get, Some, vec_capacity};
-ghost use Rattle.sp_bits.specs.Places.{IsRow};
-ghost use Rattle.sp_model.specs.Graph.{has};
+ghost use Rattle.std.specs.Prelude.{◌≡◌, ◌≢◌, ◌<◌, ◌≤◌, ◌+◌, ◌-◌, ◌^◌, ◌==◌, ℕ, [], length, IfOk, OnOk, OnErr, if◌then◌else◌, slice_get, None, Some, vec_capacity};
 ghost use Rattle.sp_dag.specs.Numbered.{graph_of, pairs_of};
 ghost use Rattle.sp_view.specs.Stored.{count_of, row_of, spare, live};
-ghost use Rattle.sp_view.specs.Voting.{IsVoting};
+ghost use Rattle.sp_view.specs.Voting.{IsGrown, IsVoting};
 ghost use Rattle.sp_view.specs.Views.{holds, held, moved_of, AreEntries, AreKeptIds, IsEntry, IsOnce, KeepIds};
-ghost use Rattle.sp_view.specs.Moving.{moves_of, moved_rows};
+ghost use Rattle.sp_view.specs.Moving.{moved_rows};
 
-use crate::asking::{entry_of, has_both};
-use crate::entries::are_same;
+use crate::asking::{entry_of, has_both, is_none};
+use crate::entries::{are_same, asked_rows};
+use crate::missing::asked_by_growth;
 use crate::pair_rows::{Sides, new_rows};
+use crate::sharing::share_entry;
 use crate::stored::{RowName, row_at, share, taken};
 use sp_bits::Row;
 use sp_dag::Dag;
@@ -41,7 +41,7 @@ fn shared(pool: &mut RowPool, id: RowName, row: &Row) -> RowName
     taken(pool, row)
 }
 
-// The rows of a pair that was inside the view before.
+// The rows of a pair that was inside the view before, where votes were asked anew.
 fn shared_entry(pool: &mut RowPool, entry: (RowName, RowName), new: &Sides) -> (RowName, RowName)
     requires live { (r : ℕ) → holds (Some entry) r ≤ count_of pool.old r }
     requires once { (r : ℕ) → holds (Some entry) r ≤ 1 }
@@ -77,59 +77,69 @@ fn taken_entry(pool: &mut RowPool, new: &Sides) -> (RowName, RowName)
     (plus, minus)
 }
 
-// The rows of a pair inside the set, from those that were there before.
-fn placed(pool: &mut RowPool, before: Option<(RowName, RowName)>, new: &Sides) -> (RowName, RowName)
-    requires live { (r : ℕ) → holds before r ≤ count_of pool.old r }
-    requires once { (r : ℕ) → holds before r ≤ 1 }
-    requires few { (r : ℕ) → 0 < holds before r → count_of pool.old r < 2 ^ 32 - 1 }
-    requires room { 2 ≤ spare pool.old }
-    ensures plus { row_of pool.new result.0 ≡ new.now.plus }
-    ensures minus { row_of pool.new result.1 ≡ new.now.minus }
-    ensures kept { (entry : ℕ × ℕ) → before ≡ Some entry →
-        (new.now.plus ≡ row_of pool.old entry.0 → result.0 ≡ entry.0)
-        × (new.now.minus ≡ row_of pool.old entry.1 → result.1 ≡ entry.1) }
-    ensures counts { (r : ℕ) → count_of pool.new r ≡ count_of pool.old r + holds (Some result) r }
+// The rows of a pair that was inside the view before. Where no vote is asked, both are shared.
+fn old_entry(
+    dag: &Dag,
+    frozen: &Frozen,
+    pool: &mut RowPool,
+    from: &Row,
+    target: &Row,
+    pair: u32,
+    entry: (RowName, RowName),
+) -> Result<(RowName, RowName), Memory>
+    requires grown { IsGrown dag.now.parents frozen.now from.now target.now }
+    requires listed { pair < length (pairs_of dag.now.parents) }
+    requires live { (r : ℕ) → holds (Some entry) r ≤ count_of pool.old r }
+    requires once { (r : ℕ) → holds (Some entry) r ≤ 1 }
+    requires few { (r : ℕ) → 0 < holds (Some entry) r → count_of pool.old r < 2 ^ 32 - 1 }
+    requires room { live pool.old + 2 ≤ 2 ^ 31 }
+    requires entry { (x y : ℕ) → slice_get (pairs_of dag.now.parents) pair ≡ Some (x, y) →
+        IsEntry (graph_of dag.now.parents) from.now x y pool.old (Some entry) }
+    ensures entry { IfOk result (λ rows. (x y : ℕ) →
+        slice_get (pairs_of dag.now.parents) pair ≡ Some (x, y) →
+        IsEntry (graph_of dag.now.parents) target.now x y pool.new (Some rows)) }
+    ensures kept { IfOk result (λ rows. (x y : ℕ) →
+        slice_get (pairs_of dag.now.parents) pair ≡ Some (x, y) →
+        KeepIds (graph_of dag.now.parents) from.now target.now x y (Some entry) (Some rows)) }
+    ensures counts { IfOk result (λ rows. (r : ℕ) →
+        count_of pool.new r ≡ count_of pool.old r + holds (Some rows) r) }
+    ensures err { OnErr result (pool.new.rows ≡ pool.old.rows) }
     ensures others { (r : ℕ) → 0 < count_of pool.old r → row_of pool.new r ≡ row_of pool.old r }
-    ensures once { (r : ℕ) →
-        IsOnce (count_of pool.old r) (holds before r) (holds (Some result) r) }
-    ensures live { live pool.new ≡ live pool.old + moved_of before (Some result) }
+    ensures once { IfOk result (λ rows. (r : ℕ) →
+        IsOnce (count_of pool.old r) (holds (Some entry) r) (holds (Some rows) r)) }
+    ensures moved { IfOk result (λ rows.
+        live pool.new ≤ live pool.old + moved_of (Some entry) (Some rows)) }
 {
-    match before {
-        Some(entry) => shared_entry(pool, entry, new),
-        None => taken_entry(pool, new),
+    let todo = asked_by_growth(dag, frozen, pool, from, target, pair, &entry);
+    if is_none(&todo) {
+        share_entry(pool, Some(entry));
+        return Ok(entry);
     }
+    pool.reserve(2)?;
+    let new = asked_rows(dag, frozen, pool, target, pair, &entry, &todo);
+    Ok(shared_entry(pool, entry, &new))
 }
 
-// The entry of a pair in the view of the set, from that in the view of a set within it.
-fn derived_entry(
+// The entry of a pair that was not inside the view before.
+fn brought_entry(
     dag: &Dag,
     frozen: &Frozen,
     pool: &mut RowPool,
     target: &Row,
     pair: u32,
-    before: Option<(RowName, RowName)>,
 ) -> Result<Option<(RowName, RowName)>, Memory>
     requires voting { IsVoting dag.now.parents frozen.now target.now }
     requires listed { pair < length (pairs_of dag.now.parents) }
-    requires live { (r : ℕ) → holds before r ≤ count_of pool.old r }
-    requires once { (r : ℕ) → holds before r ≤ 1 }
-    requires few { (r : ℕ) → 0 < holds before r → count_of pool.old r < 2 ^ 32 - 1 }
     requires room { live pool.old + 2 ≤ 2 ^ 31 }
     ensures entry { IfOk result (λ entry. (x y : ℕ) →
         slice_get (pairs_of dag.now.parents) pair ≡ Some (x, y) →
         IsEntry (graph_of dag.now.parents) target.now x y pool.new entry) }
-    ensures kept { IfOk result (λ entry. (set : List ℕ) (x y : ℕ) →
-        slice_get (pairs_of dag.now.parents) pair ≡ Some (x, y) →
-        ((z : ℕ) → IsTrue (has set z) → IsTrue (has target.now z)) →
-        IsEntry (graph_of dag.now.parents) set x y pool.old before →
-        KeepIds (graph_of dag.now.parents) set target.now x y before entry) }
     ensures counts { IfOk result (λ entry. (r : ℕ) →
         count_of pool.new r ≡ count_of pool.old r + holds entry r) }
     ensures err { OnErr result (pool.new.rows ≡ pool.old.rows) }
     ensures others { (r : ℕ) → 0 < count_of pool.old r → row_of pool.new r ≡ row_of pool.old r }
-    ensures once { IfOk result (λ entry. (r : ℕ) →
-        IsOnce (count_of pool.old r) (holds before r) (holds entry r)) }
-    ensures moved { IfOk result (λ entry. live pool.new ≤ live pool.old + moved_of before entry) }
+    ensures once { IfOk result (λ entry. (r : ℕ) → IsOnce (count_of pool.old r) 0 (holds entry r)) }
+    ensures moved { IfOk result (λ entry. live pool.new ≤ live pool.old + moved_of None entry) }
 {
     // Tells the proof that there are at most 512 blocks.
     let _blocks = dag.len();
@@ -139,7 +149,48 @@ fn derived_entry(
     }
     pool.reserve(2)?;
     let new = new_rows(dag, target, frozen.plus(pair), frozen.minus(pair), x, y);
-    Ok(Some(placed(pool, before, &new)))
+    Ok(Some(taken_entry(pool, &new)))
+}
+
+// The entry of a pair in the view of the set, from that in the view of a set within it.
+fn derived_entry(
+    dag: &Dag,
+    frozen: &Frozen,
+    pool: &mut RowPool,
+    from: &Row,
+    target: &Row,
+    pair: u32,
+    before: Option<(RowName, RowName)>,
+) -> Result<Option<(RowName, RowName)>, Memory>
+    requires grown { IsGrown dag.now.parents frozen.now from.now target.now }
+    requires listed { pair < length (pairs_of dag.now.parents) }
+    requires live { (r : ℕ) → holds before r ≤ count_of pool.old r }
+    requires once { (r : ℕ) → holds before r ≤ 1 }
+    requires few { (r : ℕ) → 0 < holds before r → count_of pool.old r < 2 ^ 32 - 1 }
+    requires room { live pool.old + 2 ≤ 2 ^ 31 }
+    requires entry { (x y : ℕ) → slice_get (pairs_of dag.now.parents) pair ≡ Some (x, y) →
+        IsEntry (graph_of dag.now.parents) from.now x y pool.old before }
+    ensures entry { IfOk result (λ entry. (x y : ℕ) →
+        slice_get (pairs_of dag.now.parents) pair ≡ Some (x, y) →
+        IsEntry (graph_of dag.now.parents) target.now x y pool.new entry) }
+    ensures kept { IfOk result (λ entry. (x y : ℕ) →
+        slice_get (pairs_of dag.now.parents) pair ≡ Some (x, y) →
+        KeepIds (graph_of dag.now.parents) from.now target.now x y before entry) }
+    ensures counts { IfOk result (λ entry. (r : ℕ) →
+        count_of pool.new r ≡ count_of pool.old r + holds entry r) }
+    ensures err { OnErr result (pool.new.rows ≡ pool.old.rows) }
+    ensures others { (r : ℕ) → 0 < count_of pool.old r → row_of pool.new r ≡ row_of pool.old r }
+    ensures once { IfOk result (λ entry. (r : ℕ) →
+        IsOnce (count_of pool.old r) (holds before r) (holds entry r)) }
+    ensures moved { IfOk result (λ entry. live pool.new ≤ live pool.old + moved_of before entry) }
+{
+    match before {
+        Some(entry) => {
+            let rows = old_entry(dag, frozen, pool, from, target, pair, entry)?;
+            Ok(Some(rows))
+        }
+        None => brought_entry(dag, frozen, pool, target, pair),
+    }
 }
 
 // The entries of the view of a set, from those of the view of a set within it.
@@ -147,11 +198,13 @@ pub(crate) fn derive_entries(
     dag: &Dag,
     frozen: &Frozen,
     pool: &mut RowPool,
+    from: &Row,
     target: &Row,
     base: &[Option<(RowName, RowName)>],
     entries: &mut Vec<Option<(RowName, RowName)>>,
 ) -> Result<(), Memory>
-    requires voting { IsVoting dag.now.parents frozen.now target.now }
+    requires grown { IsGrown dag.now.parents frozen.now from.now target.now }
+    requires entry { AreEntries dag.now.parents from.now pool.old base.now }
     requires live { (r : ℕ) → held base.now r ≤ count_of pool.old r }
     requires once { (r : ℕ) → held base.now r ≤ 1 }
     requires few { (r : ℕ) → 0 < held base.now r → count_of pool.old r < 2 ^ 32 - 1 }
@@ -161,23 +214,18 @@ pub(crate) fn derive_entries(
     ensures long { OnOk result (length entries.new.items ≡ length (pairs_of dag.now.parents)) }
     ensures entry { OnOk result
         (AreEntries dag.now.parents target.now pool.new entries.new.items) }
-    ensures kept { OnOk result ((set : List ℕ) →
-        ((z : ℕ) → IsTrue (has set z) → IsTrue (has target.now z)) →
-        AreEntries dag.now.parents set pool.old base.now →
-        AreKeptIds dag.now.parents set target.now base.now entries.new.items) }
+    ensures kept { OnOk result (AreKeptIds dag.now.parents from.now target.now
+        base.now entries.new.items) }
     ensures counts { (r : ℕ) →
         count_of pool.new r ≡ count_of pool.old r + held entries.new.items r }
     ensures others { (r : ℕ) → 0 < count_of pool.old r → row_of pool.new r ≡ row_of pool.old r }
     ensures once { (r : ℕ) → held entries.new.items r ≤ 1 }
-    ensures live { OnOk result ((set : List ℕ) → IsRow set →
-        ((z : ℕ) → IsTrue (has set z) → IsTrue (has target.now z)) →
-        AreEntries dag.now.parents set pool.old base.now →
-        live pool.new ≤ live pool.old
-        + moved_rows (graph_of dag.now.parents) set target.now (pairs_of dag.now.parents)) }
+    ensures live { OnOk result (live pool.new ≤ live pool.old
+        + moved_rows (graph_of dag.now.parents) from.now target.now (pairs_of dag.now.parents)) }
 {
     'pairs: for pair in 0..dag.pair_count() {
         let before = entry_of(base, pair as usize);
-        let entry = derived_entry(dag, frozen, pool, target, pair, before)?;
+        let entry = derived_entry(dag, frozen, pool, from, target, pair, before)?;
         entries.push_reserved(entry);
     }
     Ok(())

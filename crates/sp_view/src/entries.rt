@@ -55,6 +55,42 @@ fn written(pool: &mut RowPool, id: RowName, row: &Row) -> RowName
     taken(pool, row)
 }
 
+// The voters of a pair that was inside the set before it grew, where the votes of `todo` are asked
+// anew.
+pub(crate) fn asked_rows(
+    dag: &Dag,
+    frozen: &Frozen,
+    pool: &RowPool,
+    members: &Row,
+    pair: u32,
+    entry: &(RowName, RowName),
+    todo: &Row,
+) -> Sides
+    requires voting { IsVoting dag.now.parents frozen.now members.now }
+    requires inside { pair < length frozen.now.pluses }
+    requires live { (r : ℕ) → holds (Some entry.now) r ≤ count_of pool.now r }
+    requires within { (z : ℕ) → IsTrue (has todo.now z) → IsTrue (has members.now z) }
+    ensures { (x y : ℕ) → slice_get (pairs_of dag.now.parents) pair ≡ Some (x, y) →
+        AreOpen (graph_of dag.now.parents) members.now x y (has todo.now)
+        × AreKept (graph_of dag.now.parents) members.now x y (has todo.now)
+        (difference (row_of pool.now entry.now.0) todo.now)
+        (difference (row_of pool.now entry.now.1) todo.now) →
+        AreSides (graph_of dag.now.parents) members.now x y result.plus result.minus }
+{
+    let sides = Sides {
+        plus: row_at(pool, entry.0),
+        minus: row_at(pool, entry.1),
+    };
+    joined_rows(
+        dag,
+        members,
+        frozen.plus(pair),
+        frozen.minus(pair),
+        &sides,
+        todo,
+    )
+}
+
 // The rows of a pair that was inside the set before the block joined, where the votes of `todo` are
 // asked anew.
 fn asked_entry(
@@ -98,18 +134,7 @@ fn asked_entry(
     ensures spare { spare pool.old ≤ spare pool.new + moved_of (Some entry) (Some result) }
     ensures live { live pool.new ≤ live pool.old + moved_of (Some entry) (Some result) }
 {
-    let sides = Sides {
-        plus: row_at(pool, entry.0),
-        minus: row_at(pool, entry.1),
-    };
-    let new = joined_rows(
-        dag,
-        members,
-        frozen.plus(pair),
-        frozen.minus(pair),
-        &sides,
-        todo,
-    );
+    let new = asked_rows(dag, frozen, pool, members, pair, &entry, todo);
     let plus = written(pool, entry.0, &new.plus);
     let minus = written(pool, entry.1, &new.minus);
     (plus, minus)

@@ -7,6 +7,7 @@ mod best;
 mod derive;
 mod entries;
 pub mod laws;
+mod missing;
 mod pair_rows;
 mod settle;
 mod sharing;

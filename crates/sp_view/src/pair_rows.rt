@@ -21,7 +21,7 @@ pub(crate) struct Sides {
 }
 
 // The blocks that are bound on a pair: both of it and all that have one in their past.
-fn bound_on(dag: &Dag, x: u16, y: u16) -> Row
+pub(crate) fn bound_on(dag: &Dag, x: u16, y: u16) -> Row
     requires x_in { x < length dag.now.parents }
     requires y_in { y < length dag.now.parents }
     ensures { result ≡ places_where (λ z. not (is_loose (graph_of dag.now.parents) z x y)) }

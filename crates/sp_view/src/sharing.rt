@@ -8,7 +8,7 @@ use crate::stored::{RowName, give, share};
 use sp_rows::RowPool;
 
 // One holder more of each row of an entry.
-fn share_entry(pool: &mut RowPool, entry: Option<(RowName, RowName)>)
+pub(crate) fn share_entry(pool: &mut RowPool, entry: Option<(RowName, RowName)>)
     requires some { (r : ℕ) → holds entry r ≤ count_of pool.old r }
     requires few { (r : ℕ) → 0 < holds entry r → count_of pool.old r + holds entry r < 2 ^ 32 }
     ensures counts { (r : ℕ) → count_of pool.new r ≡ count_of pool.old r + holds entry r }

@@ -62,18 +62,14 @@ fn grow(entries: &mut Vec<Option<(RowName, RowName)>>, long: usize)
     }
 }
 
-// The entries of the best view within the target; there are none where no view is within it.
-fn start<'a>(views: &'a [View], target: &Row) -> &'a [Option<(RowName, RowName)>]
-    ensures start { (view : Viewed) × IsStart views.now target.now view
-        × (view.entries ≡ result.now) }
-    ensures once { (r : ℕ) → held result.now r ≤ 1 }
+// The best view within the target, or that of no blocks where none is within it.
+fn start<'a>(views: &'a [View], nothing: &'a View, target: &Row) -> &'a View
+    requires { nothing.now ≡ record { members = []; entries = [] } }
+    ensures { IsStart views.now target.now result.now }
 {
     match best_within(views, target) {
-        Some(i) => {
-            let view = &views[i];
-            view.entries.as_slice()
-        }
-        None => &[],
+        Some(i) => &views[i],
+        None => nothing,
     }
 }
 
@@ -94,6 +90,14 @@ impl View {
         ensures { result.now ≡ self.now.members }
     {
         &self.members
+    }
+
+    // The entries, lent as they stand.
+    fn entries(&self) -> &[Option<(RowName, RowName)>]
+        ensures same { result.now ≡ self.now.entries }
+        ensures once { (r : ℕ) → held result.now r ≤ 1 }
+    {
+        self.entries.as_slice()
     }
 
     // The names of the two rows of a pair.
@@ -258,8 +262,10 @@ impl View {
     /// The view of a set, from that one of some views within it that has most members, the first of
     /// equals, or from none. A row that has the same places in both sets is the same one.
     ///
-    /// It goes over the pairs once. For each pair inside the set it takes two passes over a row for
-    /// each loose voter.
+    /// It goes over the pairs once. For a pair inside that view it takes a few steps over rows, three
+    /// for each block that joins, is frozen on the pair and isn't in the past of another such block,
+    /// and two for each voter that is asked anew; where none is asked, both rows are shared as they
+    /// stand. For another pair inside the set it takes two for each loose voter.
     ///
     /// # Errors
     ///
@@ -296,8 +302,17 @@ impl View {
         // Tells the proof that there are at most 130,816 pairs, of blocks that stand in order.
         let _blocks = dag.len();
         let mut entries = Vec::with_capacity(alloc, dag.pair_count() as usize)?;
-        let base = start(views, target);
-        match derive_entries(dag, frozen, pool, target, base, &mut entries) {
+        let nothing = View::empty(alloc);
+        let base = start(views, &nothing, target);
+        match derive_entries(
+            dag,
+            frozen,
+            pool,
+            base.members(),
+            target,
+            base.entries(),
+            &mut entries,
+        ) {
             Ok(()) => Ok(View {
                 alloc,
                 members: *target,

@@ -4,7 +4,7 @@ use Rattle.std.proofs.lemmas.Bool.{cases_lt}
 use Rattle.sp_dag.specs.Numbered.{graph_of, pairs_of}
 use Rattle.sp_model.specs.Graph.{Graph}
 use Rattle.sp_view.specs.Stored.{count_of, row_of}
-use Rattle.sp_view.specs.Views.{entry_at, holds, held, AreEntries, IsEntry, IsOnce, KeepIds}
+use Rattle.sp_view.specs.Views.{entry_at, holds, held, IsEntry, IsOnce, KeepIds}
 use Rattle.sp_view.proofs.Held.{entry_last, entry_moves, entry_push, held_push, held_take_le, held_take_next, holds_held, once_end, once_more, some_pair}
 use Rattle.sp_view.proofs.Moves.{moved_few, moved_moves, moved_take}
 use Rattle.sp_view.proofs.derive.derive_entries.Goals as goal
@@ -38,6 +38,13 @@ derived_entry-requires-clause-few c = λ r some.
 pub derived_entry-requires-clause-room : goal.derived_entry-requires-clause-room
 derived_entry-requires-clause-room c = omega (arith, c.pairs.invariant.few, c.requires.room, c.pair_count-pair-end.ensures.bound, c.pairs-test.true)
 
+pub derived_entry-requires-clause-entry : goal.derived_entry-requires-clause-entry
+derived_entry-requires-clause-entry c = λ x y at.
+    let base = c.args.base.now in
+    subst (λ (e : Option (ℕ × ℕ)). IsEntry (graph_of c.args.dag.now.parents) c.args.from.now x y c.pairs.pool e) (sym c.entry_of-before.ensures)
+    (entry_moves (graph_of c.args.dag.now.parents) c.args.from.now x y c.args.pool.now c.pairs.pool (entry_at base c.pairs.pair)
+    (λ r some. c.pairs.invariant.others r (omega (arith, some, holds_held base c.pairs.pair r, c.requires.live r))) (c.requires.entry c.pairs.pair x y at))
+
 pub pairs-preserved : goal.pairs-preserved
 pairs-preserved c =
     let table : List (List ℕ) = c.args.dag.now.parents in
@@ -53,10 +60,10 @@ pairs-preserved c =
     let items : c.push_reserved.new.self.items ≡ entries ++ entry ∷ [] = c.push_reserved.ensures.items in
     let rows : (r : ℕ) → 0 < count_of c.pairs.pool r → row_of c.derived_entry.new.pool r ≡ row_of c.pairs.pool r = c.in_ok-entry.ensures.others in
     let before : c.entry_of-before.result ≡ entry_at base i = c.entry_of-before.ensures in
-    let base_i : (set : List ℕ) (x y : ℕ) → slice_get (pairs_of table) i ≡ Some (x, y) → AreEntries table set c.args.pool.now base → IsEntry g set x y c.pairs.pool c.entry_of-before.result =
-    λ set x y at are. subst (λ (e : Option (ℕ × ℕ)). IsEntry g set x y c.pairs.pool e) (sym before)
-    (entry_moves g set x y c.args.pool.now c.pairs.pool (entry_at base i)
-    (λ r some. c.pairs.invariant.others r (omega (arith, some, holds_held base i r, c.requires.live r))) (are i x y at)) in
+    let base_i : (x y : ℕ) → slice_get (pairs_of table) i ≡ Some (x, y) → IsEntry g c.args.from.now x y c.pairs.pool c.entry_of-before.result =
+    λ x y at. subst (λ (e : Option (ℕ × ℕ)). IsEntry g c.args.from.now x y c.pairs.pool e) (sym before)
+    (entry_moves g c.args.from.now x y c.args.pool.now c.pairs.pool (entry_at base i)
+    (λ r some. c.pairs.invariant.others r (omega (arith, some, holds_held base i r, c.requires.live r))) (c.requires.entry i x y at)) in
     record {
       long = omega (arith, c.push_reserved.ensures.len, c.pairs.invariant.long);
       room = omega (arith, c.push_reserved.ensures.capacity, c.pairs.invariant.room);
@@ -69,15 +76,15 @@ pairs-preserved c =
             | inr more ↦ (let same : j ≡ i = omega (arith, le, more) in
                 rw (entry_last entries entry j (omega (arith, same, long))) (c.in_ok-entry.ensures.entry x y (ap (slice_get (pairs_of table)) (sym same) ∙ at)))
           ]);
-      kept = λ set within are j x y le at.
-          subst (λ (l : List (Option (ℕ × ℕ))). KeepIds g set c.args.target.now x y (entry_at base j) (entry_at l j)) (sym items)
+      kept = λ j x y le at.
+          subst (λ (l : List (Option (ℕ × ℕ))). KeepIds g c.args.from.now c.args.target.now x y (entry_at base j) (entry_at l j)) (sym items)
           (elim (cases_lt j i) [
-            | inl less ↦ rw (entry_push entries entry j (omega (arith, less, long))) (c.pairs.invariant.kept set within are j x y less at)
+            | inl less ↦ rw (entry_push entries entry j (omega (arith, less, long))) (c.pairs.invariant.kept j x y less at)
             | inr more ↦ (let same : j ≡ i = omega (arith, le, more) in
                 let at' : slice_get (pairs_of table) i ≡ Some (x, y) = ap (slice_get (pairs_of table)) (sym same) ∙ at in
                 rw (entry_last entries entry j (omega (arith, same, long)))
-                (subst (λ (e : Option (ℕ × ℕ)). KeepIds g set c.args.target.now x y e entry) (before ∙ ap (entry_at base) (sym same))
-                (c.in_ok-entry.ensures.kept set x y at' within (base_i set x y at' are))))
+                (subst (λ (e : Option (ℕ × ℕ)). KeepIds g c.args.from.now c.args.target.now x y e entry) (before ∙ ap (entry_at base) (sym same))
+                (c.in_ok-entry.ensures.kept x y at')))
           ]);
       counts = λ r.
           let held_is : held c.push_reserved.new.self.items r ≡ held entries r + holds entry r = ap (λ (l : List (Option (ℕ × ℕ))). held l r) items ∙ held_push entries entry r in
@@ -91,15 +98,14 @@ pairs-preserved c =
           (once_more (count_of c.args.pool.now r) (held (take i base) r) (holds (entry_at base i) r) (held entries r) (holds entry r) (c.pairs.invariant.once r) next
           (omega (arith, holds_held base i r, c.requires.live r)));
       few = omega (arith, c.in_ok-entry.ensures.moved, moved_few c.entry_of-before.result entry, c.pairs.invariant.few);
-      live = λ set row within are.
-          omega (
-            arith,
-            c.in_ok-entry.ensures.moved,
-            moved_moves g set c.args.target.now pair.0 pair.1 c.pairs.pool c.derived_entry.new.pool c.entry_of-before.result entry row c.requires.voting.asked.row
-                (base_i set pair.0 pair.1 at_i are) (c.in_ok-entry.ensures.entry pair.0 pair.1 at_i) (c.in_ok-entry.ensures.kept set pair.0 pair.1 at_i within (base_i set pair.0 pair.1 at_i are)),
-            c.pairs.invariant.live set row within are,
-            moved_take g set c.args.target.now (pairs_of table) i pair.0 pair.1 at_i,
-          );
+      live = omega (
+        arith,
+        c.in_ok-entry.ensures.moved,
+        moved_moves g c.args.from.now c.args.target.now pair.0 pair.1 c.pairs.pool c.derived_entry.new.pool c.entry_of-before.result entry
+            c.requires.grown.asked.row c.requires.grown.voting.asked.row (base_i pair.0 pair.1 at_i) (c.in_ok-entry.ensures.entry pair.0 pair.1 at_i) (c.in_ok-entry.ensures.kept pair.0 pair.1 at_i),
+        c.pairs.invariant.live,
+        moved_take g c.args.from.now c.args.target.now (pairs_of table) i pair.0 pair.1 at_i,
+      );
     }
 
 pub returns-in_err-entry-clause-once : goal.returns-in_err-entry-clause-once

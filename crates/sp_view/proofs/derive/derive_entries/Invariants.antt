@@ -1,11 +1,9 @@
-use Rattle.std.proofs.Common.{◌≡◌, ◌<◌, ◌≤◌, ◌+◌, ◌*◌, ℕ, List, Some, length, take, true}
+use Rattle.std.proofs.Common.{◌≡◌, ◌<◌, ◌≤◌, ◌+◌, ◌*◌, ℕ, Some, length, take}
 use Rattle.std.specs.Prelude.{slice_get, vec_capacity, vec_len}
-use Rattle.sp_bits.specs.Places.{IsRow}
 use Rattle.sp_dag.specs.Numbered.{graph_of, pairs_of}
-use Rattle.sp_model.specs.Graph.{has}
 use Rattle.sp_view.specs.Moving.{moved_rows}
 use Rattle.sp_view.specs.Stored.{count_of, row_of, live}
-use Rattle.sp_view.specs.Views.{entry_at, held, AreEntries, IsEntry, IsOnce, KeepIds}
+use Rattle.sp_view.specs.Views.{entry_at, held, IsEntry, IsOnce, KeepIds}
 use Rattle.sp_view.proofs.derive.derive_entries.Given as goal
 
 abbrev pub invariant-pairs : goal.invariant-pairs
@@ -13,12 +11,10 @@ invariant-pairs l = record {
   long : vec_len l.entries ≡ l.pair;
   room : length (pairs_of l.dag.parents) ≤ vec_capacity l.entries;
   entry : (j x y : ℕ) → j < l.pair → slice_get (pairs_of l.dag.parents) j ≡ Some (x, y) → IsEntry (graph_of l.dag.parents) l.target x y l.pool (entry_at l.entries.items j);
-  kept : (set : List ℕ) → ((z : ℕ) → has set z ≡ true → has l.target z ≡ true) → AreEntries l.dag.parents set l.fn.pool l.base
-      → (j x y : ℕ) → j < l.pair → slice_get (pairs_of l.dag.parents) j ≡ Some (x, y) → KeepIds (graph_of l.dag.parents) set l.target x y (entry_at l.base j) (entry_at l.entries.items j);
+  kept : (j x y : ℕ) → j < l.pair → slice_get (pairs_of l.dag.parents) j ≡ Some (x, y) → KeepIds (graph_of l.dag.parents) l.from l.target x y (entry_at l.base j) (entry_at l.entries.items j);
   counts : (r : ℕ) → count_of l.pool r ≡ count_of l.fn.pool r + held l.entries.items r;
   others : (r : ℕ) → 0 < count_of l.fn.pool r → row_of l.pool r ≡ row_of l.fn.pool r;
   once : (r : ℕ) → IsOnce (count_of l.fn.pool r) (held (take l.pair l.base) r) (held l.entries.items r);
   few : live l.pool ≤ live l.fn.pool + 2 * l.pair;
-  live : (set : List ℕ) → IsRow set → ((z : ℕ) → has set z ≡ true → has l.target z ≡ true) → AreEntries l.dag.parents set l.fn.pool l.base
-      → live l.pool ≤ live l.fn.pool + moved_rows (graph_of l.dag.parents) set l.target (take l.pair (pairs_of l.dag.parents));
+  live : live l.pool ≤ live l.fn.pool + moved_rows (graph_of l.dag.parents) l.from l.target (take l.pair (pairs_of l.dag.parents));
 }

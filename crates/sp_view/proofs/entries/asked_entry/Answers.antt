@@ -1,11 +1,6 @@
-use Rattle.std.proofs.Common.{◌≡◌, ◌≢◌, ◌∙◌, ◌<◌, ◌≤◌, ℕ, List, Some, cond, eqb, get_or, arith, refl, sym, inl, inr}
-use Rattle.std.proofs.Common.{Bool, true, false, [], length}
+use Rattle.std.proofs.Common.{◌≡◌, ◌≢◌, ◌∙◌, ◌≤◌, ℕ, Some, cond, eqb, get_or, arith, refl, sym, inl, inr}
+use Rattle.std.proofs.Common.{Bool, true, false}
 use Rattle.std.specs.Prelude.{slice_get}
-use Rattle.sp_bits.specs.Places.{difference}
-use Rattle.sp_frozen.specs.Voters.{AreFrozen, FrozenRows}
-use Rattle.sp_view.specs.Settled.{AreKept, AreOpen}
-use Rattle.sp_view.specs.Voting.{IsVoting}
-use Rattle.sp_model.specs.Graph.{has}
 use Rattle.std.proofs.lemmas.Bool.{cases_eq, eq-eqb}
 use Rattle.sp_dag.specs.Numbered.{graph_of, pairs_of}
 use Rattle.sp_model.specs.Graph.{Graph}
@@ -14,17 +9,8 @@ use Rattle.sp_view.specs.Stored.{count_of, row_of}
 use Rattle.sp_view.specs.Settled.{AreSides}
 use Rattle.sp_view.proofs.Held.{some_pair}
 use Rattle.sp_view.proofs.Moves.{first_changes, second_changes, both_change}
-use Rattle.sp_view.proofs.TwoRows.{frozen_among, first_stays, second_before, others_stay}
+use Rattle.sp_view.proofs.TwoRows.{first_stays, second_before, others_stay}
 use Rattle.sp_view.proofs.entries.asked_entry.Goals as goal
-
--- the rows that are found are those of the set
-new_sides : (table : List (List ℕ)) (frozen : FrozenRows) (set : List ℕ) (i x y : ℕ) (fp fm one two ups downs todo new new' : List ℕ) → IsVoting table frozen set → i < length frozen.pluses
-    → slice_get (pairs_of table) i ≡ Some (x, y) → fp ≡ get_or frozen.pluses i [] → fm ≡ get_or frozen.minuses i [] → one ≡ ups → two ≡ downs
-    → AreOpen (graph_of table) set x y (has todo) × AreKept (graph_of table) set x y (has todo) (difference ups todo) (difference downs todo)
-    → (AreFrozen (graph_of table) set x y fp fm → AreOpen (graph_of table) set x y (has todo) → AreKept (graph_of table) set x y (has todo) (difference one todo) (difference two todo) → AreSides (graph_of table) set x y new new')
-    → AreSides (graph_of table) set x y new new'
-new_sides table frozen set i x y fp fm one two ups downs todo new new' voting inside at efp efm e1 e2 asked found =
-    found (rw (efp, efm) (frozen_among table frozen set i x y voting.held at inside voting.added)) asked.0 (rw (e1, e2) asked.1)
 
 kept_id : {a b : ℕ} → a ≡ b → cond {A = ℕ} (eqb a b) 0 1 ≡ 0
 kept_id {a} {b} same = rw (eq-eqb a b same) refl
@@ -39,9 +25,7 @@ written-plus-requires-clause-room c = λ ne.
     let pair = get_or (pairs_of c.args.dag.now.parents) c.args.pair (0, 0) in
     let at : slice_get (pairs_of c.args.dag.now.parents) c.args.pair ≡ Some (pair.0, pair.1) = some_pair (pairs_of c.args.dag.now.parents) c.args.pair c.requires.listed in
     let sides : AreSides g c.args.before.now pair.0 pair.1 (row_of c.args.pool.now c.args.entry.0) (row_of c.args.pool.now c.args.entry.1) = c.requires.sides pair.0 pair.1 at in
-    let new : AreSides g c.args.members.now pair.0 pair.1 c.joined_rows-new.result.plus c.joined_rows-new.result.minus = new_sides c.args.dag.now.parents c.args.frozen.now c.args.members.now c.args.pair pair.0 pair.1
-    c.plus.result.now c.minus.result.now c.row_at.result c.row_at-2.result (row_of c.args.pool.now c.args.entry.0) (row_of c.args.pool.now c.args.entry.1) c.args.todo.now c.joined_rows-new.result.plus c.joined_rows-new.result.minus
-    c.requires.joined.voting c.requires.inside at c.plus.ensures c.minus.ensures c.row_at.ensures c.row_at-2.ensures (c.requires.asked pair.0 pair.1 at) (c.joined_rows-new.ensures.rows pair.0 pair.1) in
+    let new : AreSides g c.args.members.now pair.0 pair.1 c.asked_rows-new.result.plus c.asked_rows-new.result.minus = c.asked_rows-new.ensures pair.0 pair.1 at (c.requires.asked pair.0 pair.1 at) in
     omega (arith, c.requires.room pair.0 pair.1 at, first_changes g c.args.before.now c.args.members.now pair.0 pair.1 c.requires.joined.row c.requires.joined.voting.asked.row (λ e. ne (new.plus_is ∙ sym e ∙ sym sides.plus_is)))
 
 pub written-minus-requires-clause-room : goal.written-minus-requires-clause-room
@@ -50,9 +34,7 @@ written-minus-requires-clause-room c = λ ne.
     let pair = get_or (pairs_of c.args.dag.now.parents) c.args.pair (0, 0) in
     let at : slice_get (pairs_of c.args.dag.now.parents) c.args.pair ≡ Some (pair.0, pair.1) = some_pair (pairs_of c.args.dag.now.parents) c.args.pair c.requires.listed in
     let sides : AreSides g c.args.before.now pair.0 pair.1 (row_of c.args.pool.now c.args.entry.0) (row_of c.args.pool.now c.args.entry.1) = c.requires.sides pair.0 pair.1 at in
-    let new : AreSides g c.args.members.now pair.0 pair.1 c.joined_rows-new.result.plus c.joined_rows-new.result.minus = new_sides c.args.dag.now.parents c.args.frozen.now c.args.members.now c.args.pair pair.0 pair.1
-    c.plus.result.now c.minus.result.now c.row_at.result c.row_at-2.result (row_of c.args.pool.now c.args.entry.0) (row_of c.args.pool.now c.args.entry.1) c.args.todo.now c.joined_rows-new.result.plus c.joined_rows-new.result.minus
-    c.requires.joined.voting c.requires.inside at c.plus.ensures c.minus.ensures c.row_at.ensures c.row_at-2.ensures (c.requires.asked pair.0 pair.1 at) (c.joined_rows-new.ensures.rows pair.0 pair.1) in
+    let new : AreSides g c.args.members.now pair.0 pair.1 c.asked_rows-new.result.plus c.asked_rows-new.result.minus = c.asked_rows-new.ensures pair.0 pair.1 at (c.requires.asked pair.0 pair.1 at) in
     let second = second_before (count_of c.args.pool.now) (count_of c.written-plus.new.pool) (row_of c.args.pool.now) (row_of c.written-plus.new.pool) (row_of c.written-plus.new.pool) c.args.entry.0 c.args.entry.1 c.written-plus.result
     c.written-plus.ensures.counts c.written-plus.ensures.others (λ r _ _. refl) c.requires.live c.written-plus.ensures.fresh in
     let other : minus g c.args.before.now pair.0 pair.1 ≢ minus g c.args.members.now pair.0 pair.1 = λ e. ne (new.minus_is ∙ sym e ∙ sym sides.minus_is ∙ sym second) in
@@ -76,9 +58,7 @@ written-minus-requires-clause-room c = λ ne.
 
 pub returns-clause-rows : goal.returns-clause-rows
 returns-clause-rows c = λ x y at.
-    let new : AreSides (graph_of c.args.dag.now.parents) c.args.members.now x y c.joined_rows-new.result.plus c.joined_rows-new.result.minus = new_sides c.args.dag.now.parents c.args.frozen.now c.args.members.now c.args.pair x y
-    c.plus.result.now c.minus.result.now c.row_at.result c.row_at-2.result (row_of c.args.pool.now c.args.entry.0) (row_of c.args.pool.now c.args.entry.1) c.args.todo.now c.joined_rows-new.result.plus c.joined_rows-new.result.minus
-    c.requires.joined.voting c.requires.inside at c.plus.ensures c.minus.ensures c.row_at.ensures c.row_at-2.ensures (c.requires.asked x y at) (c.joined_rows-new.ensures.rows x y) in
+    let new : AreSides (graph_of c.args.dag.now.parents) c.args.members.now x y c.asked_rows-new.result.plus c.asked_rows-new.result.minus = c.asked_rows-new.ensures x y at (c.requires.asked x y at) in
     let stays = first_stays (count_of c.args.pool.now) (count_of c.written-plus.new.pool) (row_of c.args.pool.now) (row_of c.written-plus.new.pool) (row_of c.written-minus.new.pool) c.args.entry.0 c.args.entry.1 c.written-plus.result
     c.written-plus.ensures.counts c.written-plus.ensures.others c.written-minus.ensures.others c.requires.live c.written-plus.ensures.fresh in
     record { plus_is = stays ∙ c.written-plus.ensures.row ∙ new.plus_is; minus_is = c.written-minus.ensures.row ∙ new.minus_is }
@@ -86,9 +66,7 @@ returns-clause-rows c = λ x y at.
 pub returns-clause-kept : goal.returns-clause-kept
 returns-clause-kept c = λ x y at.
     let sides : AreSides (graph_of c.args.dag.now.parents) c.args.before.now x y (row_of c.args.pool.now c.args.entry.0) (row_of c.args.pool.now c.args.entry.1) = c.requires.sides x y at in
-    let new : AreSides (graph_of c.args.dag.now.parents) c.args.members.now x y c.joined_rows-new.result.plus c.joined_rows-new.result.minus = new_sides c.args.dag.now.parents c.args.frozen.now c.args.members.now c.args.pair x y
-    c.plus.result.now c.minus.result.now c.row_at.result c.row_at-2.result (row_of c.args.pool.now c.args.entry.0) (row_of c.args.pool.now c.args.entry.1) c.args.todo.now c.joined_rows-new.result.plus c.joined_rows-new.result.minus
-    c.requires.joined.voting c.requires.inside at c.plus.ensures c.minus.ensures c.row_at.ensures c.row_at-2.ensures (c.requires.asked x y at) (c.joined_rows-new.ensures.rows x y) in
+    let new : AreSides (graph_of c.args.dag.now.parents) c.args.members.now x y c.asked_rows-new.result.plus c.asked_rows-new.result.minus = c.asked_rows-new.ensures x y at (c.requires.asked x y at) in
     let second = second_before (count_of c.args.pool.now) (count_of c.written-plus.new.pool) (row_of c.args.pool.now) (row_of c.written-plus.new.pool) (row_of c.written-minus.new.pool) c.args.entry.0 c.args.entry.1 c.written-plus.result
     c.written-plus.ensures.counts c.written-plus.ensures.others c.written-minus.ensures.others c.requires.live c.written-plus.ensures.fresh in
     (λ e. c.written-plus.ensures.kept (new.plus_is ∙ sym e ∙ sym sides.plus_is), λ e. c.written-minus.ensures.kept (new.minus_is ∙ sym e ∙ sym sides.minus_is ∙ sym second))

@@ -1,0 +1,74 @@
+-- The voters that are asked anew when several blocks join a set, by rows.
+use Rattle.std.proofs.Common.{◌≡◌, ℕ, ◌<◌, Bool, true, false, ◌||◌, ◌&&◌, List, [], refl, sym, ap, ◌∙◌}
+use Rattle.std.specs.Prelude.{not}
+use Rattle.std.proofs.lemmas.Bool.{and_parts, and_from, not_from_false, or_left, or_right}
+use Rattle.sp_bits.specs.Places.{difference, meet, places_where, union}
+use Rattle.sp_bits.proofs.RowSets.{has_difference, has_places, has_union}
+use Rattle.sp_model.specs.Graph.{Graph, has}
+use Rattle.sp_model.specs.Loose.{is_loose}
+
+module _ (target voters from one two : List ℕ) (small : (z : ℕ) → has target z ≡ true → z < 512)
+    (e : one ≡ meet target voters) (e' : two ≡ difference one from) where
+  first_is : (z : ℕ) → has one z ≡ (has target z && has voters z)
+  first_is z =
+      ap (λ (l : List ℕ). has l z) e
+      ∙ has_places (λ p. has target p && has voters p) z (λ h. small z (and_parts (has target z) (has voters z) h).0)
+
+  -- the voters of one side that join
+  joining_is : (z : ℕ) → has two z ≡ ((has target z && has voters z) && not (has from z))
+  joining_is z =
+      ap (λ (l : List ℕ). has l z) e'
+      ∙ has_difference one from z (λ h. small z (and_parts (has target z) (has voters z) (sym (first_is z) ∙ h)).0)
+      ∙ ap (λ (c : Bool). c && not (has from z)) (first_is z)
+
+  pub joining_member : (z : ℕ) → has two z ≡ true → has target z ≡ true
+  joining_member z h =
+      (and_parts (has target z) (has voters z) (and_parts (has target z && has voters z) (not (has from z)) (sym (joining_is z) ∙ h)).0).0
+
+  pub joining_there : (z : ℕ) → has target z ≡ true → has from z ≡ false → has voters z ≡ true → has two z ≡ true
+  joining_there z member new voter =
+      joining_is z ∙ and_from (has target z && has voters z) (not (has from z)) (and_from (has target z) (has voters z) member voter) (not_from_false (has from z) new)
+
+-- a place of a row that another one hasn't
+pub left_there : (row other left : List ℕ) (z : ℕ) → (has row z ≡ true → z < 512) → left ≡ difference row other → has row z ≡ true → has other z ≡ false → has left z ≡ true
+left_there row other left z small e h out =
+    ap (λ (l : List ℕ). has l z) e ∙ has_difference row other z small ∙ and_from (has row z) (not (has other z)) h (not_from_false (has other z) out)
+
+pub left_from : (row other left : List ℕ) (z : ℕ) → (has row z ≡ true → z < 512) → left ≡ difference row other → has left z ≡ true → has row z ≡ true
+left_from row other left z small e h =
+    (and_parts (has row z) (not (has other z)) (sym (ap (λ (l : List ℕ). has l z) e ∙ has_difference row other z small) ∙ h)).0
+
+-- those of some voters that are loose
+pub loose_is : (g : Graph) (x y : ℕ) (voters bound loose : List ℕ) → ((z : ℕ) → has voters z ≡ true → z < 512) → bound ≡ places_where (λ z. not (is_loose g z x y)) → loose ≡ difference voters bound
+    → (z : ℕ) → has loose z ≡ (has voters z && is_loose g z x y)
+loose_is g x y voters bound loose small e e' z = ap (λ (l : List ℕ). has l z) e' ∙ has_difference voters bound z (small z) ∙ at (has voters z) refl
+  where
+    twice : (c : Bool) → not (not c) ≡ c
+    twice true = refl
+    twice false = refl
+
+    at : (c : Bool) → has voters z ≡ c → (c && not (has bound z)) ≡ (c && is_loose g z x y)
+    at true h = ap not (ap (λ (l : List ℕ). has l z) e ∙ has_places (λ z. not (is_loose g z x y)) z (λ _. small z h)) ∙ twice (is_loose g z x y)
+    at false h = refl
+
+pub none_loose : (g : Graph) (x y : ℕ) (voters : List ℕ) → voters ≡ [] → (z : ℕ) → has voters z ≡ (has voters z && is_loose g z x y)
+none_loose g x y voters e z = rw e refl
+
+-- both sides together
+module _ (g : Graph) (x y : ℕ) (one other both loose : List ℕ) (small : (z : ℕ) → has one z ≡ true → z < 512) (small' : (z : ℕ) → has other z ≡ true → z < 512)
+    (e : both ≡ union one other) where
+  both_is : (z : ℕ) → has both z ≡ (has one z || has other z)
+  both_is z = ap (λ (l : List ℕ). has l z) e ∙ has_union one other z (small z) (small' z)
+
+  pub both_parts : (P : Type 0) (z : ℕ) → (has one z ≡ true → P) → (has other z ≡ true → P) → has both z ≡ true → P
+  both_parts P z first second h = at (has one z) refl (sym (both_is z) ∙ h)
+    where
+      at : (c : Bool) → has one z ≡ c → (c || has other z) ≡ true → P
+      at true e h = first e
+      at false e h = second h
+
+  pub first_opens : ((z : ℕ) → has loose z ≡ (has both z && is_loose g z x y)) → (z : ℕ) → is_loose g z x y ≡ true → has one z ≡ true → has loose z ≡ true
+  first_opens is z free h = is z ∙ and_from (has both z) (is_loose g z x y) (both_is z ∙ or_left (has one z) (has other z) h) free
+
+  pub second_opens : ((z : ℕ) → has loose z ≡ (has both z && is_loose g z x y)) → (z : ℕ) → is_loose g z x y ≡ true → has other z ≡ true → has loose z ≡ true
+  second_opens is z free h = is z ∙ and_from (has both z) (is_loose g z x y) (both_is z ∙ or_right (has one z) (has other z) h) free

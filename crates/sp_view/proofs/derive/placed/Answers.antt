@@ -1,6 +1,0 @@
-use Rattle.std.proofs.Common.{◌≤◌, ℕ, Option, subst}
-use Rattle.sp_view.specs.Views.{holds}
-use Rattle.sp_view.proofs.derive.placed.Goals as goal
-
-pub shared_entry-requires-clause-once : goal.shared_entry-requires-clause-once
-shared_entry-requires-clause-once c = λ r. subst (λ (e : Option (ℕ × ℕ)). holds e r ≤ 1) c.in-Some.is (c.requires.once r)

@@ -1,0 +1,127 @@
+//! Which votes on an old pair are asked anew when several blocks join the set at once: those of the
+//! loose voters in the past of a frozen block that joins, unless they vote as that block does. The two
+//! sides are looked at apart. Where there are none, the pair stays as it is.
+
+ghost use Rattle.std.specs.Prelude.{◌≡◌, ◌<◌, ◌≤◌, ◌&&◌, ℕ, List, length, IsTrue, IsFalse, slice_get, Some};
+ghost use Rattle.sp_bits.specs.Places.{difference};
+ghost use Rattle.sp_model.specs.Graph.{has, in_past, IsDownset};
+ghost use Rattle.sp_model.specs.Loose.{is_loose};
+ghost use Rattle.sp_dag.specs.Numbered.{graph_of, pairs_of};
+ghost use Rattle.sp_view.specs.Stored.{count_of, row_of};
+ghost use Rattle.sp_view.specs.Settled.{AreKept, AreOpen, AreSides};
+ghost use Rattle.sp_view.specs.Voting.{IsGrown};
+ghost use Rattle.sp_view.specs.Views.{holds};
+
+use crate::asking::is_none;
+use crate::pair_rows::bound_on;
+use crate::stored::{RowName, row_at};
+use sp_bits::Row;
+use sp_dag::Dag;
+use sp_frozen::Frozen;
+use sp_rows::RowPool;
+
+// The blocks in the past of some others. It takes three steps over rows for each of these that isn't
+// in the past of another one.
+fn pasts_of(dag: &Dag, blocks: &Row) -> Row
+    requires { (b : ℕ) → IsTrue (has blocks.now b) → b < length dag.now.parents }
+    ensures covers { (b z : ℕ) → IsTrue (has blocks.now b) →
+        IsTrue (in_past (graph_of dag.now.parents) z b) → IsTrue (has result z) }
+    ensures within { (set : List ℕ) → IsDownset (graph_of dag.now.parents) set →
+        ((b : ℕ) → IsTrue (has blocks.now b) → IsTrue (has set b)) →
+        (z : ℕ) → IsTrue (has result z) → IsTrue (has set z) }
+    ensures small { (z : ℕ) → IsTrue (has result z) → z < 512 }
+{
+    // Tells the proof that there are at most 512 blocks, in order.
+    let _blocks = dag.len();
+    let mut below = Row::empty();
+    let mut left = *blocks;
+    let mut next = left.highest();
+    'pasts: loop {
+        let Some(block) = next else { return below };
+        let past = dag.past(block);
+        below.or_with(past);
+        left.without(past);
+        next = left.highest_below(block);
+    }
+}
+
+// The blocks in the past of those that join among the voters of one side, without the loose voters of
+// that side, which vote so already.
+fn opened_by(
+    dag: &Dag,
+    pool: &RowPool,
+    from: &Row,
+    target: &Row,
+    voters: &Row,
+    side: RowName,
+) -> Row
+    requires below { (z : ℕ) → IsTrue (has target.now z) → z < length dag.now.parents }
+    requires down { IsDownset (graph_of dag.now.parents) target.now }
+    requires live { 0 < count_of pool.now side }
+    ensures covers { (b z : ℕ) → IsTrue (has target.now b) → IsFalse (has from.now b) →
+        IsTrue (has voters.now b) → IsTrue (in_past (graph_of dag.now.parents) z b) →
+        IsFalse (has (row_of pool.now side) z) → IsTrue (has result z) }
+    ensures within { (z : ℕ) → IsTrue (has result z) → IsTrue (has target.now z) }
+{
+    // Tells the proof that there are at most 512 blocks.
+    let _blocks = dag.len();
+    let mut joining = *target;
+    joining.and_with(voters);
+    joining.without(from);
+    if is_none(&joining) {
+        return joining;
+    }
+    let mut below = pasts_of(dag, &joining);
+    below.without(&row_at(pool, side));
+    below
+}
+
+// Those of some voters that are loose on a pair.
+fn loose_of(dag: &Dag, voters: &Row, pair: u32) -> Row
+    requires listed { pair < length (pairs_of dag.now.parents) }
+    requires small { (z : ℕ) → IsTrue (has voters.now z) → z < 512 }
+    ensures { (x y : ℕ) → slice_get (pairs_of dag.now.parents) pair ≡ Some (x, y) →
+        (z : ℕ) → has result z ≡ (has voters.now z && is_loose (graph_of dag.now.parents) z x y) }
+{
+    if is_none(voters) {
+        return *voters;
+    }
+    // Tells the proof that there are at most 512 blocks.
+    let _blocks = dag.len();
+    let (x, y) = dag.pair(pair);
+    let mut loose = *voters;
+    loose.without(&bound_on(dag, x, y));
+    loose
+}
+
+// The voters of an old pair whose votes are asked anew when the set grows. Where there are none, the
+// pair stays as it is.
+pub(crate) fn asked_by_growth(
+    dag: &Dag,
+    frozen: &Frozen,
+    pool: &RowPool,
+    from: &Row,
+    target: &Row,
+    pair: u32,
+    entry: &(RowName, RowName),
+) -> Row
+    requires grown { IsGrown dag.now.parents frozen.now from.now target.now }
+    requires listed { pair < length (pairs_of dag.now.parents) }
+    requires inside { pair < length frozen.now.pluses }
+    requires live { (r : ℕ) → holds (Some entry.now) r ≤ count_of pool.now r }
+    ensures within { (z : ℕ) → IsTrue (has result z) → IsTrue (has target.now z) }
+    ensures kept { (x y : ℕ) → slice_get (pairs_of dag.now.parents) pair ≡ Some (x, y) →
+        AreSides (graph_of dag.now.parents) from.now x y
+        (row_of pool.now entry.now.0) (row_of pool.now entry.now.1) →
+        AreOpen (graph_of dag.now.parents) target.now x y (has result)
+        × AreKept (graph_of dag.now.parents) target.now x y (has result)
+        (difference (row_of pool.now entry.now.0) result)
+        (difference (row_of pool.now entry.now.1) result) }
+{
+    // Tells the proof that there are at most 512 blocks, in order.
+    let _blocks = dag.len();
+    let mut voters = opened_by(dag, pool, from, target, frozen.plus(pair), entry.0);
+    let others = opened_by(dag, pool, from, target, frozen.minus(pair), entry.1);
+    voters.or_with(&others);
+    loose_of(dag, &voters, pair)
+}
