@@ -3,12 +3,12 @@
 
     python3 examples/compare.py [DOCUMENT ..]
 
-Without a document it is examples/README.md. In a document a block of code (indented by four blanks, or
-between two lines of three backquotes) counts whose first line begins with `$ `. Each such line is run by
-the shell from the top of the repository; the lines behind it, up to the next of its kind, are what it
-writes to standard output. A line `..` stands for any lines, or for none. Where the environment names a
-program as SPECTRE it takes the place of `bin/spectre`. The status is 1 where an output differs, and 2
-where there is nothing to run.
+Without a document it is README.md, docs/USE.md and examples/README.md. In a document a block of code
+(indented by four blanks, or between two lines of three backquotes) counts whose first line begins with
+`$ `. Each such line is run by the shell from the top of the repository; the lines behind it, up to the
+next of its kind, are what it writes to standard output. A line `..` stands for any lines, or for none.
+Where the environment names a program as SPECTRE it takes the place of `bin/spectre`. The status is 1
+where an output differs, and 2 where there is nothing to run.
 """
 
 import difflib
@@ -21,6 +21,7 @@ from typing import NamedTuple
 
 ROOT = pathlib.Path(__file__).resolve().parent.parent
 PROGRAM = "bin/spectre"
+DOCUMENTS = ["README.md", "docs/USE.md", "examples/README.md"]
 ANY = ".."
 
 
@@ -85,7 +86,7 @@ def report(example):
 
 
 def main(documents):
-    texts = [(document, (ROOT / document).read_text()) for document in documents or ["examples/README.md"]]
+    texts = [(document, (ROOT / document).read_text()) for document in documents or DOCUMENTS]
     examples = [example for document, text in texts for example in examples_in(document, text)]
     results = [report(example) for example in examples]
     print(f"{results.count(True)} fit, {results.count(False)} differ")
