@@ -86,9 +86,9 @@ fn is_bar(row: &Row, past: &Row, n: u16) -> bool {
     past.within(row) && row.count() == past.count().saturating_add(1) && row.highest() == Some(n)
 }
 
-/// Whether the views that the engine keeps are those of all blocks, and of each block that is no
-/// parent with its past.
-pub fn views_are_right(engine: &Engine) -> Result<bool, Fail> {
+/// Whether so many blocks are present, and the views that the engine keeps are those of all of them,
+/// and of each that is no parent with its past.
+pub fn views_are_right(engine: &Engine, count: usize) -> Result<bool, Fail> {
     if engine.broken() {
         return Err("broken".into());
     }
@@ -102,5 +102,6 @@ pub fn views_are_right(engine: &Engine) -> Result<bool, Fail> {
             return Ok(false);
         }
     }
-    Ok(engine.view_all().members().count() == u32::from(dag.len()))
+    let all = engine.view_all().members().count();
+    Ok(all as usize == count && dag.len() as usize == count)
 }

@@ -35,7 +35,7 @@ fn each_comes(engine: &mut Engine, blocks: &Numbered, order: &[usize]) -> Result
             return Ok(false);
         }
     }
-    Ok(views_are_right(engine)? && engine.present() as usize == blocks.ids.len())
+    views_are_right(engine, blocks.ids.len())
 }
 
 /// Whether all is right after each block of a graph, which come in one of three orders.
