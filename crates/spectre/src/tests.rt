@@ -19,6 +19,7 @@ mod fresh;
 mod halves;
 mod journals;
 mod judging;
+mod large;
 mod lengths;
 mod lines;
 mod made;

@@ -128,7 +128,7 @@ fn put_511(out: &mut Vec<u8>, genesis: &BlockId) -> Result<(), Fail> {
 /// A frame and a record differ in their first byte.
 fn put_as_record(out: &mut Vec<u8>, salt: u8, parent: &BlockId) -> Result<(), Fail> {
     let place = out.len();
-    put_child(out, salt, parent)?;
+    put_child(out, u16::from(salt), parent)?;
     if let Some(gate) = out.get_mut(place) {
         *gate = 0xA5;
     }

@@ -147,17 +147,19 @@ pub fn put_kind(out: &mut Vec<u8>, kind: u8, length: u32) -> Result<(), Fail> {
 }
 
 /// The front of a block of this salt up to the number of its parents.
-fn put_front(out: &mut Vec<u8>, salt: u8, parents: u8) -> Result<(), Fail> {
+fn put_front(out: &mut Vec<u8>, salt: u16, parents: u8) -> Result<(), Fail> {
     let mut front = [0u8; 18];
+    let bytes = salt.to_le_bytes();
     front[0] = 1;
-    front[1] = salt;
+    front[1] = bytes[0];
+    front[2] = bytes[1];
     front[17] = parents;
     out.extend_from_slice(&front)?;
     Ok(())
 }
 
 /// The frame of a block of this salt on one parent.
-pub fn put_child(out: &mut Vec<u8>, salt: u8, parent: &BlockId) -> Result<(), Fail> {
+pub fn put_child(out: &mut Vec<u8>, salt: u16, parent: &BlockId) -> Result<(), Fail> {
     put_kind(out, b'B', 52)?;
     put_front(out, salt, 1)?;
     out.extend_from_slice(parent.as_bytes())?;
@@ -171,7 +173,7 @@ fn put_text(out: &mut Vec<u8>, name: u8, more: u8) -> Result<(), Fail> {
     let count = u8::try_from(parents.len())?;
     let length = 20 + 32 * u32::from(count) + u32::from(more);
     out.extend_from_slice(&length.to_le_bytes())?;
-    put_front(out, *salt, count)?;
+    put_front(out, u16::from(*salt), count)?;
     for parent in *parents {
         put_id(out, *parent)?;
     }

@@ -175,7 +175,7 @@ fn id_in(frame: &[u8]) -> BlockId {
 
 fn put_next(chains: &mut Chains, block: u8) -> Result<(), Fail> {
     let from = chains.feed.len();
-    put_child(&mut chains.feed, block, &chains.two_before)?;
+    put_child(&mut chains.feed, u16::from(block), &chains.two_before)?;
     let id = id_in(chains.feed.get(from..).unwrap_or(b""));
     put_asked(&mut chains.feed, &chains.before, &id)?;
     put_answers(&mut chains.answers, block, &chains.before, &id)?;

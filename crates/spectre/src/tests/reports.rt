@@ -119,7 +119,7 @@ fn put_next(chain: &mut Chain, salt: u8) -> Result<(), Fail> {
     let Some(parent) = chain.ids.last() else {
         return Err("no genesis".into());
     };
-    put_child(&mut chain.feed, salt, parent)?;
+    put_child(&mut chain.feed, u16::from(salt), parent)?;
     let id = last_id(&chain.feed, 52);
     put_id(&mut chain.answers, b"kept ", id.as_bytes())?;
     chain.answers.extend_from_slice(b" present 1\n")?;
