@@ -1,6 +1,6 @@
 //! Two views of a small graph that share rows: what stands in each row, and how many are live.
 
-ghost use Rattle.std.specs.Prelude.{◌≡◌, [], IfOk};
+ghost use Rattle.std.specs.Prelude.{◌≡◌, [], IfOk, OnOk};
 ghost use Rattle.sp_tests_views.specs.Holding.{CanVote, Holds, IsBased};
 
 use crate::based::Based;
@@ -81,6 +81,17 @@ fn start(alloc: Global, views: &mut Vec<View>, pool: &mut RowPool) -> Result<Bas
     let view = based.view(views, pool, 3)?;
     put_last(views, view)?;
     Ok(based)
+}
+
+/// Derives the view of all four from those of the list, and puts it last.
+fn derive_four(based: &Based, views: &mut Vec<View>, pool: &mut RowPool) -> Result<(), Fail>
+    requires based { IsBased based.now.dag.parents based.now.frozen }
+    requires holds { Holds based.now.dag.parents based.now.frozen pool.old views.old.items }
+    ensures { OnOk result (Holds based.now.dag.parents based.now.frozen pool.new views.new.items) }
+{
+    let view = based.view(views, pool, 4)?;
+    put_last(views, view)?;
+    Ok(())
 }
 
 /// Checks that the one unrelated pair is that of 1 and 2, and that both its rows are live and empty.
@@ -179,8 +190,7 @@ fn a_derived_view_keeps_the_rows_that_stay(rt: HostRuntime) -> Result<(), Fail> 
     let two = start(rt.alloc(), &mut views, &mut pool)?;
     let before = rows_of(nth(&views, 0)?, 0)?;
     let three = two.grow(&views, &pool, 3, &row_of(&[1]))?;
-    let newer = three.view(&views, &mut pool, 4)?;
-    put_last(&mut views, newer)?;
+    derive_four(&three, &mut views, &mut pool)?;
     check_both(&rt, &three, &pool, &views, before)?;
     let_both_go(&rt, &three, &mut pool, &mut views)
 }
