@@ -7,8 +7,8 @@ use Rattle.sp_bits.proofs.Counts.{has-small}
 use Rattle.sp_view.proofs.Bests.{within_from}
 use Rattle.sp_bits.specs.Places.{IsRow, places_where}
 use Rattle.sp_dag.specs.Numbered.{graph_of, AreInOrder}
-use Rattle.sp_dag.proofs.Whole.{complete_numbered, past_members}
-use Rattle.sp_model.specs.Graph.{has, in_past, past, IsDownset}
+use Rattle.sp_dag.proofs.Whole.{complete_numbered}
+use Rattle.sp_model.specs.Graph.{has, past, IsDownset}
 use Rattle.sp_plain.specs.Plain.{IsClosed}
 use Rattle.sp_plain.proofs.Downsets.{past_below, past_closed}
 use Rattle.sp_view.specs.Settled.{IsAsked}

@@ -1,5 +1,4 @@
-use Rattle.std.proofs.Common.{◌≡◌, ◌∙◌, ◌<◌, ◌≤◌, ◌-◌, ℕ, List, length, ap, arith}
-use Rattle.sp_model.specs.Graph.{has}
+use Rattle.std.proofs.Common.{◌<◌, ◌-◌, arith}
 use Rattle.sp_view.proofs.Listing.{view_listed}
 use Rattle.sp_tests_views.proofs.Pasts.{past_asked, past_lower}
 use Rattle.sp_tests_views.proofs.Changing.{holds_frozen}

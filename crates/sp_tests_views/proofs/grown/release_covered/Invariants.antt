@@ -1,4 +1,4 @@
-use Rattle.std.proofs.Common.{◌-◌, ◌≤◌, ℕ}
+use Rattle.std.proofs.Common.{◌-◌, ◌≤◌}
 use Rattle.std.specs.Prelude.{vec_len}
 use Rattle.sp_tests_views.specs.Holding.{Holds}
 use Rattle.sp_tests_views.proofs.grown.release_covered.Given as goal

@@ -1,6 +1,5 @@
-use Rattle.std.proofs.Common.{◌≡◌, ◌∙◌, ◌<◌, ◌≤◌, ℕ, List, true, length, sym, ap, arith}
+use Rattle.std.proofs.Common.{◌≡◌, ◌∙◌, ◌<◌, ℕ, List, true, length, sym, ap, arith}
 use Rattle.std.specs.List.{list_all}
-use Rattle.sp_dag.specs.Numbered.{graph_of}
 use Rattle.sp_dag.proofs.Whole.{past_members}
 use Rattle.sp_model.specs.Graph.{has}
 use Rattle.sp_tests_views.proofs.Changing.{holds_grown}

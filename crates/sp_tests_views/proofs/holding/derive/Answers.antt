@@ -1,4 +1,4 @@
-use Rattle.std.proofs.Common.{◌≡◌, ◌∙◌, ◌<◌, ◌≤◌, ℕ, List, length, sym, ap, arith}
+use Rattle.std.proofs.Common.{◌∙◌, ◌≤◌, ℕ, List, length, sym, ap, arith}
 use Rattle.sp_model.specs.Graph.{has}
 use Rattle.sp_tests_views.specs.Holding.{held_by}
 use Rattle.sp_tests_views.proofs.Sharing.{held_few, view_of}

@@ -1,4 +1,4 @@
-use Rattle.std.proofs.Common.{◌≡◌, ◌<◌, ◌≤◌, ℕ, length, arith}
+use Rattle.std.proofs.Common.{◌<◌, ◌≤◌, length, arith}
 use Rattle.sp_tests_views.specs.Holding.{held_by}
 use Rattle.sp_tests_views.proofs.Sharing.{held_few, held_place}
 use Rattle.sp_tests_views.proofs.Changing.{holds_copy}

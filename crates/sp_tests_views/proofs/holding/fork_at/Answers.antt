@@ -1,4 +1,4 @@
-use Rattle.std.proofs.Common.{◌≡◌, ◌∷◌, List, sym, subst}
+use Rattle.std.proofs.Common.{◌∷◌, List, subst}
 use Rattle.sp_view.specs.Views.{Viewed}
 use Rattle.sp_tests_views.specs.Holding.{Holds}
 use Rattle.sp_tests_views.proofs.holding.fork_at.Goals as goal

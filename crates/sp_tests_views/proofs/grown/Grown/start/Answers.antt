@@ -1,4 +1,4 @@
-use Rattle.std.proofs.Common.{◌≡◌, ◌∙◌, ◌∷◌, ◌++◌, [], List, ap}
+use Rattle.std.proofs.Common.{◌∙◌, ◌∷◌, ◌++◌, [], List, ap}
 use Rattle.sp_view.specs.Views.{Viewed}
 use Rattle.sp_tests_views.proofs.Changing.{holds_start}
 use Rattle.sp_tests_views.proofs.grown.Grown.start.Goals as goal
