@@ -1,0 +1,3 @@
+pub mod Sharing
+pub mod Changing
+pub mod Pasts

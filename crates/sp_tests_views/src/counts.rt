@@ -1,0 +1,58 @@
+//! How often each row is counted, beside how many entries of some views hold it.
+
+use sp_rows::{RowId, RowPool};
+use sp_view::View;
+use std::alloc::Global;
+use std::test::Fail;
+
+/// Counts an entry's row; false where the row has no place in the list.
+fn count_row(holders: &mut Vec<u32>, row: RowId) -> bool {
+    match holders.get_mut(row.0 as usize) {
+        Some(count) => {
+            *count = count.saturating_add(1);
+            true
+        }
+        None => false,
+    }
+}
+
+/// Counts the rows of the entries of a view.
+fn count_view(holders: &mut Vec<u32>, view: &View, pairs: u32) -> bool {
+    let mut all = true;
+    for pair in 0..pairs {
+        if let Some((plus, minus)) = view.rows(pair) {
+            all &= plus != minus && count_row(holders, plus) && count_row(holders, minus);
+        }
+    }
+    all
+}
+
+/// Whether a row is counted so often, and isn't live where that is never.
+fn is_counted(pool: &RowPool, row: RowId, count: u32) -> bool {
+    if count == 0 {
+        return !pool.is_live(row);
+    }
+    pool.is_live(row) && pool.count(row) == count
+}
+
+/// Whether each row of a pool is counted as often as entries of the views hold it.
+pub(crate) fn are_counted(
+    alloc: Global,
+    pool: &RowPool,
+    views: &[View],
+    pairs: u32,
+) -> Result<bool, Fail> {
+    // More ids than there are rows.
+    let mut holders = vec![in alloc; 0u32; 4_096]?;
+    let mut all = true;
+    for view in views {
+        all &= count_view(&mut holders, view, pairs);
+    }
+    let mut live = 0usize;
+    for id in 0..4_096u32 {
+        let count = holders.get(id as usize).copied().unwrap_or(0);
+        all &= is_counted(pool, RowId(id), count);
+        live = live.saturating_add((count > 0) as usize);
+    }
+    Ok(all && live == pool.live())
+}
