@@ -29,7 +29,12 @@ impl Draws {
 pub type Shape = (u64, usize, usize, usize);
 
 /// The parents of the block of this number, which isn't 0.
-fn drawn(alloc: Global, draws: &mut Draws, shape: &Shape, number: usize) -> Result<Vec<usize>, Fail> {
+fn drawn(
+    alloc: Global,
+    draws: &mut Draws,
+    shape: &Shape,
+    number: usize,
+) -> Result<Vec<usize>, Fail> {
     let among = shape.3.min(number).max(1);
     let most = draws.below(shape.2.max(1));
     let mut parents = Vec::new(alloc);

@@ -60,6 +60,9 @@ fn a_long_drill(rt: HostRuntime) -> Result<(), Fail> {
         ends: WIDE,
     };
     let ended = ran(rt.alloc(), &trial)?;
-    assert!(rt; ended.status == Status::Done && is_summary(&ended.output), "drill");
+    assert!(rt;
+        ended.status == Status::Done && is_summary(&ended.output),
+        "drill"
+    );
     Ok(())
 }
