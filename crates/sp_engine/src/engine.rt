@@ -86,7 +86,7 @@ impl Model for Engine {
 
 impl Engine {
     ghost use Rattle.sp_engine.specs.Engine.{AreNumbered, GrewByOne, is_growth, IsLedger, Stays};
-    ghost use Rattle.sp_engine.specs.Votes.{held_by, is_tip, IsOfAll, IsOfTip};
+    ghost use Rattle.sp_engine.specs.Votes.{AreOfTips, held_by, is_tip, IsOfAll, IsOfTip};
 
     /// An engine of genesis alone, which is present.
     ///
@@ -332,6 +332,7 @@ impl Engine {
     pub fn present(&self) -> u16
         requires { self.now.broken ≡ false }
         ensures count { result ≡ length (present self.now.kept) }
+        ensures numbered { result ≡ length self.now.numbered.parents }
         ensures order { (id : ℕ) →
             has (order_of self.now.kept) id ≡ has (present self.now.kept) id }
         ensures long { length (order_of self.now.kept) ≡ length (present self.now.kept) }
@@ -381,12 +382,14 @@ impl Engine {
     }
 
     /// The pool of all rows that the views hold: each row is counted once for each entry of a view that
-    /// holds it.
+    /// holds it, and the views are those of the tips, each with its past, and that of all blocks.
     pub fn row_pool(&self) -> &RowPool
         requires { self.now.broken ≡ false }
         ensures pool { result.now ≡ self.now.votes.rows }
         ensures counts { (row : ℕ) →
             count_of result.now row ≡ held_by self.now.votes.views row }
+        ensures views { AreOfTips self.now.numbered.parents
+            (length self.now.numbered.parents) self.now.votes.views }
     {
         self.votes.rows()
     }
