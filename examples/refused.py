@@ -1,7 +1,7 @@
 #!/usr/bin/env python3
 """Plays a scenario of 40 blocks with each allocation of the program refused in turn: each run has to
 end with the code of Memory, and to write a front of what it writes with memory. It needs gcc, and runs
-from anywhere; SPECTRE names another program than bin/spectre."""
+from anywhere; SPECTRE names another program than the one that bin/spectre has built."""
 
 import os
 import subprocess

@@ -1,6 +1,7 @@
 #!/usr/bin/env python3
 """Times the program on feeds and drills of hundreds of blocks, each five times, and prints the best
-time and the most memory. Run it from anywhere; SPECTRE names another program than bin/spectre."""
+time and the most memory. It runs the program that bin/spectre has built, not the script, which looks
+at the sources first. Run it from anywhere; SPECTRE names another program."""
 
 import hashlib
 import os
@@ -10,7 +11,7 @@ import sys
 import time
 
 TOP = os.path.dirname(os.path.dirname(os.path.abspath(__file__)))
-SPECTRE = os.environ.get("SPECTRE", os.path.join(TOP, "bin", "spectre"))
+SPECTRE = os.environ.get("SPECTRE", os.path.join(TOP, "crates", "spectre", "out", "spectre"))
 GENESIS = bytes([1]) + bytes(19)
 
 
