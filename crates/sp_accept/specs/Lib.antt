@@ -2,5 +2,6 @@ pub mod Rows
 pub mod Standing
 pub mod Acceptance
 pub mod Flips
+pub mod Changes
 pub mod Pass
 pub mod States

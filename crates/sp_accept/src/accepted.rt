@@ -3,6 +3,7 @@
 ghost use Rattle.std.specs.Prelude.{◌≡◌, ◌<◌, length, All, IfOk, OnOk, OnErr, []};
 ghost use Rattle.sp_accept.specs.Rows.{AreOf};
 ghost use Rattle.sp_accept.specs.Acceptance.{is_set, IsRight};
+ghost use Rattle.sp_accept.specs.Changes.{carriers_below, TellsChanges};
 ghost use Rattle.sp_accept.specs.Flips.{flips_of};
 
 use crate::flags::is_set;
@@ -74,6 +75,40 @@ impl Accepted {
         self.txs = txs;
         self.blocks = carriers.block_count();
         Ok(flips)
+    }
+
+    /// Decides on the carriers that blocks may change which joined the set since the last decision,
+    /// with all added blocks as the set, and answers the transactions whose acceptance differs from
+    /// before, ascending, each with its new state. The order has to speak of the graph whose blocks
+    /// were added.
+    ///
+    /// `from` is the number of carriers that were decided on: those of the first blocks, as many as
+    /// the value is of. `changed` has the pairs of these blocks on which the virtual vote turned, the
+    /// lower number first; it may have more pairs, which cost time alone.
+    ///
+    /// # Errors
+    ///
+    /// Memory was refused; all is as before.
+    pub fn update<O: Order>(
+        &mut self,
+        order: &O,
+        carriers: &Carriers,
+        changed: &[(u16, u16)],
+        from: u32,
+    ) -> Result<Vec<Flip>, Memory>
+        requires of { AreOf (O.table order.now) carriers.now }
+        requires right { IsRight (O.table order.now) carriers.now self.old }
+        requires first { from ≡ carriers_below carriers.now.rows self.old.blocks }
+        requires told { TellsChanges (O.table order.now) self.old.blocks changed.now }
+        ensures right { OnOk result (IsRight (O.table order.now) carriers.now self.new) }
+        ensures blocks { OnOk result (self.new.blocks ≡ carriers.now.blocks) }
+        ensures flips { IfOk result (λ flips. flips.items
+            ≡ flips_of self.old.txs self.new.txs (length carriers.now.txs)) }
+        ensures known { IfOk result (λ flips.
+            All (λ flip. flip.tx < length carriers.now.txs) flips.items) }
+        ensures err { OnErr result (self.new ≡ self.old) }
+    {
+        self.rebuild(order, carriers)
     }
 
     /// Whether the transaction is accepted, at once. One that isn't known is not.
