@@ -20,7 +20,7 @@ use Rattle.sp_carry.proofs.Members.{IsIn, any_agrees, in_map, in_map_from, any_o
 use Rattle.sp_accept.specs.Pass.{inputs_at}
 use Rattle.sp_accept.proofs.Places.{any_map, in_place, one_place, place_in}
 
-same_turned : (a b : Outpoint) → is_same_outpoint a b ≡ is_same_outpoint b a
+pub same_turned : (a b : Outpoint) → is_same_outpoint a b ≡ is_same_outpoint b a
 same_turned a b = (let e : eqb a.tx b.tx ≡ eqb b.tx a.tx = eqb_flip a.tx b.tx in let f : eqb a.index b.index ≡ eqb b.index a.index = eqb_flip a.index b.index in cc)
 
 -- no id stands twice, each carrier has one of the transactions and one of the blocks, and those of a later block come

@@ -1,4 +1,5 @@
--- One pass over the carriers in their order decides what the definition of an accepted carrier says.
+-- What the flags of the carriers in a block's past give for a carrier of the block: what the definition of an accepted
+-- carrier says, where it is known what is accepted in that past.
 use Rattle.std.proofs.Common.{◌≡◌, ℕ, ◌<◌, Bool, true, false, cond, ◌&&◌, ◌||◌, not, List, map, length, get_or, Some, None, refl, sym, ap, ◌∙◌, inl, inr, arith, eqb}
 use Rattle.std.specs.Prelude.{negsuc, Option, position}
 use Rattle.std.specs.List.{list_any, list_all}
@@ -17,10 +18,10 @@ use Rattle.sp_dag.specs.Numbered.{AreInOrder, graph_of}
 use Rattle.sp_dag.proofs.Keys.{all_complete, key_in}
 use Rattle.sp_dag.proofs.Whole.{ancestors_lower}
 use Rattle.sp_carry.specs.Payment.{Payment, Spent, conflicts, spent_by}
-use Rattle.sp_carry.specs.Ledger.{Ledger, accepts, is_rival, is_sound, some_carrier}
+use Rattle.sp_carry.specs.Ledger.{Ledger, accepts_by, is_rival, is_sound, some_carrier}
 use Rattle.sp_carry.specs.Carried.{AreSound, Carried, carriers_in, ledger_of}
 use Rattle.sp_carry.specs.Lookups.{is_spent_by, spenders_in}
-use Rattle.sp_carry.proofs.Acceptance.{accepts_is, carrier_found, found_carrier}
+use Rattle.sp_carry.proofs.Acceptance.{carrier_found, found_carrier}
 use Rattle.sp_carry.proofs.Members.{IsIn, all_agrees, any_of_member, member_of_any}
 use Rattle.sp_accept.specs.Acceptance.{is_set}
 use Rattle.sp_accept.specs.Pass.{has_source, inputs_at, is_accepted_below, is_beaten, is_beaten_at, is_lost, is_next, is_paid, is_paid_by}
@@ -30,13 +31,13 @@ use Rattle.sp_accept.proofs.Carriers.{AreRows, carried_at, carries, conflict_fro
 use Rattle.sp_accept.proofs.Numbers.{carrier_of, of_carrier, of_spender, spender_of}
 use Rattle.sp_accept.proofs.Places.{position_is, set_within}
 
--- the flags of the first n carriers say what the definition says, where all blocks are the set
-pub record AreDecided (table : List (List ℕ)) (k : Carried) (flags : List Bool) (n : ℕ) : Type 0 where
-  pub long : length flags ≡ n
-  pub each : (c : ℕ) → c < n
-      → is_set flags c ≡ accepts (ledger_of table k) (keys (graph_of table)) (row_at k.rows c).block (payment_at k (row_at k.rows c).tx)
+-- the flags of the carriers in the past of carrier n's block say what is accepted of them
+abbrev pub AreTold : List (List ℕ) → Carried → (ℕ → Payment → Bool) → List Bool → ℕ → Type 0
+AreTold table k accepted flags n =
+    (c : ℕ) → c < length k.rows → is_below table (row_at k.rows c).block (row_at k.rows n).block ≡ true
+    → is_set flags c ≡ accepted (row_at k.rows c).block (payment_at k (row_at k.rows c).tx)
 
-module _ (table : List (List ℕ)) (k : Carried) (kept : AreRows k) (blocks : length table ≡ k.blocks) (order : AreInOrder table) (sound : AreSound table k) where
+module _ (table : List (List ℕ)) (k : Carried) (kept : AreRows k) (blocks : length table ≡ k.blocks) (order : AreInOrder table) (sound : AreSound table k) (accepted : ℕ → Payment → Bool) where
   abbrev ledger : Ledger
   ledger = ledger_of table k
 
@@ -60,31 +61,20 @@ module _ (table : List (List ℕ)) (k : Carried) (kept : AreRows k) (blocks : le
   pub member : (c : ℕ) → c < length k.rows → has set (block_of c) ≡ true
   member c lt = key_in table (block_of c) (block_in c lt)
 
-  whole : (c : ℕ) → c < length k.rows → has (complete (graph_of table)) (block_of c) ≡ true
+  pub whole : (c : ℕ) → c < length k.rows → has (complete (graph_of table)) (block_of c) ≡ true
   whole c lt = all_complete table order (block_of c) (block_in c lt)
 
   -- a carrier of the past comes before
-  past_first : (c n : ℕ) → c < length k.rows → n < length k.rows → in_past (graph_of table) (block_of c) (block_of n) ≡ true → c < n
+  pub past_first : (c n : ℕ) → c < length k.rows → n < length k.rows → in_past (graph_of table) (block_of c) (block_of n) ≡ true → c < n
   past_first c n lc ln under =
       lower_first k kept c n lc ln (ancestors_lower table (block_of c) (block_of n) order (block_in n ln) under)
-
-  abbrev is_accepted_here : ℕ → Payment → Bool
-  is_accepted_here w u = accepts ledger set w u
-
-  -- a flag that is set
-  decided_at : (flags : List Bool) (n c : ℕ) → AreDecided table k flags n → is_set flags c ≡ true
-      → (c < n) × (accepts ledger set (block_of c) (carried_by c) ≡ true)
-  decided_at flags n c d h =
-      let within : c < length flags = set_within flags c h in
-      let less : c < n = omega (arith, within, d.long) in
-      (less, sym (d.each c less) ∙ h)
 
   -- ---- sources
 
   abbrev has_source_here : ℕ → Input → ℕ → Payment → Bool
-  has_source_here z i w u = eqb u.id i.from.tx && accepts ledger set w u
+  has_source_here z i w u = eqb u.id i.from.tx && accepted w u
 
-  source_forth : (flags : List Bool) (n s : ℕ) (i : Input) → AreDecided table k flags n → n < length k.rows
+  source_forth : (flags : List Bool) (n s : ℕ) (i : Input) → AreTold table k accepted flags n → n < length k.rows
       → position (eqb i.from.tx) (map id_of k.txs) ≡ Some s → is_paid table k flags (block_of n) s ≡ true
       → some_carrier ledger (past ledger.graph (block_of n)) (has_source_here (block_of n) i) ≡ true
   source_forth flags n s i d ln found h =
@@ -93,7 +83,7 @@ module _ (table : List (List ℕ)) (k : Carried) (kept : AreRows k) (blocks : le
       let p : (c.0 < length k.rows) × (tx_of c.0 ≡ s) = carrier_of k.rows s c.0 c.1 in
       let q : (is_set flags c.0 ≡ true) × (is_below table (block_of c.0) (block_of n) ≡ true) =
       and_parts (is_set flags c.0) (is_below table (block_of c.0) (block_of n)) c.2 in
-      let a : (c.0 < n) × (accepts ledger set (block_of c.0) (carried_by c.0) ≡ true) = decided_at flags n c.0 d q.0 in
+      let a : accepted (block_of c.0) (carried_by c.0) ≡ true = sym (d c.0 p.0 q.1) ∙ q.0 in
       let known : tx_of c.0 < length k.txs = kept.known c.0 p.0 in
       let r = position-Some (eqb i.from.tx) (map id_of k.txs) s 0 found in
       let named : eqb (carried_by c.0).id i.from.tx ≡ true =
@@ -101,7 +91,7 @@ module _ (table : List (List ℕ)) (k : Carried) (kept : AreRows k) (blocks : le
       (id_is k kept (tx_of c.0) known ∙ ap (λ (t : ℕ). get_or (map id_of k.txs) t 0) p.1 ∙ sym (eqb-true i.from.tx (get_or (map id_of k.txs) s 0) r.1)) in
       found_carrier ledger (past ledger.graph (block_of n)) (has_source_here (block_of n) i) (block_of c.0) (carried_by c.0)
       (has-past_from ledger.graph (block_of n) (block_of c.0) (whole n ln) q.1)
-      (carries k kept c.0 p.0) (and_from (eqb (carried_by c.0).id i.from.tx) (accepts ledger set (block_of c.0) (carried_by c.0)) named a.1)
+      (carries k kept c.0 p.0) (and_from (eqb (carried_by c.0).id i.from.tx) (accepted (block_of c.0) (carried_by c.0)) named a)
 
   -- what an accepted carrier in the past has
   pub record IsSource (flags : List Bool) (n : ℕ) (i : Input) (c : ℕ) : Type 0 where
@@ -110,7 +100,7 @@ module _ (table : List (List ℕ)) (k : Carried) (kept : AreRows k) (blocks : le
     pub flag : is_set flags c ≡ true
     pub under : is_below table (block_of c) (block_of n) ≡ true
 
-  source_found : (flags : List Bool) (n : ℕ) (i : Input) → AreDecided table k flags n → n < length k.rows
+  source_found : (flags : List Bool) (n : ℕ) (i : Input) → AreTold table k accepted flags n → n < length k.rows
       → some_carrier ledger (past ledger.graph (block_of n)) (has_source_here (block_of n) i) ≡ true
       → (c : ℕ) × IsSource flags n i c
   source_found flags n i d ln h =
@@ -118,21 +108,20 @@ module _ (table : List (List ℕ)) (k : Carried) (kept : AreRows k) (blocks : le
       carrier_found ledger (past ledger.graph (block_of n)) (has_source_here (block_of n) i) h in
       let under : in_past ledger.graph r.0 (block_of n) ≡ true = has-past ledger.graph (block_of n) r.0 r.2 in
       let c : (c : ℕ) × (c < length k.rows) × (block_of c ≡ r.0) × (carried_by c ≡ r.1) = carried_at k kept r.0 r.1 r.3 in
-      let p : (eqb r.1.id i.from.tx ≡ true) × (accepts ledger set r.0 r.1 ≡ true) = and_parts (eqb r.1.id i.from.tx) (accepts ledger set r.0 r.1) r.4 in
+      let p : (eqb r.1.id i.from.tx ≡ true) × (accepted r.0 r.1 ≡ true) = and_parts (eqb r.1.id i.from.tx) (accepted r.0 r.1) r.4 in
       let below : in_past ledger.graph (block_of c.0) (block_of n) ≡ true = ap (λ (w : ℕ). in_past ledger.graph w (block_of n)) c.2 ∙ under in
-      let less : c.0 < n = past_first c.0 n c.1 ln below in
       let known : tx_of c.0 < length k.txs = kept.known c.0 c.1 in (
         c.0,
         record {
           within = c.1;
           found = position_is (map id_of k.txs) i.from.tx (tx_of c.0) kept.distinct (omega (arith, known, length-map k.txs id_of))
               (sym (id_is k kept (tx_of c.0) known) ∙ ap (λ (u : Payment). u.id) c.3 ∙ eqb-true r.1.id i.from.tx p.0);
-          flag = d.each c.0 less ∙ ap (λ (w : ℕ). accepts ledger set w (carried_by c.0)) c.2 ∙ ap (accepts ledger set r.0) c.3 ∙ p.1;
+          flag = d c.0 c.1 below ∙ ap (λ (w : ℕ). accepted w (carried_by c.0)) c.2 ∙ ap (accepted r.0) c.3 ∙ p.1;
           under = below;
         },
       )
 
-  source_is : (flags : List Bool) (n : ℕ) (i : Input) → AreDecided table k flags n → n < length k.rows
+  source_is : (flags : List Bool) (n : ℕ) (i : Input) → AreTold table k accepted flags n → n < length k.rows
       → has_source table k flags (block_of n) i ≡ some_carrier ledger (past ledger.graph (block_of n)) (has_source_here (block_of n) i)
   source_is flags n i d ln = at (position (eqb i.from.tx) (map id_of k.txs)) refl
     where
@@ -158,7 +147,7 @@ module _ (table : List (List ℕ)) (k : Carried) (kept : AreRows k) (blocks : le
   stands_beside n w u = is_rival ledger (carried_by n) w u && not (int_eq (virt ledger.graph set (block_of n) w) (negsuc 0))
 
   abbrev stands_below : ℕ → ℕ → Payment → Bool
-  stands_below n w u = is_rival ledger (carried_by n) w u && accepts ledger set w u
+  stands_below n w u = is_rival ledger (carried_by n) w u && accepted w u
 
   -- the carrier c is a sound one of another transaction that spends the input's outpoint
   pub record IsRivalAt (n : ℕ) (i : Input) (c : ℕ) : Type 0 where
@@ -168,13 +157,13 @@ module _ (table : List (List ℕ)) (k : Carried) (kept : AreRows k) (blocks : le
     pub apart : eqb (tx_of c) (tx_of n) ≡ false
     pub valid : (row_at k.rows c).sound ≡ true
 
-  rival_is : (n c : ℕ) (i : Input) → n < length k.rows → IsRivalAt n i c → is_rival ledger (carried_by n) (block_of c) (carried_by c) ≡ true
+  pub rival_is : (n c : ℕ) (i : Input) → n < length k.rows → IsRivalAt n i c → is_rival ledger (carried_by n) (block_of c) (carried_by c) ≡ true
   rival_is n c i ln r =
       and_from (conflicts (carried_by n) (carried_by c)) (is_sound ledger (block_of c) (carried_by c))
       (conflict_from k kept (tx_of n) (tx_of c) i (kept.known n ln) (kept.known c r.within) r.input r.spent r.apart)
       (sym (sound c no_row r.within) ∙ r.valid)
 
-  rival_at : (n c : ℕ) → n < length k.rows → c < length k.rows → is_rival ledger (carried_by n) (block_of c) (carried_by c) ≡ true
+  pub rival_at : (n c : ℕ) → n < length k.rows → c < length k.rows → is_rival ledger (carried_by n) (block_of c) (carried_by c) ≡ true
       → (i : Input) × IsRivalAt n i c
   rival_at n c ln lc h =
       let p : (conflicts (carried_by n) (carried_by c) ≡ true) × (is_sound ledger (block_of c) (carried_by c) ≡ true) =
@@ -233,7 +222,7 @@ module _ (table : List (List ℕ)) (k : Carried) (kept : AreRows k) (blocks : le
   abbrev IsOutdone : ℕ → Bool
   IsOutdone n = some_carrier ledger (anticone ledger.graph set (block_of n)) (stands_beside n) || some_carrier ledger (past ledger.graph (block_of n)) (stands_below n)
 
-  outdone_forth : (flags : List Bool) (n : ℕ) → AreDecided table k flags n → n < length k.rows → HasRival flags n → IsOutdone n ≡ true
+  outdone_forth : (flags : List Bool) (n : ℕ) → AreTold table k accepted flags n → n < length k.rows → HasRival flags n → IsOutdone n ≡ true
   outdone_forth flags n d ln (i, c, r, h) = at (is_below table (block_of c) (block_of n)) refl (and_parts (row_at k.rows c).sound _ h).1
     where
       rival : is_rival ledger (carried_by n) (block_of c) (carried_by c) ≡ true
@@ -243,11 +232,11 @@ module _ (table : List (List ℕ)) (k : Carried) (kept : AreRows k) (blocks : le
           → cond b (is_set flags c) (not (eqb (block_of c) (block_of n) || is_below table (block_of n) (block_of c)) && not (is_before table (block_of n) (block_of c))) ≡ true
           → IsOutdone n ≡ true
       at true under h =
-          let a : (c < n) × (accepts ledger set (block_of c) (carried_by c) ≡ true) = decided_at flags n c d h in
+          let a : accepted (block_of c) (carried_by c) ≡ true = sym (d c r.within under) ∙ h in
           or_right _ _
           (found_carrier ledger (past ledger.graph (block_of n)) (stands_below n) (block_of c) (carried_by c)
           (has-past_from ledger.graph (block_of n) (block_of c) (whole n ln) under) (carries k kept c r.within)
-          (and_from (is_rival ledger (carried_by n) (block_of c) (carried_by c)) (accepts ledger set (block_of c) (carried_by c)) rival a.1))
+          (and_from (is_rival ledger (carried_by n) (block_of c) (carried_by c)) (accepted (block_of c) (carried_by c)) rival a))
       at false under h =
           let p : (not (eqb (block_of c) (block_of n) || is_below table (block_of n) (block_of c)) ≡ true) × (not (is_before table (block_of n) (block_of c)) ≡ true) =
           and_parts (not (eqb (block_of c) (block_of n) || is_below table (block_of n) (block_of c))) (not (is_before table (block_of n) (block_of c))) h in
@@ -289,7 +278,7 @@ module _ (table : List (List ℕ)) (k : Carried) (kept : AreRows k) (blocks : le
           sides (eqb (block_of c) (block_of n)) (in_past (graph_of table) (block_of c) (block_of n)) (in_past (graph_of table) (block_of n) (block_of c)) apart in
           lost_at flags n c i.0 i.1 (rw (i.1.valid, s.0, s.1) p.1)
 
-  below_found : (flags : List Bool) (n : ℕ) → AreDecided table k flags n → n < length k.rows
+  below_found : (flags : List Bool) (n : ℕ) → AreTold table k accepted flags n → n < length k.rows
       → some_carrier ledger (past ledger.graph (block_of n)) (stands_below n) ≡ true
       → list_any (is_lost table k flags (row_at k.rows n)) (inputs_at k (tx_of n)) ≡ true
   below_found flags n d ln h =
@@ -303,12 +292,12 @@ module _ (table : List (List ℕ)) (k : Carried) (kept : AreRows k) (blocks : le
           → stands_below n (block_of c) (carried_by c) ≡ true
           → list_any (is_lost table k flags (row_at k.rows n)) (inputs_at k (tx_of n)) ≡ true
       by_number c lc under stands =
-          let p : (is_rival ledger (carried_by n) (block_of c) (carried_by c) ≡ true) × (accepts ledger set (block_of c) (carried_by c) ≡ true) =
-          and_parts (is_rival ledger (carried_by n) (block_of c) (carried_by c)) (accepts ledger set (block_of c) (carried_by c)) stands in
+          let p : (is_rival ledger (carried_by n) (block_of c) (carried_by c) ≡ true) × (accepted (block_of c) (carried_by c) ≡ true) =
+          and_parts (is_rival ledger (carried_by n) (block_of c) (carried_by c)) (accepted (block_of c) (carried_by c)) stands in
           let i : (i : Input) × IsRivalAt n i c = rival_at n c ln lc p.0 in
-          lost_at flags n c i.0 i.1 (rw (i.1.valid, under) (d.each c (past_first c n lc ln under) ∙ p.1))
+          lost_at flags n c i.0 i.1 (rw (i.1.valid, under) (d c lc under ∙ p.1))
 
-  outdone_is : (flags : List Bool) (n : ℕ) → AreDecided table k flags n → n < length k.rows
+  outdone_is : (flags : List Bool) (n : ℕ) → AreTold table k accepted flags n → n < length k.rows
       → list_any (is_lost table k flags (row_at k.rows n)) (inputs_at k (tx_of n)) ≡ IsOutdone n
   outdone_is flags n d ln = same_truth _ _ (λ h. outdone_forth flags n d ln (lost_found flags n h)) back
     where
@@ -319,20 +308,20 @@ module _ (table : List (List ℕ)) (k : Carried) (kept : AreRows k) (blocks : le
             | inr b ↦ below_found flags n d ln b
           ]
 
-  -- ---- one carrier, where those before it are decided
+  -- ---- one carrier, where those of the past of its block are told
 
-  pub next_is : (flags : List Bool) (n : ℕ) → AreDecided table k flags n → n < length k.rows
-      → is_next table k flags n ≡ accepts ledger set (block_of n) (carried_by n)
+  pub next_is : (flags : List Bool) (n : ℕ) → AreTold table k accepted flags n → n < length k.rows
+      → is_next table k flags n ≡ accepts_by ledger set accepted (block_of n) (carried_by n)
   next_is flags n d ln =
-      joined _ _ _ _ _ _ _ (sound n no_row ln) sources (outdone_is flags n d ln) ∙ sym (accepts_is ledger set (block_of n) (carried_by n) (whole n ln))
+      joined _ _ _ _ _ _ _ (sound n no_row ln) sources (outdone_is flags n d ln)
     where
       sources : list_all (has_source table k flags (block_of n)) (inputs_at k (tx_of n))
-          ≡ list_all (λ (i : Spent). some_carrier ledger (past ledger.graph (block_of n)) (λ w u. eqb u.id i.from.tx && accepts ledger set w u)) (carried_by n).inputs
+          ≡ list_all (λ (i : Spent). some_carrier ledger (past ledger.graph (block_of n)) (λ w u. eqb u.id i.from.tx && accepted w u)) (carried_by n).inputs
       sources =
           all_agrees (has_source table k flags (block_of n))
           (λ (i : Input). some_carrier ledger (past ledger.graph (block_of n)) (has_source_here (block_of n) i)) (inputs_at k (tx_of n))
           (λ i _. source_is flags n i d ln)
-          ∙ sym (list_all-map (λ (i : Spent). some_carrier ledger (past ledger.graph (block_of n)) (λ w u. eqb u.id i.from.tx && accepts ledger set w u)) spent_by (inputs_at k (tx_of n)))
+          ∙ sym (list_all-map (λ (i : Spent). some_carrier ledger (past ledger.graph (block_of n)) (λ w u. eqb u.id i.from.tx && accepted w u)) spent_by (inputs_at k (tx_of n)))
 
       not_or : (a b : Bool) → not (a || b) ≡ (not a && not b)
       not_or true b = refl

@@ -8,3 +8,12 @@ pub mod Renamed
 pub mod States
 pub mod Grown
 pub mod StillRight
+pub mod Listed
+pub mod Runs
+pub mod Beside
+pub mod Behind
+pub mod Unmoved
+pub mod Begun
+pub mod Toggled
+pub mod Settled
+pub mod Popped

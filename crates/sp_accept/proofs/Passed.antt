@@ -16,7 +16,8 @@ use Rattle.sp_accept.specs.Acceptance.{Acceptance, first_blocks, is_accepted_car
 use Rattle.sp_accept.specs.Pass.{carried_flags, is_next, passed}
 use Rattle.sp_accept.specs.Rows.{AreOf, payment_at, row_at}
 use Rattle.sp_accept.proofs.Carriers.{AreRows, rows_are, carried_at, carries, one_number}
-use Rattle.sp_accept.proofs.Decided.{AreDecided, member, next_is}
+use Rattle.sp_carry.proofs.Acceptance.{accepts_is}
+use Rattle.sp_accept.proofs.Decided.{member, next_is, past_first, whole}
 use Rattle.sp_accept.proofs.Numbers.{carrier_of, of_carrier}
 
 -- one more carrier
@@ -39,6 +40,12 @@ flag_last : (flags : List Bool) (f : Bool) → is_set (flags ++ f ∷ []) (lengt
 flag_last [] f = refl
 flag_last (x ∷ xs) f = flag_last xs f
 
+-- the flags of the first n carriers say what the definition says, where all blocks are the set
+pub record AreDecided (table : List (List ℕ)) (k : Carried) (flags : List Bool) (n : ℕ) : Type 0 where
+  pub long : length flags ≡ n
+  pub each : (c : ℕ) → c < n
+      → is_set flags c ≡ accepts (ledger_of table k) (keys (graph_of table)) (row_at k.rows c).block (payment_at k (row_at k.rows c).tx)
+
 module _ (table : List (List ℕ)) (k : Carried) (kept : AreRows k) (blocks : length table ≡ k.blocks) (order : AreInOrder table) (sound : AreSound table k) where
   abbrev ledger : Ledger
   ledger = ledger_of table k
@@ -48,6 +55,13 @@ module _ (table : List (List ℕ)) (k : Carried) (kept : AreRows k) (blocks : le
 
   abbrev decision : ℕ → Bool
   decision c = accepts ledger set (row_at k.rows c).block (payment_at k (row_at k.rows c).tx)
+
+  -- what the flags below a carrier give for it
+  pub decision_is : (flags : List Bool) (n : ℕ) → ((c : ℕ) → c < n → is_set flags c ≡ decision c) → n < length k.rows → is_next table k flags n ≡ decision n
+  decision_is flags n told ln =
+      next_is table k kept blocks order sound (λ w u. accepts ledger set w u) flags n
+      (λ c lc under. told c (past_first table k kept blocks order sound (λ w u. accepts ledger set w u) c n lc ln under)) ln
+      ∙ sym (accepts_is ledger set (row_at k.rows n).block (payment_at k (row_at k.rows n).tx) (whole table k kept blocks order sound (λ w u. accepts ledger set w u) n ln))
 
   decided_more : (flags : List Bool) (n : ℕ) → AreDecided table k flags n → n < length k.rows → AreDecided table k (flags ++ is_next table k flags n ∷ []) (suc n)
   decided_more flags n d ln = record {
@@ -63,7 +77,7 @@ module _ (table : List (List ℕ)) (k : Carried) (kept : AreRows k) (blocks : le
                 let f : n ≡ c = omega (arith, ge, lt) in
                 ap (is_set (flags ++ is_next table k flags n ∷ [])) e
                 ∙ flag_last flags (is_next table k flags n)
-                ∙ next_is table k kept blocks order sound flags n d ln
+                ∙ decision_is flags n d.each ln
                 ∙ ap decision f)
           ]
 
@@ -73,7 +87,7 @@ module _ (table : List (List ℕ)) (k : Carried) (kept : AreRows k) (blocks : le
   all_decided (suc n) le = decided_more (passed table k n) n (all_decided n (omega (arith, le))) (omega (arith, le))
 
   -- a transaction is accepted where a carrier of it has its flag
-  tx_is : (flags : List Bool) (t : ℕ) → AreDecided table k flags (length k.rows) → t < length k.txs
+  tx_is : (flags : List Bool) (t : ℕ) → ((c : ℕ) → c < length k.rows → is_set flags c ≡ decision c) → t < length k.txs
       → list_any (is_set flags) (carriers_in k.rows t) ≡ is_accepted ledger set (payment_at k t).id
   tx_is flags t d lt = same_truth _ _ forth back
     where
@@ -83,7 +97,7 @@ module _ (table : List (List ℕ)) (k : Carried) (kept : AreRows k) (blocks : le
           let p : (c.0 < length k.rows) × ((row_at k.rows c.0).tx ≡ t) = carrier_of k.rows t c.0 c.1 in
           any_of_member (λ (u : Payment). eqb u.id (payment_at k t).id) (accepted_carriers ledger set) (payment_at k (row_at k.rows c.0).tx)
           (from_accepted ledger set (row_at k.rows c.0).block (payment_at k (row_at k.rows c.0).tx)
-          (member table k kept blocks order sound c.0 p.0) (carries k kept c.0 p.0) (sym (d.each c.0 p.0) ∙ c.2))
+          (member table k kept blocks order sound (λ w u. accepts ledger set w u) c.0 p.0) (carries k kept c.0 p.0) (sym (d c.0 p.0) ∙ c.2))
           (eq-eqb _ _ (ap (λ (n : ℕ). (payment_at k n).id) p.1))
 
       back : is_accepted ledger set (payment_at k t).id ≡ true → list_any (is_set flags) (carriers_in k.rows t) ≡ true
@@ -95,39 +109,41 @@ module _ (table : List (List ℕ)) (k : Carried) (kept : AreRows k) (blocks : le
           let same : (row_at k.rows c.0).tx ≡ t =
           one_number k kept (row_at k.rows c.0).tx t (kept.known c.0 c.1) lt (ap (λ (u : Payment). u.id) c.3 ∙ eqb-true _ _ u.2) in
           any_of_member (is_set flags) (carriers_in k.rows t) c.0 (of_carrier k.rows t c.0 c.1 same)
-          (d.each c.0 c.1 ∙ ap (λ (w : ℕ). accepts ledger set w (payment_at k (row_at k.rows c.0).tx)) c.2 ∙ ap (accepts ledger set a.0) c.3 ∙ a.3)
+          (d c.0 c.1 ∙ ap (λ (w : ℕ). accepts ledger set w (payment_at k (row_at k.rows c.0).tx)) c.2 ∙ ap (accepts ledger set a.0) c.3 ∙ a.3)
 
   -- ---- the flags of the pass are right
 
   set_is : (n : ℕ) → n ≡ k.blocks → set ≡ first_blocks n
   set_is n e = keys_are_numbers table ∙ ap (range_with_len 0) (blocks ∙ sym e)
 
-  right : (a : Acceptance) → a.blocks ≡ k.blocks → a.carriers ≡ passed table k (length k.rows) → a.txs ≡ carried_flags k a.carriers → IsRight table k a
-  right a n flags txs = record {
+  -- flags that say what the definition says are right
+  pub right_by : (a : Acceptance) → a.blocks ≡ k.blocks → length a.carriers ≤ length k.rows
+      → ((c : ℕ) → c < length k.rows → is_set a.carriers c ≡ decision c) → length a.txs ≤ length k.txs
+      → ((t : ℕ) → t < length k.txs → is_set a.txs t ≡ list_any (is_set a.carriers) (carriers_in k.rows t)) → IsRight table k a
+  right_by a n few d few_txs txs = record {
     few = omega (arith, n);
     carriers = λ c lt. carrier c lt;
-    no_more = omega (arith, ap length flags, d.long);
-    txs = λ t lt. tx t lt;
-    no_more_txs = omega (arith, ap length txs, length-map-range_with_len (λ tx. list_any (is_set a.carriers) (carriers_in k.rows tx)) 0 (length k.txs));
+    no_more = few;
+    txs = λ t lt. txs t lt ∙ tx_is a.carriers t d lt ∙ ap (λ (s : List ℕ). is_accepted ledger s (payment_at k t).id) (set_is a.blocks n);
+    no_more_txs = few_txs;
   }
     where
-      d : AreDecided table k (passed table k (length k.rows)) (length k.rows)
-      d = all_decided (length k.rows) (omega arith)
-
       carrier : (c : ℕ) → c < length k.rows → is_set a.carriers c ≡ is_accepted_carrier table k a.blocks c
       carrier c lt =
           let less : (row_at k.rows c).block < a.blocks = (let b : (row_at k.rows c).block < k.blocks = kept.inside c lt in omega (arith, b, n)) in
-          ap (λ (fs : List Bool). is_set fs c) flags ∙ d.each c lt
+          d c lt
           ∙ ap (λ (s : List ℕ). accepts ledger s (row_at k.rows c).block (payment_at k (row_at k.rows c).tx)) (set_is a.blocks n)
           ∙ ap (λ (b : Bool). b && accepts ledger (first_blocks a.blocks) (row_at k.rows c).block (payment_at k (row_at k.rows c).tx)) (sym (lt-ltb (row_at k.rows c).block a.blocks less))
 
-      tx : (t : ℕ) → t < length k.txs → is_set a.txs t ≡ is_accepted_tx table k a.blocks t
-      tx t lt =
-          ap (λ (fs : List Bool). is_set fs t) txs
-          ∙ get_or-map-range_with_len (λ tx. list_any (is_set a.carriers) (carriers_in k.rows tx)) 0 (length k.txs) t t false lt (omega arith)
-          ∙ ap (λ (fs : List Bool). list_any (is_set fs) (carriers_in k.rows t)) flags
-          ∙ tx_is (passed table k (length k.rows)) t d lt
-          ∙ ap (λ (s : List ℕ). is_accepted ledger s (payment_at k t).id) (set_is a.blocks n)
+  right : (a : Acceptance) → a.blocks ≡ k.blocks → a.carriers ≡ passed table k (length k.rows) → a.txs ≡ carried_flags k a.carriers → IsRight table k a
+  right a n flags txs =
+      right_by a n (omega (arith, ap length flags, d.long)) (λ c lt. ap (λ (fs : List Bool). is_set fs c) flags ∙ d.each c lt)
+      (omega (arith, ap length txs, length-map-range_with_len (λ tx. list_any (is_set a.carriers) (carriers_in k.rows tx)) 0 (length k.txs)))
+      (λ t lt. ap (λ (fs : List Bool). is_set fs t) txs
+      ∙ get_or-map-range_with_len (λ tx. list_any (is_set a.carriers) (carriers_in k.rows tx)) 0 (length k.txs) t t false lt (omega arith))
+    where
+      d : AreDecided table k (passed table k (length k.rows)) (length k.rows)
+      d = all_decided (length k.rows) (omega arith)
 
 pub right_from : (table : List (List ℕ)) (k : Carried) (a : Acceptance) → IsCarried k → AreOf table k → a.blocks ≡ k.blocks
     → a.carriers ≡ passed table k (length k.rows) → a.txs ≡ carried_flags k a.carriers → IsRight table k a

@@ -50,16 +50,16 @@ distinct_range a zero = tt
 distinct_range a (suc n) =
     (false_from_ne_true (has (range_with_len (a + 1) n) a) (λ h. (let r : (a + 1 ≤ a) × (a < a + 1 + n) = of_range (a + 1) n a h in omega (arith, r.0))), distinct_range (a + 1) n)
 
-first_in : (n z : ℕ) → z < n → has (first_blocks n) z ≡ true
+pub first_in : (n z : ℕ) → z < n → has (first_blocks n) z ≡ true
 first_in n z lt = in_range 0 n z (omega arith) (omega (arith, lt))
 
-of_first : (n z : ℕ) → has (first_blocks n) z ≡ true → z < n
+pub of_first : (n z : ℕ) → has (first_blocks n) z ≡ true → z < n
 of_first n z h = (let r : (0 ≤ z) × (z < 0 + n) = of_range 0 n z h in omega (arith, r.1))
 
 distinct_keys : (table : List (List ℕ)) → AreDistinct (keys (graph_of table))
 distinct_keys table = subst AreDistinct (sym (keys_are_numbers table)) (distinct_range 0 (length table))
 
-first_downset : (table : List (List ℕ)) (n : ℕ) → AreInOrder table → n ≤ length table → IsDownset (graph_of table) (first_blocks n)
+pub first_downset : (table : List (List ℕ)) (n : ℕ) → AreInOrder table → n ≤ length table → IsDownset (graph_of table) (first_blocks n)
 first_downset table n order le = record {
   all_complete = λ z there. all_complete table order z (omega (arith, le, of_first n z there));
   closed = λ z w there under.
@@ -68,7 +68,7 @@ first_downset table n order le = record {
 
 -- ---- the flags
 
-unset : (flags : List Bool) (n : ℕ) → length flags ≤ n → is_set flags n ≡ false
+pub unset : (flags : List Bool) (n : ℕ) → length flags ≤ n → is_set flags n ≡ false
 unset flags n le = false_from_ne_true (is_set flags n) (λ h. (let lt : n < length flags = set_within flags n h in omega (arith, le, lt)))
 
 module _ (table table' : List (List ℕ)) (k k' : Carried) (a : Acceptance) (h : IsCarried k) (h' : IsCarried k') (on : GoesOn k k')

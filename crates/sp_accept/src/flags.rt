@@ -2,6 +2,7 @@
 
 ghost use Rattle.std.specs.Prelude.{◌≡◌};
 ghost use Rattle.sp_accept.specs.Acceptance.{is_set};
+ghost use Rattle.sp_accept.specs.Flips.{differ};
 
 /// Whether the flag of a number is set. One that isn't there is not.
 pub(crate) fn is_set(flags: &[bool], number: u32) -> bool
@@ -9,4 +10,11 @@ pub(crate) fn is_set(flags: &[bool], number: u32) -> bool
 {
     let place = number as usize;
     place < flags.len() && flags[place]
+}
+
+/// Whether a flag is another one than it was.
+pub(crate) fn differ(was: bool, now: bool) -> bool
+    ensures { result ≡ differ was now }
+{
+    was != now
 }

@@ -3,7 +3,7 @@
 ghost use Rattle.std.specs.Prelude.{◌≡◌, ◌++◌, ◌∷◌, [], cond, IfOk, OnOk};
 ghost use Rattle.sp_accept.specs.Flips.{differ, flips_of};
 
-use crate::flags::is_set;
+use crate::flags::{differ, is_set};
 use sp_carry::Flip;
 use std::alloc::{AllocError, Global};
 
@@ -12,7 +12,7 @@ fn note(flips: &mut Vec<Flip>, tx: u32, was: bool, now: bool) -> Result<(), Allo
     ensures { OnOk result (flips.new.items
         ≡ flips.old.items ++ cond (differ was now) (record { tx = tx; now = now } ∷ []) []) }
 {
-    if was != now {
+    if differ(was, now) {
         flips.push(Flip { tx, now })?;
     }
     Ok(())

@@ -1,0 +1,154 @@
+-- Carriers on which the blocks that joined the set can't bear: what the old flags say of them is what the flags below them give.
+use Rattle.std.proofs.Common.{◌≡◌, ◌≢◌, ◌<◌, ◌≤◌, ◌+◌, ◌∙◌, ◌||◌, ◌&&◌, not, ℕ, zero, suc, Bool, true, false, List, [], ◌∷◌, inl, inr, arith, refl, sym, ap, subst, length, eqb, ltb, Some}
+use Rattle.std.specs.Prelude.{filter, nat_lt, negsuc, ℤ, Contains, slice_get, neg_ℤ}
+use Rattle.std.specs.List.{list_any, range_with_len}
+use Rattle.std.specs.Ordering.{int_eq}
+use Rattle.std.proofs.lemmas.Bool.{and_from, and_parts, cases_lt, eq-eqb, eqb-true, false≢true, le-ltb, lt-ltb, ltb-true, not_from_false, not-true, or_left, or_right}
+use Rattle.sp_tx.specs.Parts.{of_parts}
+use Rattle.sp_tx.specs.declared.parts.Input.{Input}
+use Rattle.sp_model.specs.Graph.{anticone, has, keys, related}
+use Rattle.sp_model.specs.Votes.{virt}
+use Rattle.sp_model.proofs.Exchange.{virt_neg}
+use Rattle.sp_model.proofs.Sets.{has-filter, has-filter_from, same_truth}
+use Rattle.sp_dag.specs.Numbered.{AreInOrder, graph_of}
+use Rattle.sp_dag.proofs.Keys.{key_in}
+use Rattle.sp_dag.proofs.Whole.{ancestors_lower, keys_are_numbers}
+use Rattle.sp_carry.specs.Payment.{Payment, is_same_outpoint}
+use Rattle.sp_carry.specs.Ledger.{accepts, accepts_by, has_sources, is_alone, is_first, is_rival, is_sound, some_carrier}
+use Rattle.sp_carry.specs.Carried.{AreSound, Carried, carriers_in, ledger_of}
+use Rattle.sp_carry.specs.Lookups.{is_spent_by, spenders_in}
+use Rattle.sp_carry.proofs.Acceptance.{accepts_is, carrier_found, found_carrier}
+use Rattle.sp_carry.proofs.Members.{IsIn, any_of_member, member_of_any}
+use Rattle.sp_accept.specs.Acceptance.{Acceptance, first_blocks, is_accepted_carrier, is_set, IsRight}
+use Rattle.sp_accept.specs.Pass.{inputs_at, is_next}
+use Rattle.sp_accept.specs.Pending.{are_rivals}
+use Rattle.sp_accept.specs.Rows.{payment_at, row_at}
+use Rattle.sp_accept.specs.Standing.{is_below}
+use Rattle.sp_accept.proofs.Carriers.{AreRows, carried_at, carries, same_turned}
+use Rattle.sp_accept.proofs.Decided.{IsRivalAt, next_is, rival_at, rival_is, whole}
+use Rattle.sp_accept.proofs.Numbers.{of_spender, spender_of}
+use Rattle.sp_accept.proofs.StillRight.{first_in, of_first}
+
+module _ (table : List (List ℕ)) (k : Carried) (kept : AreRows k) (blocks : length table ≡ k.blocks) (order : AreInOrder table) (sound : AreSound table k) where
+  abbrev block_of : ℕ → ℕ
+  block_of c = (row_at k.rows c).block
+
+  abbrev tx_of : ℕ → ℕ
+  tx_of c = (row_at k.rows c).tx
+
+  abbrev carried_by : ℕ → Payment
+  carried_by c = payment_at k (tx_of c)
+
+  abbrev set : List ℕ
+  set = keys (graph_of table)
+
+  -- ---- rivals
+
+  pub rivals_turned : (c e : ℕ) → c < length k.rows → e < length k.rows → are_rivals k c e ≡ true → are_rivals k e c ≡ true
+  rivals_turned c e lc le h =
+      let i : (i : Input) × IsIn (inputs_at k (tx_of c)) i × (list_any (λ tx. not (eqb tx (tx_of c)) && eqb tx (tx_of e)) (spenders_in k.txs i.from) ≡ true) =
+      member_of_any (λ (i : Input). list_any (λ tx. not (eqb tx (tx_of c)) && eqb tx (tx_of e)) (spenders_in k.txs i.from)) (inputs_at k (tx_of c)) h in
+      let t : (t : ℕ) × IsIn (spenders_in k.txs i.0.from) t × ((not (eqb t (tx_of c)) && eqb t (tx_of e)) ≡ true) =
+      member_of_any (λ tx. not (eqb tx (tx_of c)) && eqb tx (tx_of e)) (spenders_in k.txs i.0.from) i.2 in
+      let p : (not (eqb t.0 (tx_of c)) ≡ true) × (eqb t.0 (tx_of e) ≡ true) = and_parts (not (eqb t.0 (tx_of c))) (eqb t.0 (tx_of e)) t.2 in
+      let same : t.0 ≡ tx_of e = eqb-true t.0 (tx_of e) p.1 in
+      let q = spender_of k.txs (of_parts [] []) i.0.from t.0 t.1 in
+      let j : (j : Input) × IsIn (inputs_at k t.0) j × (is_same_outpoint i.0.from j.from ≡ true) =
+      member_of_any (λ (j : Input). is_same_outpoint i.0.from j.from) (inputs_at k t.0) q.1 in
+      any_of_member (λ (j : Input). list_any (λ tx. not (eqb tx (tx_of e)) && eqb tx (tx_of c)) (spenders_in k.txs j.from)) (inputs_at k (tx_of e)) j.0
+      (subst (λ (n : ℕ). IsIn (inputs_at k n) j.0) same j.1)
+      (any_of_member (λ tx. not (eqb tx (tx_of e)) && eqb tx (tx_of c)) (spenders_in k.txs j.0.from) (tx_of c)
+      (of_spender k.txs (of_parts [] []) j.0.from (tx_of c) (kept.known c lc)
+      (any_of_member (λ (l : Input). is_same_outpoint j.0.from l.from) (inputs_at k (tx_of c)) i.0 i.1 (same_turned j.0.from i.0.from ∙ j.2)))
+      (and_from (not (eqb (tx_of c) (tx_of e))) (eqb (tx_of c) (tx_of c))
+      (ap (λ (b : Bool). not b) (ap (eqb (tx_of c)) (sym same)) ∙ ap (λ (b : Bool). not b) (turned (tx_of c) t.0) ∙ p.0) (eq-eqb (tx_of c) (tx_of c) refl)))
+    where
+      turned : (a b : ℕ) → eqb a b ≡ eqb b a
+      turned a b = same_truth (eqb a b) (eqb b a) (λ h. eq-eqb b a (sym (eqb-true a b h))) (λ h. eq-eqb a b (sym (eqb-true b a h)))
+
+  -- what the ledger calls a rival
+  rivals_from : (c e : ℕ) (i : Input) → e < length k.rows → IsRivalAt table k kept blocks order sound (λ w u. false) c i e → are_rivals k c e ≡ true
+  rivals_from c e i le r =
+      any_of_member (λ (i : Input). list_any (λ tx. not (eqb tx (tx_of c)) && eqb tx (tx_of e)) (spenders_in k.txs i.from)) (inputs_at k (tx_of c)) i r.input
+      (any_of_member (λ tx. not (eqb tx (tx_of c)) && eqb tx (tx_of e)) (spenders_in k.txs i.from) (tx_of e)
+      (of_spender k.txs (of_parts [] []) i.from (tx_of e) (kept.known e le) r.spent)
+      (and_from (not (eqb (tx_of e) (tx_of c))) (eqb (tx_of e) (tx_of e)) (not_from_false (eqb (tx_of e) (tx_of c)) r.apart) (eq-eqb (tx_of e) (tx_of e) refl)))
+
+  -- ---- one carrier of the first n blocks
+
+  module _ (n : ℕ) (few : n ≤ k.blocks) (c : ℕ) (lc : c < length k.rows) (old : block_of c < n)
+    (no_new : (e : ℕ) → e < length k.rows → n ≤ block_of e → (row_at k.rows e).sound ≡ true → are_rivals k c e ≡ true → ⊥)
+    (stays : (e : ℕ) → e < length k.rows → block_of e < n → are_rivals k c e ≡ true → related (graph_of table) (block_of e) (block_of c) ≡ false → eqb (block_of e) (block_of c) ≡ false
+    → virt (graph_of table) (first_blocks n) (block_of c) (block_of e) ≡ virt (graph_of table) set (block_of c) (block_of e)) where
+    beside_in : List ℕ → ℕ → Payment → Bool
+    beside_in s w u = is_rival (ledger_of table k) (carried_by c) w u && not (int_eq (virt (graph_of table) s (block_of c) w) (negsuc 0))
+
+    abbrev is_apart : ℕ → Bool
+    is_apart w = not (eqb w (block_of c)) && not (related (graph_of table) w (block_of c))
+
+    -- a rival in an unrelated block stands in the way in the one set where it does in the other
+    moved : (one other : List ℕ) → ((e : ℕ) → e < length k.rows → has one (block_of e) ≡ true → (row_at k.rows e).sound ≡ true → are_rivals k c e ≡ true → is_apart (block_of e) ≡ true
+        → (has other (block_of e) ≡ true) × (virt (graph_of table) other (block_of c) (block_of e) ≡ virt (graph_of table) one (block_of c) (block_of e)))
+        → some_carrier (ledger_of table k) (anticone (graph_of table) one (block_of c)) (beside_in one) ≡ true
+        → some_carrier (ledger_of table k) (anticone (graph_of table) other (block_of c)) (beside_in other) ≡ true
+    unfolding beside_in
+    moved one other same h =
+        let r : (w : ℕ) × (u : Payment) × (has (anticone (graph_of table) one (block_of c)) w ≡ true) × IsIn ((ledger_of table k).txs w) u × (beside_in one w u ≡ true) =
+        carrier_found (ledger_of table k) (anticone (graph_of table) one (block_of c)) (beside_in one) h in
+        let e : (e : ℕ) × (e < length k.rows) × (block_of e ≡ r.0) × (carried_by e ≡ r.1) = carried_at k kept r.0 r.1 r.3 in
+        let m : (has one r.0 ≡ true) × (is_apart r.0 ≡ true) = has-filter is_apart one r.0 r.2 in
+        by_number e.0 e.1 (ap (has one) e.2 ∙ m.0) (ap is_apart e.2 ∙ m.1)
+        (ap (λ (w : ℕ). beside_in one w (carried_by e.0)) e.2 ∙ ap (beside_in one r.0) e.3 ∙ r.4)
+      where
+        by_number : (e : ℕ) → e < length k.rows → has one (block_of e) ≡ true → is_apart (block_of e) ≡ true → beside_in one (block_of e) (carried_by e) ≡ true
+            → some_carrier (ledger_of table k) (anticone (graph_of table) other (block_of c)) (beside_in other) ≡ true
+        by_number e le there apart stands =
+            let p : (is_rival (ledger_of table k) (carried_by c) (block_of e) (carried_by e) ≡ true) × (not (int_eq (virt (graph_of table) one (block_of c) (block_of e)) (negsuc 0)) ≡ true) =
+            and_parts (is_rival (ledger_of table k) (carried_by c) (block_of e) (carried_by e)) _ stands in
+            let i : (i : Input) × IsRivalAt table k kept blocks order sound (λ w u. false) c i e = rival_at table k kept blocks order sound (λ w u. false) c e lc le p.0 in
+            let s : (has other (block_of e) ≡ true) × (virt (graph_of table) other (block_of c) (block_of e) ≡ virt (graph_of table) one (block_of c) (block_of e)) =
+            same e le there i.1.valid (rivals_from c e i.0 le i.1) apart in
+            found_carrier (ledger_of table k) (anticone (graph_of table) other (block_of c)) (beside_in other) (block_of e) (carried_by e)
+            (has-filter_from is_apart other (block_of e) s.0 apart) (carries k kept e le)
+            (and_from (is_rival (ledger_of table k) (carried_by c) (block_of e) (carried_by e)) (not (int_eq (virt (graph_of table) other (block_of c) (block_of e)) (negsuc 0)))
+            p.0 (ap (λ (v : ℤ). not (int_eq v (negsuc 0))) s.1 ∙ p.1))
+
+    apart_parts : (w : ℕ) → is_apart w ≡ true → (eqb w (block_of c) ≡ false) × (related (graph_of table) w (block_of c) ≡ false)
+    apart_parts w h =
+        (let p : (not (eqb w (block_of c)) ≡ true) × (not (related (graph_of table) w (block_of c)) ≡ true) = and_parts (not (eqb w (block_of c))) _ h in
+        (not-true (eqb w (block_of c)) p.0, not-true (related (graph_of table) w (block_of c)) p.1))
+
+    first_same : is_first (ledger_of table k) set (block_of c) (carried_by c) ≡ is_first (ledger_of table k) (first_blocks n) (block_of c) (carried_by c)
+    unfolding beside_in
+    first_same = ap (λ (b : Bool). not b) (same_truth _ _ (moved set (first_blocks n) forth) (moved (first_blocks n) set back))
+      where
+        forth : (e : ℕ) → e < length k.rows → has set (block_of e) ≡ true → (row_at k.rows e).sound ≡ true → are_rivals k c e ≡ true → is_apart (block_of e) ≡ true
+            → (has (first_blocks n) (block_of e) ≡ true) × (virt (graph_of table) (first_blocks n) (block_of c) (block_of e) ≡ virt (graph_of table) set (block_of c) (block_of e))
+        forth e le there valid rival apart =
+            elim (cases_lt (block_of e) n) [
+              | inl less ↦ (first_in n (block_of e) less, stays e le less rival (apart_parts (block_of e) apart).1 (apart_parts (block_of e) apart).0)
+              | inr ge ↦ absurd (no_new e le ge valid rival)
+            ]
+
+        back : (e : ℕ) → e < length k.rows → has (first_blocks n) (block_of e) ≡ true → (row_at k.rows e).sound ≡ true → are_rivals k c e ≡ true → is_apart (block_of e) ≡ true
+            → (has set (block_of e) ≡ true) × (virt (graph_of table) set (block_of c) (block_of e) ≡ virt (graph_of table) (first_blocks n) (block_of c) (block_of e))
+        back e le there valid rival apart =
+            let less : block_of e < n = of_first n (block_of e) there in
+            (key_in table (block_of e) (omega (arith, less, few, blocks)), sym (stays e le less rival (apart_parts (block_of e) apart).1 (apart_parts (block_of e) apart).0))
+
+    abbrev accepted : ℕ → Payment → Bool
+    accepted w u = accepts (ledger_of table k) (first_blocks n) w u
+
+    pub unmoved : (flags : List Bool) → ((e : ℕ) → e < length k.rows → is_set flags e ≡ is_accepted_carrier table k n e) → is_set flags c ≡ is_next table k flags c
+    unmoved flags right =
+        right c lc
+        ∙ ap (λ (b : Bool). b && accepted (block_of c) (carried_by c)) (lt-ltb (block_of c) n old)
+        ∙ accepts_is (ledger_of table k) (first_blocks n) (block_of c) (carried_by c) (whole table k kept blocks order sound accepted c lc)
+        ∙ ap (λ (b : Bool). is_sound (ledger_of table k) (block_of c) (carried_by c) && (has_sources (ledger_of table k) accepted (block_of c) (carried_by c) && (b && is_alone (ledger_of table k) accepted (block_of c) (carried_by c)))) (sym first_same)
+        ∙ sym (next_is table k kept blocks order sound accepted flags c told lc)
+      where
+        told : (e : ℕ) → e < length k.rows → is_below table (block_of e) (block_of c) ≡ true → is_set flags e ≡ accepted (block_of e) (carried_by e)
+        told e le under =
+            let less : block_of e < block_of c =
+            ancestors_lower table (block_of e) (block_of c) order (let b : block_of c < k.blocks = kept.inside c lc in omega (arith, b, blocks)) under in
+            right e le ∙ ap (λ (b : Bool). b && accepted (block_of e) (carried_by e)) (lt-ltb (block_of e) n (omega (arith, less, old)))
