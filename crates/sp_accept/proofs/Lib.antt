@@ -17,3 +17,7 @@ pub mod Begun
 pub mod Toggled
 pub mod Settled
 pub mod Popped
+pub mod Reached
+pub mod Gathered
+pub mod Updated
+pub mod Outcome

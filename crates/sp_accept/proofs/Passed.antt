@@ -1,7 +1,8 @@
 -- The whole pass, and what follows for transactions.
 use Rattle.std.proofs.Common.{◌≡◌, ℕ, zero, suc, ◌+◌, ◌<◌, ◌≤◌, Bool, true, false, ◌&&◌, List, [], ◌∷◌, ◌++◌, map, length, refl, sym, ap, ◌∙◌, inl, inr, arith, eqb, add-one, length-append}
 use Rattle.std.specs.List.{list_any, range_with_len}
-use Rattle.std.proofs.lemmas.Bool.{cases_lt, eqb-true, eq-eqb, lt-ltb}
+use Rattle.std.specs.Prelude.{nat_lt}
+use Rattle.std.proofs.lemmas.Bool.{and_from, and_parts, cases_lt, eqb-true, eq-eqb, lt-ltb, ltb-true}
 use Rattle.std.proofs.lemmas.List.FromFn.{get_or-map-range_with_len, map-range_with_len_more, length-map-range_with_len}
 use Rattle.sp_model.specs.Graph.{has, keys}
 use Rattle.sp_model.proofs.Sets.{same_truth}
@@ -13,12 +14,13 @@ use Rattle.sp_carry.specs.Carried.{AreSound, Carried, IsCarried, carriers_in, le
 use Rattle.sp_carry.proofs.Conflicts.{accepted_from, from_accepted}
 use Rattle.sp_carry.proofs.Members.{IsIn, any_of_member, member_of_any}
 use Rattle.sp_accept.specs.Acceptance.{Acceptance, first_blocks, is_accepted_carrier, is_accepted_tx, is_set, IsRight}
-use Rattle.sp_accept.specs.Pass.{carried_flags, is_next, passed}
+use Rattle.sp_accept.specs.Pass.{carried_flags, is_carried_flag, is_next, passed}
 use Rattle.sp_accept.specs.Rows.{AreOf, payment_at, row_at}
 use Rattle.sp_accept.proofs.Carriers.{AreRows, rows_are, carried_at, carries, one_number}
 use Rattle.sp_carry.proofs.Acceptance.{accepts_is}
 use Rattle.sp_accept.proofs.Decided.{member, next_is, past_first, whole}
 use Rattle.sp_accept.proofs.Numbers.{carrier_of, of_carrier}
+use Rattle.sp_accept.proofs.StillRight.{first_in, of_first}
 
 -- one more carrier
 pub passed_more : (table : List (List ℕ)) (k : Carried) (flags seen new : List Bool) (now : Bool) (n : ℕ) → flags ≡ passed table k n
@@ -86,30 +88,35 @@ module _ (table : List (List ℕ)) (k : Carried) (kept : AreRows k) (blocks : le
   all_decided zero le = record { long = refl; each = λ c lt. absurd (omega (arith, lt)) }
   all_decided (suc n) le = decided_more (passed table k n) n (all_decided n (omega (arith, le))) (omega (arith, le))
 
-  -- a transaction is accepted where a carrier of it has its flag
-  tx_is : (flags : List Bool) (t : ℕ) → ((c : ℕ) → c < length k.rows → is_set flags c ≡ decision c) → t < length k.txs
-      → list_any (is_set flags) (carriers_in k.rows t) ≡ is_accepted ledger set (payment_at k t).id
-  tx_is flags t d lt = same_truth _ _ forth back
+  -- a transaction is accepted where a carrier of it has its flag, the first n blocks being the set
+  pub tx_is : (flags : List Bool) (n t : ℕ) → ((c : ℕ) → c < length k.rows → is_set flags c ≡ is_accepted_carrier table k n c) → t < length k.txs
+      → is_carried_flag k flags t ≡ is_accepted_tx table k n t
+  tx_is flags n t d lt = same_truth _ _ forth back
     where
-      forth : list_any (is_set flags) (carriers_in k.rows t) ≡ true → is_accepted ledger set (payment_at k t).id ≡ true
+      forth : is_carried_flag k flags t ≡ true → is_accepted_tx table k n t ≡ true
       forth h =
           let c : (c : ℕ) × IsIn (carriers_in k.rows t) c × (is_set flags c ≡ true) = member_of_any (is_set flags) (carriers_in k.rows t) h in
           let p : (c.0 < length k.rows) × ((row_at k.rows c.0).tx ≡ t) = carrier_of k.rows t c.0 c.1 in
-          any_of_member (λ (u : Payment). eqb u.id (payment_at k t).id) (accepted_carriers ledger set) (payment_at k (row_at k.rows c.0).tx)
-          (from_accepted ledger set (row_at k.rows c.0).block (payment_at k (row_at k.rows c.0).tx)
-          (member table k kept blocks order sound (λ w u. accepts ledger set w u) c.0 p.0) (carries k kept c.0 p.0) (sym (d c.0 p.0) ∙ c.2))
-          (eq-eqb _ _ (ap (λ (n : ℕ). (payment_at k n).id) p.1))
+          let q : (nat_lt (row_at k.rows c.0).block n ≡ true) × (accepts ledger (first_blocks n) (row_at k.rows c.0).block (payment_at k (row_at k.rows c.0).tx) ≡ true) =
+          and_parts (nat_lt (row_at k.rows c.0).block n) _ (sym (d c.0 p.0) ∙ c.2) in
+          any_of_member (λ (u : Payment). eqb u.id (payment_at k t).id) (accepted_carriers ledger (first_blocks n)) (payment_at k (row_at k.rows c.0).tx)
+          (from_accepted ledger (first_blocks n) (row_at k.rows c.0).block (payment_at k (row_at k.rows c.0).tx)
+          (first_in n (row_at k.rows c.0).block (ltb-true (row_at k.rows c.0).block n q.0)) (carries k kept c.0 p.0) q.1)
+          (eq-eqb _ _ (ap (λ (m : ℕ). (payment_at k m).id) p.1))
 
-      back : is_accepted ledger set (payment_at k t).id ≡ true → list_any (is_set flags) (carriers_in k.rows t) ≡ true
+      back : is_accepted_tx table k n t ≡ true → is_carried_flag k flags t ≡ true
       back h =
-          let u : (u : Payment) × IsIn (accepted_carriers ledger set) u × (eqb u.id (payment_at k t).id ≡ true) =
-          member_of_any (λ (u : Payment). eqb u.id (payment_at k t).id) (accepted_carriers ledger set) h in
-          let a : (z : ℕ) × (has set z ≡ true) × IsIn (ledger.txs z) u.0 × (accepts ledger set z u.0 ≡ true) = accepted_from ledger set u.0 u.1 in
+          let u : (u : Payment) × IsIn (accepted_carriers ledger (first_blocks n)) u × (eqb u.id (payment_at k t).id ≡ true) =
+          member_of_any (λ (u : Payment). eqb u.id (payment_at k t).id) (accepted_carriers ledger (first_blocks n)) h in
+          let a : (z : ℕ) × (has (first_blocks n) z ≡ true) × IsIn (ledger.txs z) u.0 × (accepts ledger (first_blocks n) z u.0 ≡ true) = accepted_from ledger (first_blocks n) u.0 u.1 in
           let c : (c : ℕ) × (c < length k.rows) × ((row_at k.rows c).block ≡ a.0) × (payment_at k (row_at k.rows c).tx ≡ u.0) = carried_at k kept a.0 u.0 a.2 in
           let same : (row_at k.rows c.0).tx ≡ t =
           one_number k kept (row_at k.rows c.0).tx t (kept.known c.0 c.1) lt (ap (λ (u : Payment). u.id) c.3 ∙ eqb-true _ _ u.2) in
           any_of_member (is_set flags) (carriers_in k.rows t) c.0 (of_carrier k.rows t c.0 c.1 same)
-          (d c.0 c.1 ∙ ap (λ (w : ℕ). accepts ledger set w (payment_at k (row_at k.rows c.0).tx)) c.2 ∙ ap (accepts ledger set a.0) c.3 ∙ a.3)
+          (d c.0 c.1
+          ∙ and_from (nat_lt (row_at k.rows c.0).block n) (accepts ledger (first_blocks n) (row_at k.rows c.0).block (payment_at k (row_at k.rows c.0).tx))
+          (ap (λ (z : ℕ). nat_lt z n) c.2 ∙ lt-ltb a.0 n (of_first n a.0 a.1))
+          (ap (λ (w : ℕ). accepts ledger (first_blocks n) w (payment_at k (row_at k.rows c.0).tx)) c.2 ∙ ap (accepts ledger (first_blocks n) a.0) c.3 ∙ a.3))
 
   -- ---- the flags of the pass are right
 
@@ -119,12 +126,12 @@ module _ (table : List (List ℕ)) (k : Carried) (kept : AreRows k) (blocks : le
   -- flags that say what the definition says are right
   pub right_by : (a : Acceptance) → a.blocks ≡ k.blocks → length a.carriers ≤ length k.rows
       → ((c : ℕ) → c < length k.rows → is_set a.carriers c ≡ decision c) → length a.txs ≤ length k.txs
-      → ((t : ℕ) → t < length k.txs → is_set a.txs t ≡ list_any (is_set a.carriers) (carriers_in k.rows t)) → IsRight table k a
+      → ((t : ℕ) → t < length k.txs → is_set a.txs t ≡ is_carried_flag k a.carriers t) → IsRight table k a
   right_by a n few d few_txs txs = record {
     few = omega (arith, n);
     carriers = λ c lt. carrier c lt;
     no_more = few;
-    txs = λ t lt. txs t lt ∙ tx_is a.carriers t d lt ∙ ap (λ (s : List ℕ). is_accepted ledger s (payment_at k t).id) (set_is a.blocks n);
+    txs = λ t lt. txs t lt ∙ tx_is a.carriers a.blocks t carrier lt;
     no_more_txs = few_txs;
   }
     where
@@ -138,9 +145,9 @@ module _ (table : List (List ℕ)) (k : Carried) (kept : AreRows k) (blocks : le
   right : (a : Acceptance) → a.blocks ≡ k.blocks → a.carriers ≡ passed table k (length k.rows) → a.txs ≡ carried_flags k a.carriers → IsRight table k a
   right a n flags txs =
       right_by a n (omega (arith, ap length flags, d.long)) (λ c lt. ap (λ (fs : List Bool). is_set fs c) flags ∙ d.each c lt)
-      (omega (arith, ap length txs, length-map-range_with_len (λ tx. list_any (is_set a.carriers) (carriers_in k.rows tx)) 0 (length k.txs)))
+      (omega (arith, ap length txs, length-map-range_with_len (is_carried_flag k a.carriers) 0 (length k.txs)))
       (λ t lt. ap (λ (fs : List Bool). is_set fs t) txs
-      ∙ get_or-map-range_with_len (λ tx. list_any (is_set a.carriers) (carriers_in k.rows tx)) 0 (length k.txs) t t false lt (omega arith))
+      ∙ get_or-map-range_with_len (is_carried_flag k a.carriers) 0 (length k.txs) t t false lt (omega arith))
     where
       d : AreDecided table k (passed table k (length k.rows)) (length k.rows)
       d = all_decided (length k.rows) (omega arith)

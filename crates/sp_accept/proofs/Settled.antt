@@ -21,7 +21,7 @@ use Rattle.sp_accept.proofs.Numbers.{carrier_of}
 use Rattle.sp_accept.proofs.Toggled.{turned_here, turned_other}
 
 -- a noted carrier isn't below the first number
-from_spender : (k : Carried) (first but : ℕ) (from : Outpoint) (d : ℕ) → is_of_spender k first but from d ≡ true → (first ≤ d) × (d < length k.rows)
+pub from_spender : (k : Carried) (first but : ℕ) (from : Outpoint) (d : ℕ) → is_of_spender k first but from d ≡ true → (first ≤ d) × (d < length k.rows)
 from_spender k first but from d h =
     let t : (t : ℕ) × IsIn (spenders_in k.txs from) t × (is_of_other k.rows first but t d ≡ true) = member_of_any (λ tx. is_of_other k.rows first but tx d) (spenders_in k.txs from) h in
     let p : (not (eqb t.0 but) ≡ true) × (is_of_tx k.rows first t.0 d ≡ true) = and_parts (not (eqb t.0 but)) (is_of_tx k.rows first t.0 d) t.2 in

@@ -1,5 +1,5 @@
 -- Which transactions' acceptance differs.
-use Rattle.std.specs.Prelude.{ℕ, Bool, true, false, not, List, map, filter}
+use Rattle.std.specs.Prelude.{ℕ, Bool, true, false, not, List, [], ◌∷◌, map, filter, slice_set}
 use Rattle.std.specs.List.{range_with_len}
 use Rattle.sp_carry.specs.declared.carrier.Flip.{Flip}
 use Rattle.sp_accept.specs.Acceptance.{is_set}
@@ -13,3 +13,12 @@ abbrev pub flips_of : List Bool → List Bool → ℕ → List Flip
 flips_of old new count =
     filter (λ (flip : Flip). differ (is_set old flip.tx) flip.now)
     (map (λ tx. record { tx = tx; now = is_set new tx }) (range_with_len 0 count))
+
+-- of these transactions, each with its new flag, those whose old one differs, in their order
+abbrev pub flips_among : List Bool → (ℕ → Bool) → List ℕ → List Flip
+flips_among old new txs = filter (λ (flip : Flip). differ (is_set old flip.tx) flip.now) (map (λ tx. record { tx = tx; now = new tx }) txs)
+
+-- the flags with those of some transactions set, one after another
+abbrev pub with_flips : List Bool → List Flip → List Bool
+with_flips flags [] = flags
+with_flips flags (flip ∷ flips) = with_flips (slice_set flags flip.tx flip.now) flips

@@ -66,6 +66,10 @@ unfoldable pub passed : List (List ℕ) → Carried → ℕ → List Bool
 passed table k zero = []
 passed table k (suc n) = passed table k n ++ is_next table k (passed table k n) n ∷ []
 
--- which transactions have an accepted carrier
+-- whether a transaction has an accepted carrier
+abbrev pub is_carried_flag : Carried → List Bool → ℕ → Bool
+is_carried_flag k flags tx = list_any (is_set flags) (carriers_in k.rows tx)
+
+-- which transactions have one
 abbrev pub carried_flags : Carried → List Bool → List Bool
-carried_flags k flags = map (λ tx. list_any (is_set flags) (carriers_in k.rows tx)) (range_with_len 0 (length k.txs))
+carried_flags k flags = map (is_carried_flag k flags) (range_with_len 0 (length k.txs))

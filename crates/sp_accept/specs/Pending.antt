@@ -10,6 +10,7 @@ use Rattle.sp_carry.specs.Carried.{Carried, carriers_in, tx_at}
 use Rattle.sp_carry.specs.Lookups.{spenders_in}
 use Rattle.sp_carry.specs.Rivals.{has_number, Set}
 use Rattle.sp_accept.specs.Acceptance.{is_set}
+use Rattle.sp_accept.specs.Changes.{carriers_below}
 use Rattle.sp_accept.specs.Pass.{inputs_at, is_next}
 use Rattle.sp_accept.specs.Rows.{row_at}
 
@@ -114,6 +115,11 @@ AreNoted k n pairs count set =
     (i x y c e : ℕ) → i < count → slice_get pairs i ≡ Some (x, y) → x < y → y < n → c < length k.rows → e < length k.rows
     → (row_at k.rows c).block ≡ y → (row_at k.rows e).block ≡ x → IsTrue (are_rivals k c e)
     → IsTrue (has_number set c) × IsTrue (has_number set e)
+
+-- the set has the carriers from block n on with those of their rivals, and those that are rivals in two blocks of a pair
+pub record IsReached (k : Carried) (n : ℕ) (changed : List (ℕ × ℕ)) (set : Set) : Type 0 where
+  pub news : (d : ℕ) → IsTrue (is_of_new k (carriers_below k.rows n) (length k.rows - carriers_below k.rows n) d) → IsTrue (has_number set d)
+  pub noted : AreNoted k n changed (length changed) set
 
 -- ---- flags that turn
 

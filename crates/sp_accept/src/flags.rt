@@ -1,6 +1,6 @@
 //! A flag for each number.
 
-ghost use Rattle.std.specs.Prelude.{◌≡◌};
+ghost use Rattle.std.specs.Prelude.{◌≡◌, ◌≤◌, ◌-◌, ◌++◌, false, length, replicate, vec_capacity};
 ghost use Rattle.sp_accept.specs.Acceptance.{is_set};
 ghost use Rattle.sp_accept.specs.Flips.{differ};
 
@@ -17,4 +17,15 @@ pub(crate) fn differ(was: bool, now: bool) -> bool
     ensures { result ≡ differ was now }
 {
     was != now
+}
+
+/// Adds flags that aren't set up to a length, for which there is room.
+pub(crate) fn grow(flags: &mut Vec<bool>, long: usize)
+    requires short { length flags.old.items ≤ long }
+    requires room { long ≤ vec_capacity flags.old }
+    ensures { flags.new.items ≡ flags.old.items ++ replicate (long - length flags.old.items) false }
+{
+    'flags: for _ in flags.len()..long {
+        flags.push_reserved(false);
+    }
 }

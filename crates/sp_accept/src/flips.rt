@@ -8,7 +8,7 @@ use sp_carry::Flip;
 use std::alloc::{AllocError, Global};
 
 /// Notes a transaction, where its new flag is another one.
-fn note(flips: &mut Vec<Flip>, tx: u32, was: bool, now: bool) -> Result<(), AllocError>
+pub(crate) fn note(flips: &mut Vec<Flip>, tx: u32, was: bool, now: bool) -> Result<(), AllocError>
     ensures { OnOk result (flips.new.items
         ≡ flips.old.items ++ cond (differ was now) (record { tx = tx; now = now } ∷ []) []) }
 {

@@ -16,6 +16,8 @@ mod pending;
 mod rivals;
 mod settle;
 mod sources;
+mod touched;
+mod update;
 
 pub use accepted::Accepted;
 pub use order::Order;

@@ -49,7 +49,7 @@ pub(crate) fn carrier_flags<O: Order>(
 }
 
 /// Whether a carrier of the transaction is accepted.
-fn is_any_accepted(carriers: &Carriers, flags: &[bool], tx: u32) -> bool
+pub(crate) fn is_any_accepted(carriers: &Carriers, flags: &[bool], tx: u32) -> bool
     requires { tx < length carriers.now.txs }
     ensures { result ≡ list_any (is_set flags.now) (carriers_in carriers.now.rows tx) }
 {

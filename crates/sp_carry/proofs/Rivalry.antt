@@ -223,7 +223,7 @@ after_range : (a b n : ℕ) → a < b → AllByRecursion (λ y. nat_cmp a y ≡ 
 after_range a b zero lt = tt
 after_range a b (suc n) lt = (ap (λ (c : Bool). cond c Less (cond (eqb a b) Equal Greater)) (lt-ltb a b lt), after_range a (b + 1) n (omega (arith, lt)))
 
-range_sorted : (a n : ℕ) → IsStrictlySortedBy nat_cmp (range_with_len a n)
+pub range_sorted : (a n : ℕ) → IsStrictlySortedBy nat_cmp (range_with_len a n)
 unfolding IsStrictlySortedBy
 range_sorted a zero = tt
 range_sorted a (suc n) = (after_range a (a + 1) n (omega arith), range_sorted (a + 1) n)
@@ -236,7 +236,7 @@ in_range a (suc n) d le lt =
       | inr ge ↦ inl (let e : a ≡ d = omega (arith, le, ge) in e)
     ]
 
-equal_is_same : CmpEqualImpliesEq nat_cmp
+pub equal_is_same : CmpEqualImpliesEq nat_cmp
 equal_is_same x y e = eqb-true x y (sym (is_eq-nat_cmp x y) ∙ ap is_eq e)
 
 pub rivals_are : (k : Carried) (c : ℕ) (r : Carrier) (set : Set) → AreLinked k → slice_get k.rows c ≡ Some r → IsOrdered nat_cmp set

@@ -1,0 +1,9 @@
+use Rattle.std.proofs.Common.{◌≡◌, length, take}
+use Rattle.sp_accept.specs.Flips.{with_flips}
+use Rattle.sp_accept.proofs.touched.set_flips.Given as goal
+
+abbrev pub invariant-flips : goal.invariant-flips
+invariant-flips l = record {
+  long : length l.txs.items ≡ length l.fn.txs.items;
+  set : l.txs.items ≡ with_flips l.fn.txs.items (take l.flip-index l.flips);
+}
