@@ -1,19 +1,19 @@
 -- Which flags need no look again where blocks joined the set: all but those of the noted carriers.
-use Rattle.std.proofs.Common.{◌≡◌, ◌≢◌, ◌<◌, ◌≤◌, ◌+◌, ◌-◌, ◌∙◌, ◌||◌, ◌&&◌, not, ℕ, zero, suc, Bool, true, false, List, [], ◌∷◌, inl, inr, arith, refl, sym, ap, subst, length, eqb, Some}
-use Rattle.std.specs.Prelude.{filter, nat_lt, nat_le, ℤ, Contains, slice_get, neg_ℤ}
+use Rattle.std.proofs.Common.{◌≡◌, ◌≢◌, ◌<◌, ◌≤◌, ◌-◌, ◌∙◌, ◌||◌, ◌&&◌, not, ℕ, zero, suc, Bool, true, false, List, [], ◌∷◌, inl, inr, arith, refl, sym, ap, subst, length, eqb, Some}
+use Rattle.std.specs.Prelude.{nat_lt, nat_le, Contains, neg_ℤ}
 use Rattle.std.specs.List.{list_any, range_with_len}
 use Rattle.std.specs.Ordering.{int_eq}
-use Rattle.std.proofs.lemmas.Bool.{and_from, and_parts, cases_eq, cases_lt, eq-eqb, eqb-true, eqb-false, false≢true, le-leb, le-ltb, lt-ltb, ltb-true, not_from_false, not-true, ne_eqb, or_left, or_right}
+use Rattle.std.proofs.lemmas.Bool.{and_from, and_parts, cases_lt, eq-eqb, eqb-true, eqb-false, false≢true, le-leb, le-ltb, lt-ltb, ltb-true, or_left, or_right}
 use Rattle.std.proofs.lemmas.Bool.Decides.{Decides-int_eq}
 use Rattle.std.proofs.lemmas.Option.{slice_get-get_or}
 use Rattle.sp_tx.specs.declared.parts.Input.{Input}
-use Rattle.sp_model.specs.Graph.{has, in_past, keys, related, IsDownset}
+use Rattle.sp_model.specs.Graph.{in_past, keys, related, IsDownset}
 use Rattle.sp_model.specs.Votes.{virt}
 use Rattle.sp_model.proofs.Exchange.{virt_neg}
-use Rattle.sp_dag.specs.Numbered.{AreInOrder, graph_of}
+use Rattle.sp_dag.specs.Numbered.{graph_of}
 use Rattle.sp_dag.proofs.Whole.{keys_are_numbers}
 use Rattle.sp_carry.specs.declared.carrier.Carrier.{Carrier}
-use Rattle.sp_carry.specs.Carried.{AreSound, Carried, IsCarried, carriers_in}
+use Rattle.sp_carry.specs.Carried.{Carried, IsCarried, carriers_in}
 use Rattle.sp_carry.specs.Lookups.{spenders_in}
 use Rattle.sp_carry.specs.Rivals.{has_number, Set}
 use Rattle.sp_carry.proofs.Members.{IsIn, any_of_member, member_of_any}
@@ -21,7 +21,7 @@ use Rattle.sp_accept.specs.Acceptance.{Acceptance, first_blocks, is_set, IsRight
 use Rattle.sp_accept.specs.Changes.{carriers_below, TellsChanges}
 use Rattle.sp_accept.specs.Pass.{inputs_at}
 use Rattle.sp_accept.specs.Pending.{are_rivals, AreNoted, AreSettledBut, is_by_new, is_from, is_of_new, is_of_other, is_of_rival, is_of_spender, is_of_tx}
-use Rattle.sp_accept.specs.Rows.{no_row, row_at, AreOf}
+use Rattle.sp_accept.specs.Rows.{row_at, AreOf}
 use Rattle.sp_accept.proofs.Beside.{in_range_from}
 use Rattle.sp_accept.proofs.Carriers.{AreRows, rows_are}
 use Rattle.sp_accept.proofs.Numbers.{of_carrier}
@@ -44,7 +44,7 @@ below_is (r ∷ rows) n order c lt =
     at (below_is rows n (λ a b less within. order (suc a) (suc b) (omega (arith, less)) (omega (arith, within)))) (nat_lt r.block n) refl c lt
   where
     first : nat_lt r.block n ≡ false → n ≤ r.block
-    first e = elim (cases_lt r.block n) [ | inl less ↦ absurd (false≢true (sym e ∙ lt-ltb r.block n less)) | inr ge ↦ ge ]
+    first e = elim (cases_lt r.block n) [ inl less ↦ absurd (false≢true (sym e ∙ lt-ltb r.block n less)) | inr ge ↦ ge ]
 
     high : nat_lt r.block n ≡ false → (c : ℕ) → c < length (r ∷ rows) → n ≤ (row_at (r ∷ rows) c).block
     high e zero lt = first e
@@ -75,9 +75,9 @@ below_few (r ∷ rows) n = at (below_few rows n) (nat_lt r.block n) refl
 -- ---- all other carriers stand still
 
 module _ (table : List (List ℕ)) (k : Carried) (carried : IsCarried k) (of : AreOf table k) (a : Acceptance) (right : IsRight table k a)
-  (changed : List (ℕ × ℕ)) (told : TellsChanges table a.blocks changed) (set : Set)
-  (news : (d : ℕ) → is_of_new k (carriers_below k.rows a.blocks) (length k.rows - carriers_below k.rows a.blocks) d ≡ true → has_number set d ≡ true)
-  (noted : AreNoted k a.blocks changed (length changed) set) where
+    (changed : List (ℕ × ℕ)) (told : TellsChanges table a.blocks changed) (set : Set)
+    (news : (d : ℕ) → is_of_new k (carriers_below k.rows a.blocks) (length k.rows - carriers_below k.rows a.blocks) d ≡ true → has_number set d ≡ true)
+    (noted : AreNoted k a.blocks changed (length changed) set) where
   abbrev n : ℕ
   n = a.blocks
 
@@ -99,7 +99,7 @@ module _ (table : List (List ℕ)) (k : Carried) (carried : IsCarried k) (of : A
   -- a new carrier notes what it should
   by_new : (c d : ℕ) → c < length k.rows → n ≤ block_of c → is_by_new k c d ≡ true → has_number set d ≡ true
   by_new c d lc ge h =
-      let later : from ≤ c = elim (cases_lt c from) [ | inl less ↦ absurd (let b : block_of c < n = (placed c lc).0 less in omega (arith, b, ge)) | inr le ↦ le ] in
+      let later : from ≤ c = elim (cases_lt c from) [ inl less ↦ absurd (let b : block_of c < n = (placed c lc).0 less in omega (arith, b, ge)) | inr le ↦ le ] in
       news d (any_of_member (λ c. is_by_new k c d) (range_with_len from (length k.rows - from)) c (in_range_from from (length k.rows - from) c later (omega (arith, lc, later))) h)
 
   old : (d : ℕ) → d < length k.rows → has_number set d ≡ false → block_of d < n
@@ -170,7 +170,7 @@ module _ (table : List (List ℕ)) (k : Carried) (carried : IsCarried k) (of : A
       ]
     where
       below : (x y : ℕ) → x ≤ y → x ≢ y → x < y
-      below x y le ne = elim (cases_lt x y) [ | inl less ↦ less | inr ge ↦ absurd (ne (omega (arith, le, ge))) ]
+      below x y le ne = elim (cases_lt x y) [ inl less ↦ less | inr ge ↦ absurd (ne (omega (arith, le, ge))) ]
 
       same : (x y : ℕ) → (virt (graph_of table) (first_blocks n) x y ≢ virt (graph_of table) (keys (graph_of table)) x y → ⊥)
           → virt (graph_of table) (first_blocks n) x y ≡ virt (graph_of table) (keys (graph_of table)) x y

@@ -1,5 +1,5 @@
 -- A carrier looks at no flags but those of the carriers behind which it stands as a rival or a buyer.
-use Rattle.std.proofs.Common.{◌≡◌, ◌<◌, ◌≤◌, ◌+◌, ◌∙◌, ◌||◌, ◌&&◌, not, ℕ, suc, Bool, true, false, cond, List, [], ◌∷◌, inl, inr, arith, refl, sym, ap, subst, length, map, get_or, eqb, Some, None}
+use Rattle.std.proofs.Common.{◌≡◌, ◌<◌, ◌≤◌, ◌∙◌, ◌||◌, ◌&&◌, not, ℕ, suc, Bool, true, false, cond, List, [], ◌∷◌, inl, inr, arith, refl, sym, ap, subst, length, map, get_or, eqb, Some, None}
 use Rattle.std.specs.Prelude.{find, nat_le, Option, position, slice_get}
 use Rattle.std.specs.List.{list_any, list_all, range_with_len}
 use Rattle.std.proofs.lemmas.Bool.{and_from, and_parts, eq-eqb, eqb-true, false≢true, le-leb, not_from_false, ne_eqb, or_cases, or_left, or_right}
@@ -7,20 +7,20 @@ use Rattle.std.proofs.lemmas.List.Quantifiers.{position-Some}
 use Rattle.std.proofs.lemmas.Option.{slice_get_within}
 use Rattle.sp_ids.specs.declared.outpoint.Outpoint.{Outpoint}
 use Rattle.sp_tx.specs.Spending.{id_of}
-use Rattle.sp_tx.specs.Parts.{Transaction, of_parts}
+use Rattle.sp_tx.specs.Parts.{of_parts}
 use Rattle.sp_tx.specs.declared.parts.Input.{Input}
 use Rattle.sp_tx.specs.declared.parts.Output.{Output}
-use Rattle.sp_model.specs.Graph.{has, in_past, parents_of, past}
+use Rattle.sp_model.specs.Graph.{in_past, parents_of, past}
 use Rattle.sp_model.proofs.Pasts.{in_past_step}
 use Rattle.sp_dag.specs.Numbered.{AreInOrder, graph_of}
-use Rattle.sp_carry.specs.Payment.{Payment, Spent, finds, is_opened_by, is_same_outpoint, output_at, output_in, spent_by}
-use Rattle.sp_carry.specs.Ledger.{carried, is_covered, is_empty, is_genesis, is_sound}
+use Rattle.sp_carry.specs.Payment.{Payment, finds, is_opened_by, is_same_outpoint, output_in, spent_by}
+use Rattle.sp_carry.specs.Ledger.{carried, is_covered, is_empty, is_genesis}
 use Rattle.sp_carry.specs.Carried.{AreSound, Carried, carriers_in, ledger_of, tx_at}
 use Rattle.sp_carry.specs.Lookups.{is_spent_by, spenders_in}
 use Rattle.sp_carry.proofs.Grants.{find_member}
 use Rattle.sp_carry.proofs.Members.{IsIn, all_agrees, any_agrees, any_of_member, in_flat_map, in_map_from, member_of_all, member_of_any}
 use Rattle.sp_accept.specs.Acceptance.{is_set}
-use Rattle.sp_accept.specs.Pass.{has_source, inputs_at, is_accepted_below, is_beaten, is_beaten_at, is_lost, is_next, is_paid, is_paid_by}
+use Rattle.sp_accept.specs.Pass.{has_source, inputs_at, is_accepted_below, is_beaten, is_beaten_at, is_lost, is_next, is_paid_by}
 use Rattle.sp_accept.specs.Pending.{is_from, is_later, is_of_buyer, is_of_other, is_of_rival, is_of_spender, is_of_tx}
 use Rattle.sp_accept.specs.Rows.{no_row, payment_at, row_at}
 use Rattle.sp_accept.specs.Standing.{is_before, is_below}
@@ -109,7 +109,7 @@ module _ (table : List (List ℕ)) (k : Carried) (kept : AreRows k) (blocks : le
   -- ---- what a carrier looks at
 
   module _ (F G : List Bool) (d : ℕ) (ld : d < length k.rows)
-    (agree : (e : ℕ) → e < length k.rows → is_later k e d ≡ true → is_set F e ≡ is_set G e) where
+      (agree : (e : ℕ) → e < length k.rows → is_later k e d ≡ true → is_set F e ≡ is_set G e) where
     -- a carrier whose block is in the past of d's comes before d
     first : (e : ℕ) → e < length k.rows → is_below table (block_of e) (block_of d) ≡ true → suc e ≤ d
     first e le under = (let less : e < d = past_first table k kept blocks order sound none e d le ld under in omega (arith, less))
@@ -194,7 +194,7 @@ module _ (table : List (List ℕ)) (k : Carried) (kept : AreRows k) (blocks : le
       where
         at : (b : Bool) → (row_at k.rows d).sound ≡ b
             → (b && (list_all (has_source table k F (block_of d)) (inputs_at k (tx_of d)) && not (list_any (is_lost table k F (row_at k.rows d)) (inputs_at k (tx_of d)))))
-                ≡ (b && (list_all (has_source table k G (block_of d)) (inputs_at k (tx_of d)) && not (list_any (is_lost table k G (row_at k.rows d)) (inputs_at k (tx_of d)))))
+            ≡ (b && (list_all (has_source table k G (block_of d)) (inputs_at k (tx_of d)) && not (list_any (is_lost table k G (row_at k.rows d)) (inputs_at k (tx_of d)))))
         at false e = refl
         at true valid =
             let s : list_all (has_source table k F (block_of d)) (inputs_at k (tx_of d)) ≡ list_all (has_source table k G (block_of d)) (inputs_at k (tx_of d)) =

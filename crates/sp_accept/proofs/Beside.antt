@@ -1,5 +1,5 @@
 -- The carriers of two blocks that conflict with one another.
-use Rattle.std.proofs.Common.{◌≡◌, ◌<◌, ◌≤◌, ◌+◌, ◌-◌, ◌∙◌, ◌||◌, ◌&&◌, not, ℕ, zero, suc, Bool, true, false, List, [], ◌∷◌, inl, inr, arith, refl, sym, ap, length, subst, eqb, Some}
+use Rattle.std.proofs.Common.{◌≡◌, ◌<◌, ◌≤◌, ◌+◌, ◌-◌, ◌∙◌, ◌||◌, ◌&&◌, not, ℕ, zero, suc, Bool, true, false, List, inl, inr, arith, refl, sym, ap, length, eqb, Some}
 use Rattle.std.specs.Prelude.{slice_get}
 use Rattle.std.specs.List.{list_any, range_with_len}
 use Rattle.std.proofs.lemmas.Bool.{and_from, and_parts, cases_lt, eq-eqb, eqb-true, false≢true, or_cases, or_left, or_right}
@@ -91,8 +91,8 @@ module _ (k : Carried) (lows : List ℕ) where
 
       placed : (c : ℕ) → c < length k.rows → block_of c ≡ block → (from ≤ c) × (c < end)
       placed c lc at = (
-        elim (cases_lt c from) [ | inl less ↦ absurd (let b : block_of c < block = below c less in omega (arith, b, at)) | inr ge ↦ ge ],
-        elim (cases_lt c end) [ | inl less ↦ less | inr ge ↦ absurd (let b : block + 1 ≤ block_of c = above c ge lc in omega (arith, b, at)) ],
+        elim (cases_lt c from) [ inl less ↦ absurd (let b : block_of c < block = below c less in omega (arith, b, at)) | inr ge ↦ ge ],
+        elim (cases_lt c end) [ inl less ↦ less | inr ge ↦ absurd (let b : block + 1 ≤ block_of c = above c ge lc in omega (arith, b, at)) ],
       )
 
       joined : (d : ℕ) → (has_number old d || is_of_beside k lows from (end - from) d) ≡ true → has_number old d ≡ false → d < length k.rows

@@ -29,7 +29,7 @@ use Rattle.sp_accept.specs.Rows.{no_row, payment_at, row_at}
 use Rattle.sp_accept.specs.Standing.{is_before, is_below}
 use Rattle.sp_accept.proofs.Carriers.{AreRows, carried_at, carries, conflict_from, conflict_to, id_is, lower_first}
 use Rattle.sp_accept.proofs.Numbers.{carrier_of, of_carrier, of_spender, spender_of}
-use Rattle.sp_accept.proofs.Places.{position_is, set_within}
+use Rattle.sp_accept.proofs.Places.{position_is}
 
 -- the flags of the carriers in the past of carrier n's block say what is accepted of them
 abbrev pub AreTold : List (List ℕ) → Carried → (ℕ → Payment → Bool) → List Bool → ℕ → Type 0

@@ -1,5 +1,5 @@
 -- All that is gathered are numbers of carriers.
-use Rattle.std.proofs.Common.{◌≡◌, ◌<◌, ◌≤◌, ◌-◌, ◌+◌, ◌∙◌, ◌||◌, ◌&&◌, ℕ, Bool, true, false, List, [], inl, inr, arith, refl, sym, ap, length, eqb}
+use Rattle.std.proofs.Common.{◌≡◌, ◌<◌, ◌≤◌, ◌-◌, ◌+◌, ◌∙◌, ◌||◌, ℕ, Bool, true, false, List, [], inl, inr, arith, refl, sym, ap, length, eqb}
 use Rattle.std.specs.List.{list_any, range_with_len}
 use Rattle.std.specs.BTreeMap.{is_at}
 use Rattle.std.specs.Ordering.{nat_cmp}
@@ -9,7 +9,7 @@ use Rattle.sp_carry.specs.Carried.{Carried}
 use Rattle.sp_carry.specs.Rivals.{has_number, IsNotedBy, Set}
 use Rattle.sp_carry.proofs.Members.{IsIn, member_of_any}
 use Rattle.sp_accept.specs.Pass.{inputs_at}
-use Rattle.sp_accept.specs.Pending.{is_by_new, is_of_new, is_of_rival, is_of_spender, IsWithin}
+use Rattle.sp_accept.specs.Pending.{is_by_new, is_of_new, is_of_spender, IsWithin}
 use Rattle.sp_accept.specs.Rows.{row_at}
 use Rattle.sp_accept.proofs.Beside.{in_range}
 use Rattle.sp_accept.proofs.Settled.{from_spender}

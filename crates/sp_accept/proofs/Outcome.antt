@@ -1,6 +1,6 @@
 -- What an update leaves: right flags, and the transactions that turned.
-use Rattle.std.proofs.Common.{◌≡◌, ◌<◌, ◌≤◌, ◌-◌, ◌++◌, ◌∙◌, ℕ, Bool, false, true, List, [], replicate, arith, refl, sym, ap, subst, take, length, eqb}
-use Rattle.std.specs.Prelude.{All, filter}
+use Rattle.std.proofs.Common.{◌≡◌, ◌<◌, ◌≤◌, ◌-◌, ◌++◌, ◌∙◌, ℕ, Bool, false, List, [], replicate, arith, refl, ap, take, length, eqb}
+use Rattle.std.specs.Prelude.{filter}
 use Rattle.std.specs.List.{list_any, range_with_len}
 use Rattle.std.proofs.Math.Seq.{take-append_seam}
 use Rattle.sp_carry.specs.declared.carrier.Flip.{Flip}
@@ -10,7 +10,7 @@ use Rattle.sp_accept.specs.Flips.{flips_among, flips_of, with_flips}
 use Rattle.sp_accept.specs.Pass.{is_carried_flag}
 use Rattle.sp_accept.specs.Pending.{AreSettledBut, AreTurned}
 use Rattle.sp_accept.specs.Rows.{row_at, AreOf}
-use Rattle.sp_accept.proofs.Updated.{among_within, flips_are, flips_between, flips_long, flips_set, grown_long, grown_same, same_flag, updated}
+use Rattle.sp_accept.proofs.Updated.{flips_are, flips_between, flips_long, flips_set, grown_long, grown_same, same_flag, updated}
 
 -- whether a transaction has one of the carriers
 abbrev is_touched : Carried → List ℕ → ℕ → Bool
@@ -32,14 +32,11 @@ cut_back first flags grown m long e f n =
     ∙ take-append_seam first (replicate (m - length flags) false)
 
 module _ (table : List (List ℕ)) (k : Carried) (carried : IsCarried k) (of : AreOf table k) (a : Acceptance) (right : IsRight table k a)
-  (start flags : List Bool) (turned : List ℕ) (flips : List Flip) (same : (c : ℕ) → is_set start c ≡ is_set a.carriers c) (turns : AreTurned start flags [] turned)
-  (are : flips ≡ flips_among a.txs (is_carried_flag k flags) (filter (is_touched k turned) (range_with_len 0 (length k.txs)))) where
+    (start flags : List Bool) (turned : List ℕ) (flips : List Flip) (same : (c : ℕ) → is_set start c ≡ is_set a.carriers c) (turns : AreTurned start flags [] turned)
+    (are : flips ≡ flips_among a.txs (is_carried_flag k flags) (filter (is_touched k turned) (range_with_len 0 (length k.txs)))) where
   all_flips : flips ≡ flips_among a.txs (is_carried_flag k flags) (range_with_len 0 (length k.txs))
   all_flips =
       are ∙ flips_are a.txs (is_carried_flag k flags) (is_touched k turned) (length k.txs) (λ tx lt off. same_flag table k carried of a right start flags turned same (turns.from start refl) tx lt off)
-
-  pub flips_known : All (λ (flip : Flip). flip.tx < length k.txs) flips
-  flips_known = subst (All (λ (flip : Flip). flip.tx < length k.txs)) (sym all_flips) (among_within a.txs (is_carried_flag k flags) (length k.txs))
 
   module _ (base now : List Bool) (based : (t : ℕ) → is_set base t ≡ is_set a.txs t) (long : length base ≡ length k.txs) (is : now ≡ with_flips base flips) where
     new_flags : (t : ℕ) → t < length k.txs → is_set now t ≡ is_carried_flag k flags t

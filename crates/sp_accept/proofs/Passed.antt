@@ -1,6 +1,6 @@
 -- The whole pass, and what follows for transactions.
 use Rattle.std.proofs.Common.{◌≡◌, ℕ, zero, suc, ◌+◌, ◌<◌, ◌≤◌, Bool, true, false, ◌&&◌, List, [], ◌∷◌, ◌++◌, map, length, refl, sym, ap, ◌∙◌, inl, inr, arith, eqb, add-one, length-append}
-use Rattle.std.specs.List.{list_any, range_with_len}
+use Rattle.std.specs.List.{range_with_len}
 use Rattle.std.specs.Prelude.{nat_lt}
 use Rattle.std.proofs.lemmas.Bool.{and_from, and_parts, cases_lt, eqb-true, eq-eqb, lt-ltb, ltb-true}
 use Rattle.std.proofs.lemmas.List.FromFn.{get_or-map-range_with_len, map-range_with_len_more, length-map-range_with_len}
@@ -9,7 +9,7 @@ use Rattle.sp_model.proofs.Sets.{same_truth}
 use Rattle.sp_dag.specs.Numbered.{AreInOrder, graph_of}
 use Rattle.sp_dag.proofs.Whole.{keys_are_numbers}
 use Rattle.sp_carry.specs.Payment.{Payment}
-use Rattle.sp_carry.specs.Ledger.{Ledger, accepted_carriers, accepts, is_accepted}
+use Rattle.sp_carry.specs.Ledger.{Ledger, accepted_carriers, accepts}
 use Rattle.sp_carry.specs.Carried.{AreSound, Carried, IsCarried, carriers_in, ledger_of}
 use Rattle.sp_carry.proofs.Conflicts.{accepted_from, from_accepted}
 use Rattle.sp_carry.proofs.Members.{IsIn, any_of_member, member_of_any}
@@ -18,7 +18,7 @@ use Rattle.sp_accept.specs.Pass.{carried_flags, is_carried_flag, is_next, passed
 use Rattle.sp_accept.specs.Rows.{AreOf, payment_at, row_at}
 use Rattle.sp_accept.proofs.Carriers.{AreRows, rows_are, carried_at, carries, one_number}
 use Rattle.sp_carry.proofs.Acceptance.{accepts_is}
-use Rattle.sp_accept.proofs.Decided.{member, next_is, past_first, whole}
+use Rattle.sp_accept.proofs.Decided.{next_is, past_first, whole}
 use Rattle.sp_accept.proofs.Numbers.{carrier_of, of_carrier}
 use Rattle.sp_accept.proofs.StillRight.{first_in, of_first}
 

@@ -1,11 +1,11 @@
 -- The transactions of the carriers that turned, and their flags.
-use Rattle.std.proofs.Common.{◌≡◌, ◌<◌, ◌≤◌, ◌+◌, ◌∙◌, ◌||◌, ◌&&◌, ℕ, zero, suc, Bool, true, false, cond, List, [], ◌∷◌, ◌++◌, map, take, inl, inr, arith, refl, sym, ap, subst, length, get_or, eqb, length-set, get_or-set_same, get_or-set_other}
+use Rattle.std.proofs.Common.{◌≡◌, ◌<◌, ◌+◌, ◌∙◌, ℕ, Bool, true, List, [], ◌∷◌, ◌++◌, take, arith, refl, sym, ap, length, get_or, eqb}
 use Rattle.std.specs.Prelude.{All, filter, slice_set}
 use Rattle.std.specs.List.{list_any, range_with_len}
 use Rattle.std.specs.BTreeMap.{is_at}
 use Rattle.std.specs.BTreeSet.{IsOrdered}
 use Rattle.std.specs.Ordering.{is_eq, nat_cmp}
-use Rattle.std.proofs.lemmas.Bool.{eq-eqb, eqb-true, eqb-false, false≢true, or_cases}
+use Rattle.std.proofs.lemmas.Bool.{eq-eqb, eqb-true}
 use Rattle.std.proofs.lemmas.Cmp.{nat_cmp_total}
 use Rattle.std.proofs.lemmas.List.{take_more}
 use Rattle.std.proofs.lemmas.List.Elements.{All-from_get_or}
@@ -17,8 +17,7 @@ use Rattle.sp_carry.specs.Rivals.{has_number, Set}
 use Rattle.sp_carry.proofs.Members.{IsIn, any_of_member, bool_same, in_filter, in_filter_from, member_meets, member_of_any}
 use Rattle.sp_carry.proofs.Noting.{is_eq-nat_cmp}
 use Rattle.sp_carry.proofs.Rivalry.{equal_is_same, range_sorted}
-use Rattle.sp_accept.specs.Acceptance.{is_set}
-use Rattle.sp_accept.specs.Flips.{differ, flips_among, flips_of, with_flips}
+use Rattle.sp_accept.specs.Flips.{with_flips}
 use Rattle.sp_accept.specs.Rows.{row_at}
 use Rattle.sp_accept.proofs.Beside.{in_range_from}
 use Rattle.sp_accept.proofs.Carriers.{rows_are}

@@ -1,8 +1,8 @@
 -- What one carrier that is decided on again leaves of the others.
-use Rattle.std.proofs.Common.{◌≡◌, ◌≢◌, ◌<◌, ◌≤◌, ◌∙◌, ◌||◌, ◌&&◌, not, ℕ, suc, Bool, true, false, List, [], ◌∷◌, inl, inr, arith, refl, sym, ap, length, eqb}
+use Rattle.std.proofs.Common.{◌≡◌, ◌≢◌, ◌<◌, ◌≤◌, ◌∙◌, ◌||◌, not, ℕ, suc, Bool, true, false, List, inl, inr, arith, refl, sym, ap, length, eqb}
 use Rattle.std.specs.Prelude.{nat_le}
-use Rattle.std.specs.List.{list_any, range_with_len}
-use Rattle.std.proofs.lemmas.Bool.{and_parts, eq-eqb, eqb-true, eqb-false, false≢true, leb-true, or_cases, or_left, or_right}
+use Rattle.std.specs.List.{range_with_len}
+use Rattle.std.proofs.lemmas.Bool.{and_parts, eqb-true, eqb-false, false≢true, leb-true, or_cases}
 use Rattle.sp_ids.specs.declared.outpoint.Outpoint.{Outpoint}
 use Rattle.sp_tx.specs.Spending.{id_of}
 use Rattle.sp_tx.specs.declared.parts.Input.{Input}
@@ -39,7 +39,7 @@ later_is k c d h =
           member_of_any (λ (i : Input). is_of_spender k (suc c) (row_at k.rows c).tx i.from d) (inputs_at k (row_at k.rows c).tx) a in
           let r : (suc c ≤ d) × (d < length k.rows) = from_spender k (suc c) (row_at k.rows c).tx i.0.from d i.2 in (omega (arith, r.0), r.1))
       | inr b ↦ (let j : (j : ℕ) × IsIn (range_with_len 0 (length (tx_at k (row_at k.rows c).tx).outputs)) j
-              × (is_of_spender k (suc c) (length k.txs) (record { tx = id_of (tx_at k (row_at k.rows c).tx); index = j }) d ≡ true) =
+          × (is_of_spender k (suc c) (length k.txs) (record { tx = id_of (tx_at k (row_at k.rows c).tx); index = j }) d ≡ true) =
           member_of_any (λ index. is_of_spender k (suc c) (length k.txs) (record { tx = id_of (tx_at k (row_at k.rows c).tx); index = index }) d)
           (range_with_len 0 (length (tx_at k (row_at k.rows c).tx).outputs)) b in
           let r : (suc c ≤ d) × (d < length k.rows) = from_spender k (suc c) (length k.txs) (record { tx = id_of (tx_at k (row_at k.rows c).tx); index = j.0 }) d j.2 in (omega (arith, r.0), r.1))

@@ -1,5 +1,5 @@
 -- Flags that turn, one after another, and turn back.
-use Rattle.std.proofs.Common.{◌≡◌, ◌≢◌, ◌<◌, ◌≤◌, ◌∙◌, not, ℕ, suc, Bool, true, false, List, [], ◌∷◌, ◌++◌, arith, refl, sym, ap, subst, length, get_or, set, get_or-set_same, get_or-set_other, inl, length-append, length-set, set-set}
+use Rattle.std.proofs.Common.{◌≡◌, ◌≢◌, ◌<◌, ◌∙◌, not, ℕ, Bool, true, false, List, [], ◌∷◌, ◌++◌, arith, refl, sym, ap, subst, length, get_or, set, get_or-set_same, get_or-set_other, inl, length-append, length-set, set-set}
 use Rattle.std.specs.Prelude.{All}
 use Rattle.std.proofs.Math.ListN.{get_or-append}
 use Rattle.std.proofs.lemmas.List.{set-get_or}
@@ -52,7 +52,7 @@ turned_on flags mid flags' noted noted_mid noted' a b = record {
 }
 
 pub unturned : (flags : List Bool) (noted : List ℕ) → AreTurned flags flags noted noted
-unturned flags noted = record { from = λ start h. h; long = refl; within = λ all. all; }
+unturned flags noted = record { from = λ start h. h; long = refl; within = λ all. all }
 
 -- the last turn, turned back
 pub back_once : (start flags flags' : List Bool) (noted front : List ℕ) (c : ℕ) → c < length flags → noted ≡ front ++ c ∷ [] → flags ≡ all_turned start noted

@@ -1,31 +1,30 @@
 -- Carriers on which the blocks that joined the set can't bear: what the old flags say of them is what the flags below them give.
-use Rattle.std.proofs.Common.{◌≡◌, ◌≢◌, ◌<◌, ◌≤◌, ◌+◌, ◌∙◌, ◌||◌, ◌&&◌, not, ℕ, zero, suc, Bool, true, false, List, [], ◌∷◌, inl, inr, arith, refl, sym, ap, subst, length, eqb, ltb, Some}
-use Rattle.std.specs.Prelude.{filter, nat_lt, negsuc, ℤ, Contains, slice_get, neg_ℤ}
-use Rattle.std.specs.List.{list_any, range_with_len}
+use Rattle.std.proofs.Common.{◌≡◌, ◌<◌, ◌≤◌, ◌∙◌, ◌&&◌, not, ℕ, Bool, true, false, List, [], inl, inr, arith, refl, sym, ap, subst, length, eqb}
+use Rattle.std.specs.Prelude.{negsuc, ℤ}
+use Rattle.std.specs.List.{list_any}
 use Rattle.std.specs.Ordering.{int_eq}
-use Rattle.std.proofs.lemmas.Bool.{and_from, and_parts, cases_lt, eq-eqb, eqb-true, false≢true, le-ltb, lt-ltb, ltb-true, not_from_false, not-true, or_left, or_right}
+use Rattle.std.proofs.lemmas.Bool.{and_from, and_parts, cases_lt, eq-eqb, eqb-true, lt-ltb, not_from_false, not-true}
 use Rattle.sp_tx.specs.Parts.{of_parts}
 use Rattle.sp_tx.specs.declared.parts.Input.{Input}
 use Rattle.sp_model.specs.Graph.{anticone, has, keys, related}
 use Rattle.sp_model.specs.Votes.{virt}
-use Rattle.sp_model.proofs.Exchange.{virt_neg}
 use Rattle.sp_model.proofs.Sets.{has-filter, has-filter_from, same_truth}
 use Rattle.sp_dag.specs.Numbered.{AreInOrder, graph_of}
 use Rattle.sp_dag.proofs.Keys.{key_in}
-use Rattle.sp_dag.proofs.Whole.{ancestors_lower, keys_are_numbers}
+use Rattle.sp_dag.proofs.Whole.{ancestors_lower}
 use Rattle.sp_carry.specs.Payment.{Payment, is_same_outpoint}
-use Rattle.sp_carry.specs.Ledger.{accepts, accepts_by, has_sources, is_alone, is_first, is_rival, is_sound, some_carrier}
-use Rattle.sp_carry.specs.Carried.{AreSound, Carried, carriers_in, ledger_of}
-use Rattle.sp_carry.specs.Lookups.{is_spent_by, spenders_in}
+use Rattle.sp_carry.specs.Ledger.{accepts, has_sources, is_alone, is_first, is_rival, is_sound, some_carrier}
+use Rattle.sp_carry.specs.Carried.{AreSound, Carried, ledger_of}
+use Rattle.sp_carry.specs.Lookups.{spenders_in}
 use Rattle.sp_carry.proofs.Acceptance.{accepts_is, carrier_found, found_carrier}
 use Rattle.sp_carry.proofs.Members.{IsIn, any_of_member, member_of_any}
-use Rattle.sp_accept.specs.Acceptance.{Acceptance, first_blocks, is_accepted_carrier, is_set, IsRight}
+use Rattle.sp_accept.specs.Acceptance.{first_blocks, is_accepted_carrier, is_set}
 use Rattle.sp_accept.specs.Pass.{inputs_at, is_next}
 use Rattle.sp_accept.specs.Pending.{are_rivals}
 use Rattle.sp_accept.specs.Rows.{payment_at, row_at}
 use Rattle.sp_accept.specs.Standing.{is_below}
 use Rattle.sp_accept.proofs.Carriers.{AreRows, carried_at, carries, same_turned}
-use Rattle.sp_accept.proofs.Decided.{IsRivalAt, next_is, rival_at, rival_is, whole}
+use Rattle.sp_accept.proofs.Decided.{IsRivalAt, next_is, rival_at, whole}
 use Rattle.sp_accept.proofs.Numbers.{of_spender, spender_of}
 use Rattle.sp_accept.proofs.StillRight.{first_in, of_first}
 
@@ -77,9 +76,9 @@ module _ (table : List (List ℕ)) (k : Carried) (kept : AreRows k) (blocks : le
   -- ---- one carrier of the first n blocks
 
   module _ (n : ℕ) (few : n ≤ k.blocks) (c : ℕ) (lc : c < length k.rows) (old : block_of c < n)
-    (no_new : (e : ℕ) → e < length k.rows → n ≤ block_of e → (row_at k.rows e).sound ≡ true → are_rivals k c e ≡ true → ⊥)
-    (stays : (e : ℕ) → e < length k.rows → block_of e < n → are_rivals k c e ≡ true → related (graph_of table) (block_of e) (block_of c) ≡ false → eqb (block_of e) (block_of c) ≡ false
-    → virt (graph_of table) (first_blocks n) (block_of c) (block_of e) ≡ virt (graph_of table) set (block_of c) (block_of e)) where
+      (no_new : (e : ℕ) → e < length k.rows → n ≤ block_of e → (row_at k.rows e).sound ≡ true → are_rivals k c e ≡ true → ⊥)
+      (stays : (e : ℕ) → e < length k.rows → block_of e < n → are_rivals k c e ≡ true → related (graph_of table) (block_of e) (block_of c) ≡ false → eqb (block_of e) (block_of c) ≡ false
+      → virt (graph_of table) (first_blocks n) (block_of c) (block_of e) ≡ virt (graph_of table) set (block_of c) (block_of e)) where
     beside_in : List ℕ → ℕ → Payment → Bool
     beside_in s w u = is_rival (ledger_of table k) (carried_by c) w u && not (int_eq (virt (graph_of table) s (block_of c) w) (negsuc 0))
 

@@ -1,21 +1,21 @@
 -- The flags behind an update, and the transactions that turned.
-use Rattle.std.proofs.Common.{◌≡◌, ◌≢◌, ◌<◌, ◌≤◌, ◌+◌, ◌-◌, ◌∙◌, ◌||◌, ◌&&◌, ◌⊎◌, ℕ, zero, suc, Bool, true, false, cond, List, [], ◌∷◌, ◌++◌, map, replicate, inl, inr, arith, refl, sym, ap, subst, length, get_or, eqb, length-set, length-append, get_or-set_same, get_or-set_other}
+use Rattle.std.proofs.Common.{◌≡◌, ◌<◌, ◌≤◌, ◌+◌, ◌-◌, ◌∙◌, ◌||◌, ◌⊎◌, ℕ, zero, suc, Bool, true, false, cond, List, [], ◌∷◌, ◌++◌, map, replicate, inl, inr, arith, refl, sym, ap, subst, length, get_or, eqb, length-set, length-append, get_or-set_same, get_or-set_other}
 use Rattle.std.specs.Prelude.{All, filter, slice_set}
 use Rattle.std.specs.List.{list_any, range_with_len}
 use Rattle.std.proofs.Math.ListN.{get_or-append}
 use Rattle.std.proofs.Math.Seq.{get_or-append_right}
 use Rattle.std.proofs.lemmas.List.{get_or-replicate, length-replicate}
 use Rattle.std.proofs.lemmas.List.Elements.{All-from_get_or}
-use Rattle.std.proofs.lemmas.Bool.{cases_lt, eq-eqb, eqb-true, eqb-false, false≢true, or_cases, or_left, or_right}
+use Rattle.std.proofs.lemmas.Bool.{cases_lt, eq-eqb, eqb-true, eqb-false, false≢true}
 use Rattle.sp_model.specs.Graph.{keys}
 use Rattle.sp_dag.specs.Numbered.{graph_of}
 use Rattle.sp_carry.specs.declared.carrier.Flip.{Flip}
 use Rattle.sp_carry.specs.Ledger.{accepts}
 use Rattle.sp_carry.specs.Carried.{Carried, IsCarried, carriers_in, ledger_of}
-use Rattle.sp_carry.proofs.Members.{IsIn, any_agrees, any_of_member, in_filter, in_filter_from, in_map, in_map_from, member_of_any}
-use Rattle.sp_accept.specs.Acceptance.{Acceptance, is_accepted_carrier, is_set, IsRight}
+use Rattle.sp_carry.proofs.Members.{IsIn, any_agrees, any_of_member, in_filter, in_filter_from, in_map, in_map_from}
+use Rattle.sp_accept.specs.Acceptance.{Acceptance, is_set, IsRight}
 use Rattle.sp_accept.specs.Flips.{differ, flips_among, flips_of, with_flips}
-use Rattle.sp_accept.specs.Pass.{is_carried_flag, is_next}
+use Rattle.sp_accept.specs.Pass.{is_carried_flag}
 use Rattle.sp_accept.specs.Pending.{all_turned, AreSettledBut}
 use Rattle.sp_accept.specs.Rows.{payment_at, row_at, AreOf}
 use Rattle.sp_accept.proofs.Beside.{in_range, in_range_from}
@@ -24,7 +24,7 @@ use Rattle.sp_accept.proofs.Numbers.{carrier_of}
 use Rattle.sp_accept.proofs.Places.{in_place}
 use Rattle.sp_accept.proofs.Passed.{decision_is, right_by, tx_is}
 use Rattle.sp_accept.proofs.StillRight.{unset}
-use Rattle.sp_accept.proofs.Toggled.{all_turned_long, turned_other}
+use Rattle.sp_accept.proofs.Toggled.{turned_other}
 
 -- ---- flags that aren't set, behind others
 
@@ -111,7 +111,7 @@ differ_same false true e = absurd (false≢true e)
 differ_same false false e = refl
 
 module _ (old : List Bool) (new : ℕ → Bool) (touched : ℕ → Bool) (count : ℕ)
-  (same : (t : ℕ) → t < count → touched t ≡ false → is_set old t ≡ new t) where
+    (same : (t : ℕ) → t < count → touched t ≡ false → is_set old t ≡ new t) where
   abbrev differs : Flip → Bool
   differs flip = differ (is_set old flip.tx) flip.now
 
@@ -132,25 +132,31 @@ module _ (old : List Bool) (new : ℕ → Bool) (touched : ℕ → Bool) (count 
   flips_are = narrowed (range_with_len 0 count) (λ t there. (let r : (0 ≤ t) × (t < 0 + count) = in_range 0 count t there in omega (arith, r.1)))
 
 -- each is of one of the transactions, with its new flag
-among_is : (old : List Bool) (new : ℕ → Bool) (count : ℕ) (f : Flip) → IsIn (flips_among old new (range_with_len 0 count)) f → (f.now ≡ new f.tx) × (f.tx < count)
-among_is old new count f h =
-    let p : IsIn (map (λ t. record { tx = t; now = new t }) (range_with_len 0 count)) f × (differ (is_set old f.tx) f.now ≡ true) =
-    in_filter (λ (flip : Flip). differ (is_set old flip.tx) flip.now) (map (λ t. record { tx = t; now = new t }) (range_with_len 0 count)) f h in
-    let t : (t : ℕ) × IsIn (range_with_len 0 count) t × (record { tx = t; now = new t } ≡ f) = in_map (λ t. record { tx = t; now = new t }) (range_with_len 0 count) f p.0 in
-    let r : (0 ≤ t.0) × (t.0 < 0 + count) = in_range 0 count t.0 t.1 in
+among_is : (old : List Bool) (new : ℕ → Bool) (xs : List ℕ) (f : Flip) → IsIn (flips_among old new xs) f → (f.now ≡ new f.tx) × IsIn xs f.tx
+among_is old new xs f h =
+    let p : IsIn (map (λ t. record { tx = t; now = new t }) xs) f × (differ (is_set old f.tx) f.now ≡ true) =
+    in_filter (λ (flip : Flip). differ (is_set old flip.tx) flip.now) (map (λ t. record { tx = t; now = new t }) xs) f h in
+    let t : (t : ℕ) × IsIn xs t × (record { tx = t; now = new t } ≡ f) = in_map (λ t. record { tx = t; now = new t }) xs f p.0 in
     let own : t.0 ≡ f.tx = ap (λ (g : Flip). g.tx) t.2 in
-    (sym (ap (λ (g : Flip). g.now) t.2) ∙ ap new own, omega (arith, r.1, own))
+    (sym (ap (λ (g : Flip). g.now) t.2) ∙ ap new own, subst (IsIn xs) own t.1)
 
-pub among_within : (old : List Bool) (new : ℕ → Bool) (count : ℕ) → All (λ (flip : Flip). flip.tx < count) (flips_among old new (range_with_len 0 count))
-among_within old new count =
-    All-from_get_or (λ (flip : Flip). flip.tx < count) (flips_among old new (range_with_len 0 count)) (record { tx = 0; now = false })
-    (λ i lt. (among_is old new count (get_or (flips_among old new (range_with_len 0 count)) i (record { tx = 0; now = false }))
-    (in_place (flips_among old new (range_with_len 0 count)) (record { tx = 0; now = false }) i lt)).1)
+below_count : (count t : ℕ) → IsIn (range_with_len 0 count) t → t < count
+below_count count t h = (let r : (0 ≤ t) × (t < 0 + count) = in_range 0 count t h in omega (arith, r.1))
+
+pub among_within : (old : List Bool) (new : ℕ → Bool) (touched : ℕ → Bool) (count : ℕ)
+    → All (λ (flip : Flip). flip.tx < count) (flips_among old new (filter touched (range_with_len 0 count)))
+among_within old new touched count =
+    All-from_get_or (λ (flip : Flip). flip.tx < count) (flips_among old new (filter touched (range_with_len 0 count))) (record { tx = 0; now = false })
+    (λ i lt. below _ (in_place (flips_among old new (filter touched (range_with_len 0 count))) (record { tx = 0; now = false }) i lt))
+  where
+    below : (f : Flip) → IsIn (flips_among old new (filter touched (range_with_len 0 count))) f → f.tx < count
+    below f h =
+        below_count count f.tx (in_filter touched (range_with_len 0 count) f.tx (among_is old new (filter touched (range_with_len 0 count)) f h).1).0
 
 -- flags in which some flips are set
 flagged : (base : List Bool) (flips : List Flip) (new : ℕ → Bool) (t : ℕ) → ((f : Flip) → IsIn flips f → (f.now ≡ new f.tx) × (f.tx < length base))
     → (is_set base t ≡ new t) ⊎ (list_any (λ (f : Flip). eqb f.tx t) flips ≡ true) → is_set (with_flips base flips) t ≡ new t
-flagged base [] new t each h = elim h [ | inl e ↦ e | inr none ↦ absurd (false≢true none) ]
+flagged base [] new t each h = elim h [ inl e ↦ e | inr none ↦ absurd (false≢true none) ]
 flagged base (f ∷ flips) new t each h =
     flagged (slice_set base f.tx f.now) flips new t
     (λ g there. ((each g (inr there)).0, (let lt : g.tx < length base = (each g (inr there)).1 in omega (arith, lt, length-set base f.tx f.now))))
@@ -172,7 +178,8 @@ pub flips_set : (old base : List Bool) (new : ℕ → Bool) (count t : ℕ) → 
     → is_set (with_flips base (flips_among old new (range_with_len 0 count))) t ≡ new t
 flips_set old base new count t same long lt =
     flagged base (flips_among old new (range_with_len 0 count)) new t
-    (λ f there. (let p : (f.now ≡ new f.tx) × (f.tx < count) = among_is old new count f there in (p.0, omega (arith, p.1, long)))) (at (differ (is_set old t) (new t)) refl)
+    (λ f there. (let p : (f.now ≡ new f.tx) × IsIn (range_with_len 0 count) f.tx = among_is old new (range_with_len 0 count) f there in
+    let lt : f.tx < count = below_count count f.tx p.1 in (p.0, omega (arith, lt, long)))) (at (differ (is_set old t) (new t)) refl)
   where
     at : (b : Bool) → differ (is_set old t) (new t) ≡ b
         → (is_set base t ≡ new t) ⊎ (list_any (λ (f : Flip). eqb f.tx t) (flips_among old new (range_with_len 0 count)) ≡ true)

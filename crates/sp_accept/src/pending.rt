@@ -140,11 +140,7 @@ pub(crate) fn note_later(
 }
 
 /// Notes a new carrier and, where it is sound, those of its rivals.
-fn note_new(
-    pending: &mut BTreeSet<u32>,
-    carriers: &Carriers,
-    c: u32,
-) -> Result<(), AllocError>
+fn note_new(pending: &mut BTreeSet<u32>, carriers: &Carriers, c: u32) -> Result<(), AllocError>
     requires { c < length carriers.now.rows }
     ensures { OnOk result (IsNotedBy (is_by_new carriers.now c) pending.old pending.new) }
 {

@@ -19,11 +19,7 @@ use std::alloc::{AllocError, Global};
 use std::collections::BTreeSet;
 
 /// The transactions of some carriers.
-fn txs_of(
-    alloc: Global,
-    carriers: &Carriers,
-    turned: &[u32],
-) -> Result<BTreeSet<u32>, AllocError>
+fn txs_of(alloc: Global, carriers: &Carriers, turned: &[u32]) -> Result<BTreeSet<u32>, AllocError>
     requires { All (λ c. c < length carriers.now.rows) turned.now }
     ensures { IfOk result (λ txs. (tx : ℕ) → has_number txs tx
         ≡ list_any (λ c. (row_at carriers.now.rows c).tx == tx) turned.now) }
@@ -77,7 +73,9 @@ pub(crate) fn turned_txs(
     old: &[bool],
 ) -> Result<Vec<Flip>, AllocError>
     requires { All (λ c. c < length carriers.now.rows) turned.now }
-    ensures { IfOk result (λ flips. flips.items ≡ flips_among old.now (is_carried_flag carriers.now flags.now)
+    ensures known { IfOk result (λ flips.
+        All (λ (flip : Flip). flip.tx < length carriers.now.txs) flips.items) }
+    ensures flips { IfOk result (λ flips. flips.items ≡ flips_among old.now (is_carried_flag carriers.now flags.now)
         (filter (λ tx. list_any (λ c. (row_at carriers.now.rows c).tx == tx) turned.now) (range_with_len 0 (length carriers.now.txs)))) }
 {
     // Tells the proof what carriers are.

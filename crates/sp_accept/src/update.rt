@@ -4,6 +4,7 @@
 ghost use Rattle.std.specs.Prelude.{◌≡◌, ◌<◌, ◌≤◌, ◌==◌, [], false, ℕ, All, length, filter, IfOk, IsTrue, OnOk};
 ghost use Rattle.std.specs.List.{list_any, range_with_len};
 ghost use Rattle.sp_carry.specs.Rivals.{has_number};
+ghost use Rattle.sp_carry.specs.declared.carrier.Flip.{Flip};
 ghost use Rattle.sp_accept.specs.Changes.{carriers_below};
 ghost use Rattle.sp_accept.specs.Flips.{flips_among};
 ghost use Rattle.sp_accept.specs.Pass.{is_carried_flag};
@@ -62,6 +63,8 @@ pub(crate) fn flips_by<O: Order>(
     ensures turned { AreTurned flags.old.items flags.new.items [] turned.new.items }
     ensures settled { OnOk result
         (AreSettledBut (O.table order.now) carriers.now flags.new.items (λ _. false)) }
+    ensures known { IfOk result (λ flips.
+        All (λ (flip : Flip). flip.tx < length carriers.now.txs) flips.items) }
     ensures flips { IfOk result (λ flips. flips.items ≡ flips_among txs.now (is_carried_flag carriers.now flags.new.items)
         (filter (λ tx. list_any (λ c. (row_at carriers.now.rows c).tx == tx) turned.new.items) (range_with_len 0 (length carriers.now.txs)))) }
 {

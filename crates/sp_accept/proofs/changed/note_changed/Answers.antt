@@ -1,7 +1,6 @@
-use Rattle.std.proofs.Common.{◌≡◌, ◌<◌, ◌≤◌, ℕ, Some, ap, sym, ◌∙◌, arith, length}
+use Rattle.std.proofs.Common.{◌≡◌, ℕ, Some, ap, sym, ◌∙◌, arith}
 use Rattle.std.specs.Prelude.{slice_get}
-use Rattle.std.proofs.lemmas.Option.{get_or_from_slice_get, slice_get_read}
-use Rattle.sp_accept.specs.Pending.{AreNoted}
+use Rattle.std.proofs.lemmas.Option.{get_or_from_slice_get}
 use Rattle.sp_accept.proofs.Beside.{noted_over, noted_run, within_more}
 use Rattle.sp_accept.proofs.changed.note_changed.Goals as goal
 

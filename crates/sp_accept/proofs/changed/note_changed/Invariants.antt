@@ -1,4 +1,4 @@
-use Rattle.std.proofs.Common.{ℕ, ◌≡◌, ◌<◌, ◌≤◌, ◌-◌, length, Some}
+use Rattle.std.proofs.Common.{◌≤◌, ◌-◌, length}
 use Rattle.sp_accept.specs.Pending.{AreNoted, IsWithin}
 use Rattle.sp_accept.proofs.changed.note_changed.Given as goal
 

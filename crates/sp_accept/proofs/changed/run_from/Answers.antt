@@ -1,4 +1,4 @@
-use Rattle.std.proofs.Common.{◌≡◌, ◌<◌, ◌≤◌, ◌∙◌, ℕ, inl, inr, arith, length}
+use Rattle.std.proofs.Common.{◌≡◌, ◌<◌, inl, inr, arith, length}
 use Rattle.std.proofs.lemmas.Bool.{cases_lt}
 use Rattle.std.proofs.lemmas.Option.{slice_get_within}
 use Rattle.sp_accept.proofs.Runs.{run_more, second_at}

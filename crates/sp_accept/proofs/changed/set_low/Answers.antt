@@ -1,5 +1,5 @@
-use Rattle.std.proofs.Common.{◌≡◌, ◌<◌, ◌||◌, ◌==◌, ◌∙◌, ℕ, List, true, ap, arith, refl}
-use Rattle.std.proofs.lemmas.Bool.{eq-eqb, eqb-true, or_cases, or_left, or_right}
+use Rattle.std.proofs.Common.{◌||◌, ◌==◌, ◌∙◌, ℕ, List, ap, arith, refl}
+use Rattle.std.proofs.lemmas.Bool.{eq-eqb, or_left, or_right}
 use Rattle.sp_model.specs.Graph.{has}
 use Rattle.sp_bits.proofs.RowSets.{has_places, row_small}
 use Rattle.sp_accept.proofs.changed.set_low.Goals as goal

@@ -1,4 +1,4 @@
-use Rattle.std.proofs.Common.{◌≡◌, ◌-◌, ◌++◌, ◌∙◌, ℕ, ap, false, arith}
+use Rattle.std.proofs.Common.{◌++◌, ◌∙◌, ℕ, ap, false, arith}
 use Rattle.std.specs.Prelude.{replicate}
 use Rattle.sp_accept.proofs.flags.grow.Goals as goal
 

@@ -1,4 +1,4 @@
-use Rattle.std.proofs.Common.{◌-◌, length}
+use Rattle.std.proofs.Common.{◌-◌}
 use Rattle.std.specs.List.{list_any, range_with_len}
 use Rattle.sp_carry.specs.Rivals.{IsNotedBy}
 use Rattle.sp_accept.specs.Pending.{is_by_new}

@@ -1,5 +1,4 @@
-use Rattle.std.proofs.Common.{◌≡◌, ◌<◌, ◌-◌, ◌∙◌, ◌||◌, ℕ, List, Bool, false, true, sym, ap, subst, arith, length}
-use Rattle.sp_carry.specs.Rivals.{has_number}
+use Rattle.std.proofs.Common.{◌<◌, ◌∙◌, ℕ, List, sym, subst, length}
 use Rattle.sp_accept.specs.Pending.{left_of}
 use Rattle.sp_accept.proofs.Popped.{left_less, popped, still_within}
 use Rattle.sp_accept.proofs.Toggled.{turned_on, unturned}

@@ -1,4 +1,4 @@
-use Rattle.std.proofs.Common.{◌≡◌, ◌<◌, ℕ, length}
+use Rattle.std.proofs.Common.{◌<◌, ℕ, length}
 use Rattle.std.specs.Prelude.{IsTrue}
 use Rattle.sp_carry.specs.Rivals.{has_number}
 use Rattle.sp_accept.specs.Pending.{AreSettledBut, AreTurned, left_of}

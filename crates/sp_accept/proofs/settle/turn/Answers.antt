@@ -1,4 +1,4 @@
-use Rattle.std.proofs.Common.{◌∙◌, not, Bool, List, ap, refl}
+use Rattle.std.proofs.Common.{◌∙◌, not, Bool, List, ap}
 use Rattle.std.specs.Prelude.{slice_set}
 use Rattle.sp_accept.specs.Acceptance.{is_set}
 use Rattle.sp_accept.proofs.Toggled.{turn_noted}

@@ -1,4 +1,4 @@
-use Rattle.std.proofs.Common.{◌≡◌, ◌<◌, ℕ, Bool, List, length}
+use Rattle.std.proofs.Common.{◌≡◌, ◌<◌, Bool, List, length}
 use Rattle.std.specs.Prelude.{All}
 use Rattle.sp_accept.specs.Pending.{all_turned}
 use Rattle.sp_accept.proofs.settle.turn_back.Given as goal

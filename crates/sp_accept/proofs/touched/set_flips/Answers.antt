@@ -1,4 +1,4 @@
-use Rattle.std.proofs.Common.{◌∙◌, length-set, arith, refl}
+use Rattle.std.proofs.Common.{◌∙◌, length-set}
 use Rattle.sp_carry.proofs.Keeping.{any_default}
 use Rattle.sp_accept.proofs.Reached.{set_next}
 use Rattle.sp_accept.proofs.touched.set_flips.Goals as goal

@@ -1,5 +1,4 @@
-use Rattle.std.proofs.Common.{◌≤◌, ◌≡◌, ◌<◌, ◌-◌, ◌∙◌, ℕ, List, ap, sym, subst, length}
-use Rattle.sp_accept.specs.Pending.{IsWithin}
+use Rattle.std.proofs.Common.{◌≤◌, ℕ, sym, subst, length}
 use Rattle.sp_accept.proofs.Begun.{below_few}
 use Rattle.sp_accept.proofs.Gathered.{gathered}
 use Rattle.sp_accept.proofs.update.pending_of.Goals as goal

@@ -1,16 +1,15 @@
-use Rattle.std.proofs.Common.{◌≡◌, ◌<◌, ◌≤◌, ◌∙◌, ◌==◌, ℕ, Bool, List, [], ap, sym, subst, take, length, arith, refl}
+use Rattle.std.proofs.Common.{◌≡◌, ◌<◌, ◌∙◌, ◌==◌, ℕ, Bool, List, ap, sym, subst, take, length, arith, refl}
 use Rattle.std.specs.Prelude.{All, filter}
 use Rattle.std.specs.List.{list_any, range_with_len}
 use Rattle.sp_carry.specs.declared.carrier.Flip.{Flip}
 use Rattle.sp_carry.specs.Carried.{Carried}
-use Rattle.sp_accept.specs.Acceptance.{Acceptance, is_set, IsRight}
+use Rattle.sp_accept.specs.Acceptance.{Acceptance, IsRight}
 use Rattle.sp_accept.specs.Changes.{TellsChanges}
 use Rattle.sp_accept.specs.Flips.{flips_among, flips_of, with_flips}
 use Rattle.sp_accept.specs.Pass.{is_carried_flag}
-use Rattle.sp_accept.specs.Pending.{AreTurned}
-use Rattle.sp_accept.specs.Rows.{row_at, AreOf}
+use Rattle.sp_accept.specs.Rows.{row_at}
 use Rattle.sp_accept.proofs.Begun.{begun}
-use Rattle.sp_accept.proofs.Outcome.{all_right, cut_back, flips_known, flips_told, grown_from}
+use Rattle.sp_accept.proofs.Outcome.{all_right, cut_back, flips_told, grown_from}
 use Rattle.sp_accept.proofs.accepted.Accepted.update.Goals as goal
 
 pub flips_by-found-requires-clause-settled : goal.flips_by-found-requires-clause-settled
@@ -27,24 +26,12 @@ flips_by-found-requires-clause-settled g c =
 
 pub set_flips-requires : goal.set_flips-requires
 set_flips-requires g c =
-    let table : List (List ℕ) = g.O.Order.table c.args.order.now in
-    let k : Carried = c.args.carriers.now in
-    let flags : List Bool = c.flips_by-found.new.flags.items in
-    let turned : List ℕ = c.flips_by-found.new.turned.items in
-    let right : IsRight table k (record { blocks = c.self.inside.blocks; carriers = c.self.inside.carriers.items; txs = c.self.inside.txs.items }) =
-    subst (IsRight table k) (sym c.self.view_is) c.requires.right in
-    let grown = grown_from c.self.inside.carriers.items c.reserve.new.self.items c.grow.new.flags.items c.carrier_count-count.result c.in_ok-reserve.ensures.items c.grow.ensures
-    (omega (arith, right.no_more, c.carrier_count-count.ensures.value)) in
-    let are : c.in-Ok.flips.items ≡ flips_among c.self.inside.txs.items (is_carried_flag k flags)
-        (filter (λ tx. list_any (λ e. (row_at k.rows e).tx == tx) turned) (range_with_len 0 (length k.txs))) =
-    c.in-Ok.ensures.flips
-    ∙ ap (λ (old : List Bool). flips_among old (is_carried_flag k flags) (filter (λ tx. list_any (λ e. (row_at k.rows e).tx == tx) turned) (range_with_len 0 (length k.txs))))
-    (c.deref.ensures.value ∙ c.in_ok-reserve-2.ensures.items) in
+    let right : IsRight (g.O.Order.table c.args.order.now) c.args.carriers.now (record { blocks = c.self.inside.blocks; carriers = c.self.inside.carriers.items; txs = c.self.inside.txs.items }) =
+    subst (IsRight (g.O.Order.table c.args.order.now) c.args.carriers.now) (sym c.self.view_is) c.requires.right in
     let based = grown_from c.self.inside.txs.items c.reserve-2.new.self.items c.grow-in-Ok.new.flags.items c.tx_count-txs.result c.in_ok-reserve-2.ensures.items c.grow-in-Ok.ensures
     (omega (arith, right.no_more_txs, c.tx_count-txs.ensures.value)) in
     subst (λ (n : ℕ). All (λ (flip : Flip). flip.tx < n) c.deref-in-Ok.result.now) (sym (based.0 ∙ c.tx_count-txs.ensures.value))
-    (subst (All (λ (flip : Flip). flip.tx < length k.txs)) (sym c.deref-in-Ok.ensures.value)
-    (flips_known table k c.block_count-blocks.ensures.carried c.requires.of _ right c.grow.new.flags.items flags turned c.in-Ok.flips.items grown.1 c.in-Ok.ensures.turned are))
+    (subst (All (λ (flip : Flip). flip.tx < length c.args.carriers.now.txs)) (sym c.deref-in-Ok.ensures.value) c.in-Ok.ensures.known)
 
 pub returns-in-Ok-clause-right : goal.returns-in-Ok-clause-right
 returns-in-Ok-clause-right g c =
@@ -57,7 +44,7 @@ returns-in-Ok-clause-right g c =
     let grown = grown_from c.self.inside.carriers.items c.reserve.new.self.items c.grow.new.flags.items c.carrier_count-count.result c.in_ok-reserve.ensures.items c.grow.ensures
     (omega (arith, right.no_more, c.carrier_count-count.ensures.value)) in
     let are : c.in-Ok.flips.items ≡ flips_among c.self.inside.txs.items (is_carried_flag k flags)
-        (filter (λ tx. list_any (λ e. (row_at k.rows e).tx == tx) turned) (range_with_len 0 (length k.txs))) =
+    (filter (λ tx. list_any (λ e. (row_at k.rows e).tx == tx) turned) (range_with_len 0 (length k.txs))) =
     c.in-Ok.ensures.flips
     ∙ ap (λ (old : List Bool). flips_among old (is_carried_flag k flags) (filter (λ tx. list_any (λ e. (row_at k.rows e).tx == tx) turned) (range_with_len 0 (length k.txs))))
     (c.deref.ensures.value ∙ c.in_ok-reserve-2.ensures.items) in
@@ -79,7 +66,7 @@ returns-in-Ok-clause-flips g c =
     let grown = grown_from c.self.inside.carriers.items c.reserve.new.self.items c.grow.new.flags.items c.carrier_count-count.result c.in_ok-reserve.ensures.items c.grow.ensures
     (omega (arith, right.no_more, c.carrier_count-count.ensures.value)) in
     let are : c.in-Ok.flips.items ≡ flips_among c.self.inside.txs.items (is_carried_flag k flags)
-        (filter (λ tx. list_any (λ e. (row_at k.rows e).tx == tx) turned) (range_with_len 0 (length k.txs))) =
+    (filter (λ tx. list_any (λ e. (row_at k.rows e).tx == tx) turned) (range_with_len 0 (length k.txs))) =
     c.in-Ok.ensures.flips
     ∙ ap (λ (old : List Bool). flips_among old (is_carried_flag k flags) (filter (λ tx. list_any (λ e. (row_at k.rows e).tx == tx) turned) (range_with_len 0 (length k.txs))))
     (c.deref.ensures.value ∙ c.in_ok-reserve-2.ensures.items) in
@@ -89,23 +76,6 @@ returns-in-Ok-clause-flips g c =
     c.grow-in-Ok.new.flags.items c.set_flips.new.txs.items based.1 (based.0 ∙ c.tx_count-txs.ensures.value)
     (c.set_flips.ensures ∙ ap (with_flips c.grow-in-Ok.new.flags.items) c.deref-in-Ok.ensures.value)
     ∙ ap (λ (a : Acceptance). flips_of a.txs c.set_flips.new.txs.items (length k.txs)) c.self.view_is
-
-pub returns-in-Ok-clause-known : goal.returns-in-Ok-clause-known
-returns-in-Ok-clause-known g c =
-    let table : List (List ℕ) = g.O.Order.table c.args.order.now in
-    let k : Carried = c.args.carriers.now in
-    let flags : List Bool = c.flips_by-found.new.flags.items in
-    let turned : List ℕ = c.flips_by-found.new.turned.items in
-    let right : IsRight table k (record { blocks = c.self.inside.blocks; carriers = c.self.inside.carriers.items; txs = c.self.inside.txs.items }) =
-    subst (IsRight table k) (sym c.self.view_is) c.requires.right in
-    let grown = grown_from c.self.inside.carriers.items c.reserve.new.self.items c.grow.new.flags.items c.carrier_count-count.result c.in_ok-reserve.ensures.items c.grow.ensures
-    (omega (arith, right.no_more, c.carrier_count-count.ensures.value)) in
-    let are : c.in-Ok.flips.items ≡ flips_among c.self.inside.txs.items (is_carried_flag k flags)
-        (filter (λ tx. list_any (λ e. (row_at k.rows e).tx == tx) turned) (range_with_len 0 (length k.txs))) =
-    c.in-Ok.ensures.flips
-    ∙ ap (λ (old : List Bool). flips_among old (is_carried_flag k flags) (filter (λ tx. list_any (λ e. (row_at k.rows e).tx == tx) turned) (range_with_len 0 (length k.txs))))
-    (c.deref.ensures.value ∙ c.in_ok-reserve-2.ensures.items) in
-    flips_known table k c.block_count-blocks.ensures.carried c.requires.of _ right c.grow.new.flags.items flags turned c.in-Ok.flips.items grown.1 c.in-Ok.ensures.turned are
 
 pub returns-clause-err : goal.returns-clause-err
 returns-clause-err g c =
