@@ -17,6 +17,7 @@ pub mod Moves
 pub mod Brought
 pub mod Growing
 pub mod Tallies
+pub mod Gains
 pub mod Votes
 pub mod Staying
 pub mod Bests

@@ -4,3 +4,4 @@ pub mod Voting
 pub mod Views
 pub mod Changed
 pub mod Moving
+pub mod Sums

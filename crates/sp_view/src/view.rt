@@ -1,6 +1,6 @@
 //! A view: the votes of one set of blocks, in rows of a pool that other views may hold too.
 
-ghost use Rattle.std.specs.Prelude.{◌≡◌, ◌<◌, ◌≤◌, ◌+◌, ◌-◌, ◌^◌, ◌==◌, ◌||◌, ◌*◌, ℕ, List, [], None, Some, length, IsTrue, IsFalse, IsSome, IfSome, IfNone, IfOk, OnOk, OnErr, slice_get, vec_len, vec_capacity};
+ghost use Rattle.std.specs.Prelude.{◌≡◌, ◌<◌, ◌≤◌, ◌+◌, ◌-◌, ◌^◌, ◌==◌, ◌||◌, ◌*◌, ◌↔◌, ℕ, List, [], None, Some, length, IsTrue, IsFalse, IsSome, IfSome, IfNone, IfOk, OnOk, OnErr, slice_get, vec_len, vec_capacity};
 ghost use Rattle.sp_bits.specs.Places.{places_where};
 ghost use Rattle.sp_model.specs.Graph.{has, in_past, anticone};
 ghost use Rattle.sp_dag.specs.Numbered.{graph_of, pairs_of};
@@ -10,6 +10,7 @@ ghost use Rattle.sp_frozen.specs.PastVotes.{signs_of};
 ghost use Rattle.sp_view.specs.Stored.{count_of, row_of, live};
 ghost use Rattle.sp_view.specs.Changed.{changed_of, has_changed};
 ghost use Rattle.sp_view.specs.Settled.{IsAsked};
+ghost use Rattle.sp_view.specs.Sums.{sum_of, AreJoined};
 ghost use Rattle.sp_view.specs.Views.{Viewed, entry_at, held, IsBest, IsStart, IsView, AreFresh, AreKeptIds, AreListed};
 ghost use Rattle.sp_view.specs.Moving.{changed_rows, moved_rows};
 
@@ -19,7 +20,7 @@ use crate::derive::derive_entries;
 use crate::entries::join_entries;
 use crate::sharing::{give_entries, share_entries};
 use crate::stored::{RowName, row_at};
-use crate::tally::tally;
+use crate::tally::{side, tally};
 use sp_bits::Row;
 use sp_dag::Dag;
 use sp_frozen::{Frozen, PastVotes, Signs};
@@ -174,8 +175,8 @@ impl View {
         Ok(())
     }
 
-    /// The virtual vote of the members on a pair inside the view, by four counts.
-    pub fn virtual_vote(&self, frozen: &Frozen, pool: &RowPool, pair: u32) -> i8
+    // The sum of the members' votes on a pair inside the view, by four counts.
+    fn sum(&self, frozen: &Frozen, pool: &RowPool, pair: u32) -> i32
         requires inside { IsSome (entry_at self.now.entries pair) }
         requires listed { pair < length frozen.now.pluses }
         requires live { (r : ℕ) → held self.now.entries r ≤ count_of pool.now r }
@@ -183,7 +184,7 @@ impl View {
             HoldsFrozen table frozen.now →
             ((z : ℕ) → IsTrue (has self.now.members z) → z < frozen.now.blocks) →
             slice_get (pairs_of table) pair ≡ Some (x, y) →
-            result ≡ virt (graph_of table) self.now.members x y }
+            result ≡ sum_of (graph_of table) self.now.members x y }
     {
         match self.entries[pair as usize] {
             Some((plus, minus)) => tally(
@@ -196,6 +197,20 @@ impl View {
             // The pair is inside.
             None => unreachable!(),
         }
+    }
+
+    /// The virtual vote of the members on a pair inside the view, by four counts.
+    pub fn virtual_vote(&self, frozen: &Frozen, pool: &RowPool, pair: u32) -> i8
+        requires inside { IsSome (entry_at self.now.entries pair) }
+        requires listed { pair < length frozen.now.pluses }
+        requires live { (r : ℕ) → held self.now.entries r ≤ count_of pool.now r }
+        ensures { (table : List (List ℕ)) (x y : ℕ) → IsView table self.now pool.now →
+            HoldsFrozen table frozen.now →
+            ((z : ℕ) → IsTrue (has self.now.members z) → z < frozen.now.blocks) →
+            slice_get (pairs_of table) pair ≡ Some (x, y) →
+            result ≡ virt (graph_of table) self.now.members x y }
+    {
+        side(self.sum(frozen, pool, pair), 0)
     }
 
     /// The virtual votes of the members on all pairs inside the view, ascending by pair.
@@ -325,8 +340,62 @@ impl View {
         }
     }
 
+    // The members that an older view doesn't have, unless that one has others too.
+    fn joined(&self, older: &View) -> Option<Row>
+        ensures { IfSome result (AreJoined older.now.members self.now.members) }
+    {
+        if !older.members.within(&self.members) {
+            return None;
+        }
+        let mut joined = self.members;
+        joined.without(&older.members);
+        Some(joined)
+    }
+
+    // Whether a pair has these two rows.
+    fn has_rows(&self, pair: u32, rows: (RowName, RowName)) -> bool
+        ensures { IsTrue result ↔ (entry_at self.now.entries pair ≡ Some rows) }
+    {
+        match self.entry(pair) {
+            Some((plus, minus)) => plus.id == rows.0.id && minus.id == rows.1.id,
+            None => false,
+        }
+    }
+
+    // Whether the joined members turned the vote on a pair whose rows an older view has too. That one's
+    // sum is then this one less theirs: two counts tell where theirs is 0, and elsewhere four more do.
+    fn turned(&self, joined: &Row, frozen: &Frozen, pool: &RowPool, pair: u32) -> bool
+        requires inside { IsSome (entry_at self.now.entries pair) }
+        requires listed { pair < length frozen.now.pluses }
+        requires live { (r : ℕ) → held self.now.entries r ≤ count_of pool.now r }
+        ensures { (table : List (List ℕ)) (x y : ℕ) (older : Viewed) →
+            AreJoined older.members self.now.members joined.now →
+            entry_at older.entries pair ≡ entry_at self.now.entries pair →
+            IsView table self.now pool.now → IsView table older pool.now →
+            HoldsFrozen table frozen.now →
+            ((z : ℕ) → IsTrue (has self.now.members z) → z < frozen.now.blocks) →
+            ((z : ℕ) → IsTrue (has older.members z) → z < frozen.now.blocks) →
+            slice_get (pairs_of table) pair ≡ Some (x, y) →
+            result ≡ has_changed (graph_of table) older.members self.now.members (x, y) }
+    {
+        let gain = joined.balance(frozen.plus(pair), frozen.minus(pair));
+        if gain == 0 {
+            return false;
+        }
+        let sum = self.sum(frozen, pool, pair);
+        side(sum, 0) != side(sum, gain)
+    }
+
     // Whether a pair inside the view is new, or has another virtual vote than in an older view.
-    fn differs(&self, older: &View, frozen: &Frozen, pool: &RowPool, pair: u32) -> bool
+    fn differs(
+        &self,
+        older: &View,
+        joined: &Option<Row>,
+        frozen: &Frozen,
+        pool: &RowPool,
+        pair: u32,
+    ) -> bool
+        requires joined { IfSome joined.now (AreJoined older.now.members self.now.members) }
         requires inside { IsSome (entry_at self.now.entries pair) }
         requires listed { pair < length frozen.now.pluses }
         requires live { (r : ℕ) → held self.now.entries r ≤ count_of pool.now r }
@@ -338,12 +407,15 @@ impl View {
             slice_get (pairs_of table) pair ≡ Some (x, y) →
             result ≡ has_changed (graph_of table) older.now.members self.now.members (x, y) }
     {
-        match older.entry(pair) {
-            None => true,
-            Some(_) => {
-                self.virtual_vote(frozen, pool, pair) != older.virtual_vote(frozen, pool, pair)
-            }
+        let Some(rows) = older.entry(pair) else {
+            return true;
+        };
+        if let Some(joined) = joined
+            && self.has_rows(pair, rows)
+        {
+            return self.turned(joined, frozen, pool, pair);
         }
+        self.virtual_vote(frozen, pool, pair) != older.virtual_vote(frozen, pool, pair)
     }
 
     /// The pairs that are new or have another virtual vote than in an older view, ascending.
@@ -362,10 +434,11 @@ impl View {
             ((z : ℕ) → IsTrue (has older.now.members z) → z < frozen.now.blocks) →
             list.items ≡ changed_of table older.now.members self.now.members) }
     {
+        let joined = self.joined(older);
         let mut list = Vec::new(self.alloc);
         'pairs: for i in 0..self.entries.len() {
             let pair = i as u32;
-            if self.entry(pair).is_some() && self.differs(older, frozen, pool, pair) {
+            if self.entry(pair).is_some() && self.differs(older, &joined, frozen, pool, pair) {
                 list.push(pair)?;
             }
         }
