@@ -25,7 +25,7 @@ ghost use Rattle.sp_carry.specs.Money.{balance};
 use crate::acceptance::accept_all;
 use crate::answer::{Answer, Refusal};
 use crate::first::first_of;
-use crate::numbering::add_all;
+use crate::numbering::join_all;
 use crate::valid::valid_block;
 use crate::votes::Votes;
 use sp_accept::Accepted;
@@ -181,7 +181,8 @@ impl Engine {
         match self.pool.offer(block)? {
             Offer::Present(ids) => {
                 let ids = ids.as_slice();
-                add_all(
+                let from = self.carriers.carrier_count();
+                let changed = join_all(
                     &self.pool,
                     &mut self.dag,
                     &mut self.votes,
@@ -194,6 +195,8 @@ impl Engine {
                     &self.dag,
                     &self.votes,
                     &self.carriers,
+                    changed.as_slice(),
+                    from,
                     &mut self.accepted,
                     &mut self.purse,
                 )?;

@@ -1,0 +1,36 @@
+use Rattle.std.proofs.Common.{◌<◌, ◌∷◌, [], ℕ, List, sym, arith, subst}
+use Rattle.std.proofs.lemmas.Result.{IfOk-weaker}
+use Rattle.sp_engine.specs.Votes.{AreVotedBeside, IsOfAll, Tallied}
+use Rattle.sp_engine.proofs.Forked.{let_go}
+use Rattle.sp_engine.proofs.TurnedPairs.{tells}
+use Rattle.sp_engine.proofs.Voted.{all_members, below_all, is_view}
+use Rattle.sp_engine.proofs.votes.Votes.changes.Goals as goal
+
+pub changed_pairs-pairs-requires-clause-view : goal.changed_pairs-pairs-requires-clause-view
+changed_pairs-pairs-requires-clause-view c =
+    let v : Tallied = record { frozen = c.self.inside.frozen; rows = c.self.inside.rows; views = c.self.inside.views.items } in
+    let voted : AreVotedBeside c.args.dag.now.parents v (c.args.fork ∷ []) = subst (λ (w : Tallied). AreVotedBeside c.args.dag.now.parents w (c.args.fork ∷ [])) (sym c.self.view_is) c.requires in
+    let own : IsOfAll v c.all.result.now = subst (λ (w : Tallied). IsOfAll w c.all.result.now) (sym c.self.view_is) c.all.ensures in
+    is_view c.args.dag.now.parents v voted own.0 c.all.result.now own.1
+
+pub changed_pairs-pairs-requires-clause-added : goal.changed_pairs-pairs-requires-clause-added
+changed_pairs-pairs-requires-clause-added c =
+    let v : Tallied = record { frozen = c.self.inside.frozen; rows = c.self.inside.rows; views = c.self.inside.views.items } in
+    let voted : AreVotedBeside c.args.dag.now.parents v (c.args.fork ∷ []) = subst (λ (w : Tallied). AreVotedBeside c.args.dag.now.parents w (c.args.fork ∷ [])) (sym c.self.view_is) c.requires in
+    let own : IsOfAll v c.all.result.now = subst (λ (w : Tallied). IsOfAll w c.all.result.now) (sym c.self.view_is) c.all.ensures in
+    below_all c.args.dag.now.parents v voted own.0 c.all.result.now own.1
+
+pub returns-clause-told : goal.returns-clause-told
+returns-clause-told c =
+    let table : List (List ℕ) = c.args.dag.now.parents in
+    IfOk-weaker c.changed_pairs-pairs.result _ _
+    (λ pairs found n is.
+    tells table n c.args.fork.members c.all.result.now.members pairs.items is (all_members table c.args.self.now c.requires c.all.result.now c.all.ensures)
+    (λ z h. (let less : z < c.args.self.now.frozen.blocks = c.requires.holds.shared.sound.1 z h in omega (arith, less, c.requires.every))) found)
+    c.changed_pairs-pairs.ensures
+
+pub returns-clause-voted : goal.returns-clause-voted
+returns-clause-voted c =
+    let v : Tallied = record { frozen = c.self.inside.frozen; rows = c.self.inside.rows; views = c.self.inside.views.items } in
+    let voted : AreVotedBeside c.args.dag.now.parents v (c.args.fork ∷ []) = subst (λ (w : Tallied). AreVotedBeside c.args.dag.now.parents w (c.args.fork ∷ [])) (sym c.self.view_is) c.requires in
+    let_go c.args.dag.now.parents v c.args.fork c.release.new.pool voted c.release.ensures.counts c.release.ensures.rows
