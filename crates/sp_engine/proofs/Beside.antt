@@ -62,5 +62,8 @@ pub shared_lent : (table : List (List ℕ)) (v w : Tallied) (lent beside : List 
 shared_lent table v w lent beside is views h =
     subst (λ (l : List Viewed). AreShared table v.rows v.frozen.blocks l beside) (sym views) (subst (λ (x : Tallied). AreShared table x.rows x.frozen.blocks x.views beside) (sym is) h)
 
-pub shared_listed : (table : List (List ℕ)) (pool : Pool) (n : ℕ) (tip : Viewed) (lent views beside : List Viewed) → lent ≡ views → AreShared table pool n (tip ∷ lent) beside → AreShared table pool n (tip ∷ views) beside
-shared_listed table pool n tip lent views beside is h = subst (λ (l : List Viewed). AreShared table pool n (tip ∷ l) beside) is h
+-- and behind the new tip's view, where that was made from them
+pub shared_tip : (table : List (List ℕ)) (v w : Tallied) (pool : Pool) (n : ℕ) (tip : Viewed) (lent views beside : List Viewed) → v ≡ w → lent ≡ views → views ≡ v.views
+    → (AreShared table v.rows v.frozen.blocks lent beside → AreShared table pool n (tip ∷ lent) beside) → AreShared table w.rows w.frozen.blocks w.views beside → AreShared table pool n (tip ∷ views) beside
+shared_tip table v w pool n tip lent views beside is same own made h =
+    subst (λ (l : List Viewed). AreShared table pool n (tip ∷ l) beside) same (made (shared_lent table v w lent beside is (same ∙ own) h))

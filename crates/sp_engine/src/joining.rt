@@ -1,5 +1,5 @@
 //! The steps by which a block joins the votes: the view of it with its past, the view of all blocks,
-//! and the views that it covers.
+//! and the views that it covers. A view that is held beside these stays as it is.
 
 ghost use Rattle.std.specs.Prelude.{◌≡◌, ◌<◌, ◌≤◌, ◌+◌, ◌∷◌, ℕ, List, length, filter, vec_len, vec_capacity, IfOk, OnOk};
 ghost use Rattle.sp_model.specs.Graph.{past};

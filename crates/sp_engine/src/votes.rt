@@ -1,5 +1,6 @@
 //! The votes of all present blocks: frozen ones, and rows of loose ones that the views of the tips
-//! and of all blocks share.
+//! and of all blocks share. While an arrival's blocks join, a fork of the view of all is held beside,
+//! so that it can be told which votes turned.
 
 ghost use Rattle.std.specs.Prelude.{◌≡◌, ◌≢◌, ◌<◌, ◌≤◌, ◌+◌, ◌∷◌, [], ℕ, List, length, IfOk, IfSome, IfNone, OnOk, IsTrue, IsFalse, ◌↔◌};
 ghost use Rattle.sp_bits.specs.Places.{IsGreatest};
@@ -130,8 +131,7 @@ impl Votes {
         ensures voted { AreVoted dag.now.parents self.new }
         ensures views { self.new.views ≡ self.old.views }
     {
-        let (frozen, rows) = (&self.frozen, &self.rows);
-        let pairs = changed_pairs(self.alloc, dag, self.all(), &fork, frozen, rows);
+        let pairs = changed_pairs(self.alloc, dag, self.all(), &fork, &self.frozen, &self.rows);
         fork.release(&mut self.rows);
         pairs
     }

@@ -4,7 +4,7 @@ use Rattle.sp_dag.specs.Numbered.{graph_of}
 use Rattle.sp_model.specs.Graph.{past}
 use Rattle.sp_view.specs.Views.{IsBest, Viewed}
 use Rattle.sp_engine.specs.Votes.{AreKeptIdsBy, AreOfTips, AreViews, bar_row, Grew, HoldsVotes, is_beyond, IsPut, Tallied}
-use Rattle.sp_engine.proofs.Beside.{counted, shared_after, shared_lent, shared_listed}
+use Rattle.sp_engine.proofs.Beside.{counted, shared_after, shared_lent, shared_tip}
 use Rattle.sp_engine.proofs.Covering.{few_views, grew, tips_after}
 use Rattle.sp_engine.proofs.votes.Votes.add.Goals as goal
 
@@ -42,15 +42,16 @@ new_tip-requires-clause-shared c = (
 pub put_tip-requires-clause-shared : goal.put_tip-requires-clause-shared
 put_tip-requires-clause-shared c = (
   c.requires.holds.0,
-  shared_listed c.args.dag.now.parents c.new_tip.new.rows c.new_tip.new.frozen.blocks c.in_ok-tip.tip c.as_slice-views.result.now c.reserve.new.self.items c.requires.holds.0 c.as_slice-views.ensures.value
-      (c.in_ok-tip.ensures.shared c.requires.holds.0 (shared_lent c.args.dag.now.parents (record { frozen = c.self.inside.frozen; rows = c.self.inside.rows; views = c.self.inside.views.items }) c.args.self.now c.as_slice-views.result.now c.requires.holds.0 c.self.view_is (c.as_slice-views.ensures.value ∙ c.in_ok-reserve.ensures.items) c.requires.holds.1.shared)),
+  shared_tip c.args.dag.now.parents (record { frozen = c.self.inside.frozen; rows = c.self.inside.rows; views = c.self.inside.views.items }) c.args.self.now c.new_tip.new.rows c.new_tip.new.frozen.blocks c.in_ok-tip.tip c.as_slice-views.result.now c.reserve.new.self.items c.requires.holds.0
+      c.self.view_is c.as_slice-views.ensures.value c.in_ok-reserve.ensures.items (c.in_ok-tip.ensures.shared c.requires.holds.0) c.requires.holds.1.shared,
 )
 
 pub release_within-requires : goal.release_within-requires
 release_within-requires c =
-    counted c.args.dag.now.parents c.put_tip.new.rows c.new_tip.new.frozen.blocks c.put_tip.new.views.items c.requires.holds.0
-    (c.in_ok-put_tip.ensures.shared c.requires.holds.0 (shared_listed c.args.dag.now.parents c.new_tip.new.rows c.new_tip.new.frozen.blocks c.in_ok-tip.tip c.as_slice-views.result.now c.reserve.new.self.items c.requires.holds.0 c.as_slice-views.ensures.value
-    (c.in_ok-tip.ensures.shared c.requires.holds.0 (shared_lent c.args.dag.now.parents (record { frozen = c.self.inside.frozen; rows = c.self.inside.rows; views = c.self.inside.views.items }) c.args.self.now c.as_slice-views.result.now c.requires.holds.0 c.self.view_is (c.as_slice-views.ensures.value ∙ c.in_ok-reserve.ensures.items) c.requires.holds.1.shared))))
+    let shared =
+    shared_tip c.args.dag.now.parents (record { frozen = c.self.inside.frozen; rows = c.self.inside.rows; views = c.self.inside.views.items }) c.args.self.now c.new_tip.new.rows c.new_tip.new.frozen.blocks c.in_ok-tip.tip c.as_slice-views.result.now c.reserve.new.self.items c.requires.holds.0
+    c.self.view_is c.as_slice-views.ensures.value c.in_ok-reserve.ensures.items (c.in_ok-tip.ensures.shared c.requires.holds.0) c.requires.holds.1.shared in
+    counted c.args.dag.now.parents c.put_tip.new.rows c.new_tip.new.frozen.blocks c.put_tip.new.views.items c.requires.holds.0 (c.in_ok-put_tip.ensures.shared c.requires.holds.0 shared)
 
 pub returns-clause-voted : goal.returns-clause-voted
 returns-clause-voted c =
@@ -72,8 +73,8 @@ returns-clause-voted c =
         views = c.release_within.ensures.views table c.new_tip.new.frozen.blocks c.in_ok-put_tip.ensures.views;
         shared =
             shared_after table c.put_tip.new.rows c.new_tip.new.frozen.blocks c.put_tip.new.views.items beside
-            (c.in_ok-put_tip.ensures.shared beside (shared_listed c.args.dag.now.parents c.new_tip.new.rows c.new_tip.new.frozen.blocks c.in_ok-tip.tip c.as_slice-views.result.now c.reserve.new.self.items beside c.as_slice-views.ensures.value
-            (c.in_ok-tip.ensures.shared beside (shared_lent c.args.dag.now.parents (record { frozen = c.self.inside.frozen; rows = c.self.inside.rows; views = c.self.inside.views.items }) c.args.self.now c.as_slice-views.result.now beside c.self.view_is (c.as_slice-views.ensures.value ∙ c.in_ok-reserve.ensures.items) held.shared))))
+            (c.in_ok-put_tip.ensures.shared beside (shared_tip c.args.dag.now.parents (record { frozen = c.self.inside.frozen; rows = c.self.inside.rows; views = c.self.inside.views.items }) c.args.self.now c.new_tip.new.rows c.new_tip.new.frozen.blocks c.in_ok-tip.tip c.as_slice-views.result.now c.reserve.new.self.items beside
+            c.self.view_is c.as_slice-views.ensures.value c.in_ok-reserve.ensures.items (c.in_ok-tip.ensures.shared beside) held.shared))
             c.release_within.new.rows c.release_within.new.views.items c.release_within.ensures.counts c.release_within.ensures.rows;
         tips = subst (λ (n : ℕ). AreOfTips table n c.release_within.new.views.items) (sym blocks)
             (tips_after table c.len-b.ensures.numbered.order c.len-b.ensures.numbered.small b last views c.put_tip.new.views.items c.release_within.new.views.items c.in_ok-tip.tip are put own rest);
