@@ -19,7 +19,7 @@ pub record EndsWith (n : ℕ) (views : List Viewed) (view : Viewed) : Type 0 whe
   pub is : views ≡ front ++ view ∷ []
   pub members : view.members ≡ range_with_len 0 n
 
-pub last_long : (n : ℕ) (views : List Viewed) → IsLast n views → 0 < length views
+last_long : (n : ℕ) (views : List Viewed) → IsLast n views → 0 < length views
 last_long n views last = omega (arith, ap length last.is, length-append last.front (last.all ∷ []))
 
 last_at : (front : List Viewed) (view d : Viewed) → get_or (front ++ view ∷ []) (length front) d ≡ view
@@ -36,6 +36,10 @@ ends_with n views k view last le at =
 pub record IsAtEnd (b k : ℕ) (views : List Viewed) (view : Viewed) : Type 0 where
   pub place : k + 1 ≡ length views
   pub ends : EndsWith b views view
+
+-- there is one, whatever the last block's number is
+pub some_there : (table : List (List ℕ)) (len : ℕ) (views : List Viewed) → len ≡ length table → 0 < length table → ((b : ℕ) → b + 1 ≡ length table → IsLast b views) → 0 < length views
+some_there table len views is some last = last_long (len - 1) views (last (len - 1) (omega (arith, is, some)))
 
 pub at_end : (table : List (List ℕ)) (len long : ℕ) (views : List Viewed) (view : Viewed) → len ≡ length table → 0 < length table → long ≡ length views
     → ((b : ℕ) → b + 1 ≡ length table → IsLast b views) → view ≡ get_or views (long - 1) view → IsAtEnd (len - 1) (long - 1) views view

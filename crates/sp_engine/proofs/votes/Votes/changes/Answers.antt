@@ -1,24 +1,26 @@
 use Rattle.std.proofs.Common.{◌<◌, ◌∷◌, [], ℕ, List, sym, arith, subst}
 use Rattle.std.proofs.lemmas.Result.{IfOk-weaker}
+use Rattle.sp_view.specs.Views.{Viewed}
 use Rattle.sp_engine.specs.Votes.{AreVotedBeside, IsOfAll, Tallied}
 use Rattle.sp_engine.proofs.Forked.{let_go}
 use Rattle.sp_engine.proofs.TurnedPairs.{tells}
 use Rattle.sp_engine.proofs.Voted.{all_members, below_all, is_view}
 use Rattle.sp_engine.proofs.votes.Votes.changes.Goals as goal
 
-pub changed_pairs-pairs-requires-clause-view : goal.changed_pairs-pairs-requires-clause-view
-changed_pairs-pairs-requires-clause-view c =
+pub changed_pairs-pairs-requires : goal.changed_pairs-pairs-requires
+changed_pairs-pairs-requires c =
+    let table : List (List ℕ) = c.args.dag.now.parents in
+    let view : Viewed = c.all.result.now in
     let v : Tallied = record { frozen = c.self.inside.frozen; rows = c.self.inside.rows; views = c.self.inside.views.items } in
-    let voted : AreVotedBeside c.args.dag.now.parents v (c.args.fork ∷ []) = subst (λ (w : Tallied). AreVotedBeside c.args.dag.now.parents w (c.args.fork ∷ [])) (sym c.self.view_is) c.requires in
-    let own : IsOfAll v c.all.result.now = subst (λ (w : Tallied). IsOfAll w c.all.result.now) (sym c.self.view_is) c.all.ensures in
-    is_view c.args.dag.now.parents v voted own.0 c.all.result.now own.1
-
-pub changed_pairs-pairs-requires-clause-added : goal.changed_pairs-pairs-requires-clause-added
-changed_pairs-pairs-requires-clause-added c =
-    let v : Tallied = record { frozen = c.self.inside.frozen; rows = c.self.inside.rows; views = c.self.inside.views.items } in
-    let voted : AreVotedBeside c.args.dag.now.parents v (c.args.fork ∷ []) = subst (λ (w : Tallied). AreVotedBeside c.args.dag.now.parents w (c.args.fork ∷ [])) (sym c.self.view_is) c.requires in
-    let own : IsOfAll v c.all.result.now = subst (λ (w : Tallied). IsOfAll w c.all.result.now) (sym c.self.view_is) c.all.ensures in
-    below_all c.args.dag.now.parents v voted own.0 c.all.result.now own.1
+    let voted : AreVotedBeside table v (c.args.fork ∷ []) = subst (λ (w : Tallied). AreVotedBeside table w (c.args.fork ∷ [])) (sym c.self.view_is) c.requires in
+    let own : IsOfAll v view = subst (λ (w : Tallied). IsOfAll w view) (sym c.self.view_is) c.all.ensures in
+    record {
+      view = is_view table v voted own.0 view own.1;
+      older = voted.holds.shared.sound.0;
+      frozen = voted.holds.frozen;
+      added = below_all table v voted own.0 view own.1;
+      older_added = voted.holds.shared.sound.1;
+    }
 
 pub returns-clause-told : goal.returns-clause-told
 returns-clause-told c =

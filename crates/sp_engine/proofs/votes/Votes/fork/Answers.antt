@@ -10,29 +10,28 @@ use Rattle.sp_engine.proofs.votes.Votes.fork.Goals as goal
 pub overflow_sub-last : goal.overflow_sub-last
 overflow_sub-last c = omega (arith, some_view c.args.dag.now.parents c.args.self.now c.requires, ap (λ (v : Tallied). length v.views) c.self.view_is, c.len-last.ensures, c.self.inside.views.ok.0)
 
-pub fork-requires-clause-some : goal.fork-requires-clause-some
-fork-requires-clause-some c =
+pub fork-requires : goal.fork-requires
+fork-requires c =
     let table : List (List ℕ) = c.args.dag.now.parents in
     let items : List Viewed = c.self.inside.views.items in
+    let place : ℕ = c.len-last.result - 1 in
     let v : Tallied = record { frozen = c.self.inside.frozen; rows = c.self.inside.rows; views = items } in
     let voted : AreVoted table v = subst (λ (w : Tallied). AreVoted table w) (sym c.self.view_is) c.requires in
-    let lt : c.len-last.result - 1 < length items = omega (arith, c.len-last.ensures, c.self.inside.views.ok.0, some_view table v voted) in
-    let at : slice_get items (c.len-last.result - 1) ≡ Some c.index.result.now = slice_get-get_or items (c.len-last.result - 1) c.index.result.now lt ∙ ap Some (sym c.index.ensures) in
-    (is_view table v voted (c.len-last.result - 1) c.index.result.now at).live
-
-pub fork-requires-clause-few : goal.fork-requires-clause-few
-fork-requires-clause-few c = λ r some.
-    let voted : AreVoted c.args.dag.now.parents (record { frozen = c.self.inside.frozen; rows = c.self.inside.rows; views = c.self.inside.views.items }) =
-    subst (λ (w : Tallied). AreVoted c.args.dag.now.parents w) (sym c.self.view_is) c.requires in
-    omega (arith, few_holders c.args.dag.now.parents (record { frozen = c.self.inside.frozen; rows = c.self.inside.rows; views = c.self.inside.views.items }) c.len-blocks.ensures.numbered.small voted r)
+    let lt : place < length items = omega (arith, c.len-last.ensures, c.self.inside.views.ok.0, some_view table v voted) in
+    let at : slice_get items place ≡ Some c.index.result.now = slice_get-get_or items place c.index.result.now lt ∙ ap Some (sym c.index.ensures) in
+    record {
+      some = (is_view table v voted place c.index.result.now at).live;
+      few = λ r some. omega (arith, few_holders table v c.len-blocks.ensures.numbered.small voted r);
+    }
 
 pub returns-clause-voted : goal.returns-clause-voted
 returns-clause-voted c =
     let table : List (List ℕ) = c.args.dag.now.parents in
     let items : List Viewed = c.self.inside.views.items in
+    let place : ℕ = c.len-last.result - 1 in
     let v : Tallied = record { frozen = c.self.inside.frozen; rows = c.self.inside.rows; views = items } in
     let voted : AreVoted table v = subst (λ (w : Tallied). AreVoted table w) (sym c.self.view_is) c.requires in
-    let lt : c.len-last.result - 1 < length items = omega (arith, c.len-last.ensures, c.self.inside.views.ok.0, some_view table v voted) in
-    let at : slice_get items (c.len-last.result - 1) ≡ Some c.index.result.now = slice_get-get_or items (c.len-last.result - 1) c.index.result.now lt ∙ ap Some (sym c.index.ensures) in
-    if_forked c.fork.result table v c.index.result.now c.fork.new.pool voted (is_view table v voted (c.len-last.result - 1) c.index.result.now at) (below_all table v voted (c.len-last.result - 1) c.index.result.now at)
+    let lt : place < length items = omega (arith, c.len-last.ensures, c.self.inside.views.ok.0, some_view table v voted) in
+    let at : slice_get items place ≡ Some c.index.result.now = slice_get-get_or items place c.index.result.now lt ∙ ap Some (sym c.index.ensures) in
+    if_forked c.fork.result table v c.index.result.now c.fork.new.pool voted (is_view table v voted place c.index.result.now at) (below_all table v voted place c.index.result.now at)
     c.fork.ensures.ok c.fork.ensures.counts c.fork.ensures.rows
