@@ -11,10 +11,10 @@ use Rattle.sp_engine.specs.Votes.{HoldsVotes}
 
 pub holds_none : (table : List (List ℕ)) → AreInOrder table → (frozen : FrozenRows) (rows : Pool) (views : List Viewed)
     → frozen ≡ record { blocks = 0; pluses = []; minuses = [] } → rows.rows ≡ [] → views ≡ record { members = []; entries = [] } ∷ []
-    → HoldsVotes table (record { frozen = frozen; rows = rows; views = views })
+    → HoldsVotes table (record { frozen = frozen; rows = rows; views = views }) []
 holds_none table order frozen rows views f r v =
-    subst (λ (x : FrozenRows). HoldsVotes table (record { frozen = x; rows = rows; views = views })) (sym f)
-    (subst (λ (x : List Viewed). HoldsVotes table (record { frozen = record { blocks = 0; pluses = []; minuses = [] }; rows = rows; views = x })) (sym v) (record {
+    subst (λ (x : FrozenRows). HoldsVotes table (record { frozen = x; rows = rows; views = views }) []) (sym f)
+    (subst (λ (x : List Viewed). HoldsVotes table (record { frozen = record { blocks = 0; pluses = []; minuses = [] }; rows = rows; views = x }) []) (sym v) (record {
       frozen = record {
         within = omega arith;
         few = omega arith;
@@ -23,6 +23,10 @@ holds_none table order frozen rows views f r v =
         each = λ i x y at lt. absurd (omega (arith, lt));
       };
       views = (view_nothing table rows order, (λ z h. absurd (false≢true h)), tt);
-      counts = λ row. (let none : count_of rows row ≡ 0 = subst (λ (l : List Counted). count_of (record { rows = l; spare = rows.spare }) row ≡ 0) (sym r) refl in omega (arith, none));
+      shared = record {
+        few = omega arith;
+        sound = tt;
+        counts = λ row. (let none : count_of rows row ≡ 0 = subst (λ (l : List Counted). count_of (record { rows = l; spare = rows.spare }) row ≡ 0) (sym r) refl in omega (arith, none));
+      };
       tips = record { tips = []; all = record { members = []; entries = [] }; is = refl; each = refl; members = refl };
     }))

@@ -1,5 +1,5 @@
 -- The view of all blocks, as the last of the views: it takes a new block, and the new tip's view comes before it.
-use Rattle.std.proofs.Common.{◌≡◌, ℕ, ◌+◌, ◌<◌, true, false, ◌||◌, List, [], ◌∷◌, ◌++◌, length, get_or, set, take, drop, refl, sym, ap, subst, ◌∙◌, eqb, inl, inr, arith, length-append}
+use Rattle.std.proofs.Common.{◌≡◌, ℕ, ◌+◌, ◌-◌, ◌<◌, true, false, ◌||◌, List, [], ◌∷◌, ◌++◌, length, get_or, set, take, drop, refl, sym, ap, subst, ◌∙◌, eqb, inl, inr, arith, length-append}
 use Rattle.std.specs.List.{range_with_len}
 use Rattle.std.proofs.lemmas.Bool.{cases_lt, false≢true}
 use Rattle.sp_bits.specs.Places.{places_where}
@@ -9,7 +9,7 @@ use Rattle.sp_model.specs.Graph.{has, in_past}
 use Rattle.sp_rows.specs.Pool.{Pool}
 use Rattle.sp_view.specs.Stored.{count_of, row_of}
 use Rattle.sp_view.specs.Views.{AreKeptIds, Viewed, held, IsView}
-use Rattle.sp_engine.specs.Votes.{held_by, AreViews, IsLast, IsPut}
+use Rattle.sp_engine.specs.Votes.{held_by, AreShared, AreViews, IsLast, IsPut}
 use Rattle.sp_engine.proofs.Ranges.{in_range, past_range, row_more}
 use Rattle.sp_engine.proofs.Sharing.{held_more, views_more, views_move, views_parts}
 
@@ -19,7 +19,7 @@ pub record EndsWith (n : ℕ) (views : List Viewed) (view : Viewed) : Type 0 whe
   pub is : views ≡ front ++ view ∷ []
   pub members : view.members ≡ range_with_len 0 n
 
-pub last_long : (n : ℕ) (views : List Viewed) → IsLast n views → 0 < length views
+last_long : (n : ℕ) (views : List Viewed) → IsLast n views → 0 < length views
 last_long n views last = omega (arith, ap length last.is, length-append last.front (last.all ∷ []))
 
 last_at : (front : List Viewed) (view d : Viewed) → get_or (front ++ view ∷ []) (length front) d ≡ view
@@ -31,6 +31,22 @@ ends_with n views k view last le at =
     let place : k ≡ length last.front = omega (arith, le, ap length last.is, length-append last.front (last.all ∷ [])) in
     let same : view ≡ last.all = at ∙ ap (λ (i : ℕ). get_or views i view) place ∙ ap (λ (l : List Viewed). get_or l (length last.front) view) last.is ∙ last_at last.front last.all view in
     subst (λ (v : Viewed). EndsWith n views v) (sym same) (record { front = last.front; is = last.is; members = last.members })
+
+-- what the last place of some views is, and what stands there
+pub record IsAtEnd (b k : ℕ) (views : List Viewed) (view : Viewed) : Type 0 where
+  pub place : k + 1 ≡ length views
+  pub ends : EndsWith b views view
+
+-- there is one, whatever the last block's number is
+pub some_there : (table : List (List ℕ)) (len : ℕ) (views : List Viewed) → len ≡ length table → 0 < length table → ((b : ℕ) → b + 1 ≡ length table → IsLast b views) → 0 < length views
+some_there table len views is some last = last_long (len - 1) views (last (len - 1) (omega (arith, is, some)))
+
+pub at_end : (table : List (List ℕ)) (len long : ℕ) (views : List Viewed) (view : Viewed) → len ≡ length table → 0 < length table → long ≡ length views
+    → ((b : ℕ) → b + 1 ≡ length table → IsLast b views) → view ≡ get_or views (long - 1) view → IsAtEnd (len - 1) (long - 1) views view
+at_end table len long views view is some all last at =
+    let own : IsLast (len - 1) views = last (len - 1) (omega (arith, is, some)) in
+    let place : long - 1 + 1 ≡ length views = omega (arith, all, last_long (len - 1) views own) in
+    record { place = place; ends = ends_with (len - 1) views (long - 1) view own place at }
 
 set_last : (front : List Viewed) (view new : Viewed) → set (front ++ view ∷ []) (length front) new ≡ front ++ new ∷ []
 set_last [] view new = refl
@@ -74,18 +90,24 @@ module _ (table : List (List ℕ)) (pool : Pool) (b n : ℕ) (views : List Viewe
   parts_held : (r : ℕ) → held_by (tip ∷ views) r ≡ held tip.entries r + (held_by ends.front r + held view.entries r)
   parts_held r = (let e : held_by views r ≡ held_by ends.front r + held_by (view ∷ []) r = ap (λ (l : List Viewed). held_by l r) ends.is ∙ held_more ends.front (view ∷ []) r in omega (arith, e))
 
-  module _ (pool' : Pool) (new : Viewed) (counts : (r : ℕ) → count_of pool r ≡ held_by (tip ∷ views) r)
-      (grown : (r : ℕ) → count_of pool' r + held view.entries r ≡ count_of pool r + held new.entries r) where
-    pub counts_after : (r : ℕ) → count_of pool' r ≡ held_by (ends.front ++ tip ∷ new ∷ []) r
-    counts_after r = omega (arith, counts r, grown r, parts_held r, held_more ends.front (tip ∷ new ∷ []) r)
+  module _ (pool' : Pool) (new : Viewed) (beside : List Viewed) (shared : AreShared table pool n (tip ∷ views) beside)
+      (grown : (r : ℕ) → count_of pool' r + held view.entries r ≡ count_of pool r + held new.entries r) (others : (r : ℕ) → held view.entries r < count_of pool r → row_of pool' r ≡ row_of pool r) where
+    pub shared_put : AreShared table pool' n (ends.front ++ tip ∷ new ∷ []) beside
+    shared_put = record {
+      few = shared.few;
+      sound = views_move table pool n pool' beside
+          (λ r. omega (arith, shared.counts r, grown r, parts_held r))
+          (λ r some. others r (omega (arith, some, shared.counts r, parts_held r)))
+          shared.sound;
+      counts = λ r. omega (arith, shared.counts r, grown r, parts_held r, held_more ends.front (tip ∷ new ∷ []) r);
+    }
 
-    pub views_after : ((r : ℕ) → held view.entries r < count_of pool r → row_of pool' r ≡ row_of pool r) → IsView table new pool' → ((z : ℕ) → has new.members z ≡ true → z < n)
-        → AreViews table pool' n (ends.front ++ tip ∷ new ∷ [])
-    views_after others is below =
+    pub views_after : IsView table new pool' → ((z : ℕ) → has new.members z ≡ true → z < n) → AreViews table pool' n (ends.front ++ tip ∷ new ∷ [])
+    views_after is below =
         let tips : AreViews table pool' n (tip ∷ ends.front) =
         views_move table pool n pool' (tip ∷ ends.front)
-        (λ r. omega (arith, counts r, grown r, parts_held r))
-        (λ r some. others r (omega (arith, some, counts r, parts_held r)))
+        (λ r. omega (arith, shared.counts r, grown r, parts_held r))
+        (λ r some. others r (omega (arith, some, shared.counts r, parts_held r)))
         (are.0, are.1, in_parts.0) in
         views_more table pool' n ends.front (tip ∷ new ∷ []) tips.2 (tips.0, tips.1, (is, below, tt))
 

@@ -1,5 +1,6 @@
 pub mod Ranges
 pub mod Sharing
+pub mod Beside
 pub mod Tips
 pub mod Bars
 pub mod Covered
@@ -8,6 +9,8 @@ pub mod Onward
 pub mod Ending
 pub mod Covering
 pub mod Voted
+pub mod Forked
+pub mod TurnedPairs
 pub mod Asked
 pub mod SpelledBlocks
 pub mod Presence
@@ -15,6 +18,7 @@ pub mod NumberedBlocks
 pub mod Counts
 pub mod ByIds
 pub mod CarriedBlocks
+pub mod Decided
 pub mod VotedBlocks
 pub mod WordsByNumbers
 pub mod Facts

@@ -1,8 +1,12 @@
 -- The votes stay where a block is added to the graph, before its own votes join.
-use Rattle.std.proofs.Common.{◌≡◌, ◌≤◌, ◌+◌, ℕ, zero, suc, List, [], ◌∷◌, ◌++◌, length, map, take, refl, sym, ap, subst, ◌∙◌, arith}
-use Rattle.sp_dag.specs.Numbered.{AreInOrder, Numbered}
+use Rattle.std.proofs.Common.{◌≡◌, ◌≤◌, ◌<◌, ◌+◌, ℕ, zero, suc, List, [], ◌∷◌, ◌++◌, length, map, take, Some, refl, sym, ap, subst, ◌∙◌, arith}
+use Rattle.std.specs.Prelude.{slice_get}
+use Rattle.sp_dag.specs.Numbered.{AreInOrder, graph_of, Numbered}
 use Rattle.sp_frozen.proofs.Growth.{frozen_stays}
-use Rattle.sp_engine.specs.Votes.{AreOfTips, bar_row, Grew, HoldsVotes, Tallied, tips_of}
+use Rattle.sp_model.specs.Graph.{past}
+use Rattle.sp_view.specs.Views.{IsBest, Viewed}
+use Rattle.sp_engine.specs.Votes.{AreOfTips, bar_row, Grew, HoldsVotes, IsOfTip, Tallied, tips_of}
+use Rattle.sp_engine.proofs.Beside.{shared_stays}
 use Rattle.sp_engine.proofs.Sharing.{views_stay}
 use Rattle.sp_engine.proofs.Bars.{bars_stay}
 
@@ -20,15 +24,27 @@ tips_stay table ps n v order le are = record {
   members = are.members;
 }
 
-pub votes_stay : (table more : List (List ℕ)) (ps : List ℕ) (v : Tallied) → more ≡ table ++ ps ∷ [] → AreInOrder table → AreInOrder more → v.frozen.blocks ≤ length table → HoldsVotes table v → HoldsVotes more v
-votes_stay table more ps v is order order' le h =
+pub votes_stay : (table more : List (List ℕ)) (ps : List ℕ) (v : Tallied) (beside : List Viewed) → more ≡ table ++ ps ∷ [] → AreInOrder table → AreInOrder more → v.frozen.blocks ≤ length table
+    → HoldsVotes table v beside → HoldsVotes more v beside
+votes_stay table more ps v beside is order order' le h =
     let after : AreInOrder (table ++ ps ∷ []) = subst (λ (t : List (List ℕ)). AreInOrder t) is order' in
-    subst (λ (t : List (List ℕ)). HoldsVotes t v) (sym is) (record {
+    subst (λ (t : List (List ℕ)). HoldsVotes t v beside) (sym is) (record {
       frozen = frozen_stays table ps order after v.frozen h.frozen;
       views = views_stay table v.rows v.frozen.blocks ps v.views after h.views;
-      counts = h.counts;
+      shared = shared_stays table v.rows v.frozen.blocks v.views beside h.shared ps after;
       tips = tips_stay table ps v.frozen.blocks v order le h.tips;
     })
+
+-- only the views count for how votes grew
+pub grew_by_views : (table : List (List ℕ)) (b : ℕ) (old old' new new' : Tallied) → old'.views ≡ old.views → new'.views ≡ new.views → Grew table b old new → Grew table b old' new'
+grew_by_views table b old old' new new' was now g = record {
+  all = λ view view' h h'. g.all view view' (subst (λ (l : List Viewed). (i : ℕ) × (slice_get l i ≡ Some view) × (i + 1 ≡ length l)) was h) (subst (λ (l : List Viewed). (i : ℕ) × (slice_get l i ≡ Some view') × (i + 1 ≡ length l)) now h');
+  tip = λ i base view best h. g.tip i base view (subst (λ (l : List Viewed). IsBest l (past (graph_of table) b) i base) was best) (tip_in new' new now b view h);
+  others = λ n view lt h none. tip_in new new' (sym now) n view (g.others n view lt (tip_in old' old was n view h) none);
+}
+  where
+    tip_in : (v w : Tallied) → v.views ≡ w.views → (n : ℕ) (view : Viewed) → IsOfTip table v n view → IsOfTip table w n view
+    tip_in v w same n view h = subst (λ (l : List Viewed). (i : ℕ) × (slice_get l i ≡ Some view) × (i + 1 < length l) × (view.members ≡ bar_row table n)) same h
 
 -- the first block that joins is the only one so far
 pub one_more : (before now after : Numbered) (v v' v'' : Tallied) → now ≡ before → v' ≡ v → length after.parents ≡ length now.parents + 1 → Grew after.parents (length now.parents) v' v''

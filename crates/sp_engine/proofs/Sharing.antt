@@ -57,6 +57,11 @@ module _ (table : List (List ℕ)) (pool : Pool) (n : ℕ) where
   views_stay ps [] order are = tt
   views_stay ps (v ∷ vs) order are = (view_stays table ps v pool order are.0, are.1, views_stay ps vs order are.2)
 
+  -- each view holds a row once at most
+  pub few_held_by : (views : List Viewed) (r : ℕ) → AreViews table pool n views → held_by views r ≤ length views
+  few_held_by [] r are = omega arith
+  few_held_by (v ∷ vs) r are = (let rest = few_held_by vs r are.2 in omega (arith, rest, are.0.once r))
+
 -- ---- how many rows are live
 
 -- the sum over the ids of some rows
@@ -138,8 +143,3 @@ module _ (table : List (List ℕ)) (pool : Pool) (n : ℕ) (small : length (pair
   pub few_live : (views : List Viewed) → AreRows 0 pool.rows → ((r : ℕ) → count_of pool r ≡ held_by views r) → AreViews table pool n views → live pool ≤ 261632 * length views
   few_live views sound counts are =
       omega (arith, total_counts 0 pool.rows sound, total_le (λ r. count_of pool r) (held_by views) pool.rows (λ r. omega (arith, counts r)), total_held_by views pool.rows sound are)
-
-  -- each view holds a row once at most
-  pub few_held_by : (views : List Viewed) (r : ℕ) → AreViews table pool n views → held_by views r ≤ length views
-  few_held_by [] r are = omega arith
-  few_held_by (v ∷ vs) r are = (let rest = few_held_by vs r are.2 in omega (arith, rest, are.0.once r))

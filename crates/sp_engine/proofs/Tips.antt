@@ -1,5 +1,5 @@
 -- A new block's past as the target of a view, and the other views beside the new one.
-use Rattle.std.proofs.Common.{◌≡◌, ℕ, ◌+◌, ◌<◌, Bool, true, false, ◌||◌, List, length, Option, Some, None, sym, ap, subst, ◌∙◌, eqb, arith}
+use Rattle.std.proofs.Common.{◌≡◌, ℕ, ◌+◌, ◌<◌, ◌≤◌, Bool, true, false, ◌||◌, List, length, Option, Some, None, sym, ap, subst, ◌∙◌, eqb, arith}
 use Rattle.std.proofs.lemmas.Bool.{false_from_ne_true}
 use Rattle.sp_bits.specs.Places.{IsRow, places_where}
 use Rattle.sp_bits.proofs.Sets.{places_same}
@@ -37,7 +37,7 @@ module _ (table : List (List ℕ)) (b : ℕ) (order : AreInOrder table) (lt : b 
 
 -- the other views stay where one is derived, and then grows by a block
 pub others_stay : (table : List (List ℕ)) (pool mid pool' : Pool) (n : ℕ) (views : List Viewed) (tip tip' : Viewed)
-    → ((r : ℕ) → count_of pool r ≡ held_by views r)
+    → ((r : ℕ) → held_by views r ≤ count_of pool r)
     → ((r : ℕ) → count_of mid r ≡ count_of pool r + held tip.entries r) → ((r : ℕ) → 0 < count_of pool r → row_of mid r ≡ row_of pool r)
     → ((r : ℕ) → count_of pool' r + held tip.entries r ≡ count_of mid r + held tip'.entries r) → ((r : ℕ) → held tip.entries r < count_of mid r → row_of pool' r ≡ row_of mid r)
     → AreViews table pool n views → AreViews table pool' (n + 1) views

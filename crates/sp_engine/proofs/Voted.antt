@@ -8,13 +8,13 @@ use Rattle.sp_dag.specs.Numbered.{AreInOrder}
 use Rattle.sp_model.specs.Graph.{has}
 use Rattle.sp_model.proofs.Sets.{has-filter_from}
 use Rattle.sp_view.specs.Views.{IsView, Viewed}
-use Rattle.sp_engine.specs.Votes.{AreOfTips, AreVoted, bar_row, is_tip, IsOfAll, IsOfTip, Tallied, tips_of}
+use Rattle.sp_engine.specs.Votes.{AreOfTips, AreVotedBeside, bar_row, is_tip, IsOfAll, IsOfTip, Tallied, tips_of}
 use Rattle.sp_engine.proofs.Bars.{one_top, top_of_bar}
 use Rattle.sp_engine.proofs.Covering.{all_is, of_tip, tip_view_there}
 use Rattle.sp_engine.proofs.Ranges.{in_range}
 use Rattle.sp_engine.proofs.Sharing.{view_of}
 
-module _ (table : List (List ℕ)) (v : Tallied) (voted : AreVoted table v) where
+module _ (table : List (List ℕ)) (v : Tallied) {beside : List Viewed} (voted : AreVotedBeside table v beside) where
   tips : AreOfTips table (length table) v.views
   tips = subst (λ (n : ℕ). AreOfTips table n v.views) voted.every voted.holds.tips
 

@@ -1,4 +1,5 @@
--- What contracts see of the engine, which is `Ledger`, and what it keeps: an invariant, which no public contract cites.
+-- What contracts see of the engine, which is `Ledger`, and what public contracts say of it: `IsLedger`, `is_growth`, `Stays`, `GrewByOne` and
+-- `AreNumbered`. Behind these stands what the engine keeps: an invariant, which no public contract cites.
 use Rattle.std.specs.Prelude.{ℕ, ◌≡◌, ◌≤◌, ◌<◌, ◌+◌, true, false, Bool, List, [], ◌++◌, map, length, slice_get, slice_index_or, Some, take}
 use Rattle.std.specs.List.{list_all, range_with_len}
 use Rattle.std.specs.Option.{option_map}

@@ -1,5 +1,5 @@
 -- The votes of the first blocks of a graph, as the engine keeps them: views of the tips' pasts and of all blocks, whose rows they share.
-use Rattle.std.specs.Prelude.{ℕ, true, false, ◌≡◌, ◌<◌, ◌+◌, Bool, not, List, [], ◌∷◌, ◌++◌, length, map, filter, take, slice_get, slice_index_or, Option, Some, None}
+use Rattle.std.specs.Prelude.{ℕ, true, false, ◌≡◌, ◌≤◌, ◌<◌, ◌+◌, Bool, not, List, [], ◌∷◌, ◌++◌, length, map, filter, take, slice_get, slice_index_or, Option, Some, None}
 use Rattle.std.specs.List.{list_all, list_any, range_with_len}
 use Rattle.sp_bits.specs.Places.{places_where}
 use Rattle.sp_model.specs.Graph.{Graph, has, past}
@@ -46,17 +46,28 @@ pub record AreOfTips (table : List (List ℕ)) (n : ℕ) (views : List Viewed) :
   pub each : map (λ (view : Viewed). view.members) tips ≡ map (bar_row table) (tips_of (take n table))
   pub members : all.members ≡ range_with_len 0 n
 
--- the votes of the first blocks of a table: no row is held but by the views, each as often as it is counted
-pub record HoldsVotes (table : List (List ℕ)) (v : Tallied) : Type 0 where
+-- Views of blocks below a number, one at most, that are held beside those of the votes: no row is held but by these
+-- and those, each as often as it is counted.
+pub record AreShared (table : List (List ℕ)) (pool : Pool) (n : ℕ) (views beside : List Viewed) : Type 0 where
+  pub few : length beside ≤ 1
+  pub sound : AreViews table pool n beside
+  pub counts : (row : ℕ) → count_of pool row ≡ held_by beside row + held_by views row
+
+-- the votes of the first blocks of a table, where some views are held beside
+pub record HoldsVotes (table : List (List ℕ)) (v : Tallied) (beside : List Viewed) : Type 0 where
   pub frozen : HoldsFrozen table v.frozen
   pub views : AreViews table v.rows v.frozen.blocks v.views
-  pub counts : (row : ℕ) → count_of v.rows row ≡ held_by v.views row
+  pub shared : AreShared table v.rows v.frozen.blocks v.views beside
   pub tips : AreOfTips table v.frozen.blocks v.views
 
 -- those of all its blocks
-pub record AreVoted (table : List (List ℕ)) (v : Tallied) : Type 0 where
-  pub holds : HoldsVotes table v
+pub record AreVotedBeside (table : List (List ℕ)) (v : Tallied) (beside : List Viewed) : Type 0 where
+  pub holds : HoldsVotes table v beside
   pub every : v.frozen.blocks ≡ length table
+
+-- the votes of all blocks of a table: no row is held but by the views, each as often as it is counted
+abbrev pub AreVoted : List (List ℕ) → Tallied → Type 0
+AreVoted table v = AreVotedBeside table v []
 
 -- the view of all blocks, which is the last one
 abbrev pub IsOfAll : Tallied → Viewed → Type 0

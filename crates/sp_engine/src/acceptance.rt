@@ -3,6 +3,7 @@
 
 ghost use Rattle.std.specs.Prelude.{◌≡◌, OnOk};
 ghost use Rattle.sp_accept.specs.Acceptance.{IsRight};
+ghost use Rattle.sp_accept.specs.Changes.{carriers_below, TellsChanges};
 ghost use Rattle.sp_accept.specs.Rows.{AreOf};
 ghost use Rattle.sp_engine.specs.Engine.{IsPaying, WasPaying};
 ghost use Rattle.sp_engine.specs.Votes.{AreVoted};
@@ -47,8 +48,9 @@ impl<'a> Order for VotedOrder<'a> {
     }
 }
 
-/// Decides anew on all carriers of the blocks, and turns in the purse what turned. The purse makes its
-/// room first, so that nothing fails once it is decided.
+/// Decides on the carriers that may have changed since the last decision, and turns in the purse what
+/// turned: `changed` has the pairs of blocks on which the votes turned, and `from` is the number of the
+/// first new carrier. The purse makes its room first, so that nothing fails once it is decided.
 ///
 /// # Errors
 ///
@@ -57,11 +59,16 @@ pub(crate) fn accept_all(
     dag: &Dag,
     votes: &Votes,
     carriers: &Carriers,
+    changed: &[(u16, u16)],
+    from: u32,
     accepted: &mut Accepted,
     purse: &mut Purse,
 ) -> Result<(), Memory>
     requires voted { AreVoted dag.now.parents votes.now }
     requires of { AreOf dag.now.parents carriers.now }
+    requires right { IsRight dag.now.parents carriers.now accepted.old }
+    requires first { from ≡ carriers_below carriers.now.rows accepted.old.blocks }
+    requires told { TellsChanges dag.now.parents accepted.old.blocks changed.now }
     requires paying { WasPaying carriers.now accepted.old purse.old }
     ensures right { OnOk result (IsRight dag.now.parents carriers.now accepted.new) }
     ensures all { OnOk result (accepted.new.blocks ≡ carriers.now.blocks) }
@@ -71,7 +78,7 @@ pub(crate) fn accept_all(
     let _blocks = carriers.block_count();
     let order = VotedOrder { dag, votes };
     purse.prepare(carriers)?;
-    let flips = accepted.rebuild(&order, carriers)?;
+    let flips = accepted.update(&order, carriers, changed, from)?;
     purse.apply(carriers, flips.as_slice());
     Ok(())
 }

@@ -1,12 +1,13 @@
 //! The engine: the kept blocks, the graph of the present ones, the votes of all of them, which of
-//! their transactions are accepted, and what these leave under each lock.
+//! their transactions are accepted, and what these leave under each lock. The calls on transactions
+//! and on what they leave stand apart, in `money`.
 
-ghost use Rattle.std.specs.Prelude.{◌≡◌, ◌≤◌, ◌<◌, ◌+◌, ◌++◌, ◌∷◌, [], ◌==◌, ℕ, false, find, length, slice_get, Some, IfNone, IfOk, IfSome, OnOk, is_err, ◌↔◌, IsFalse, IsTrue};
+ghost use Rattle.std.specs.Prelude.{◌≡◌, ◌≤◌, ◌<◌, ◌+◌, ◌++◌, ◌∷◌, [], ◌==◌, ℕ, false, find, length, slice_get, Some, IfNone, IfOk, IfSome, OnOk, is_err, IsFalse, IsTrue};
 ghost use Rattle.std.specs.List.{range_with_len};
 ghost use Rattle.std.specs.Option.{option_copied};
 ghost use Rattle.sp_ids.specs.Bits.{BeginsWithZeros};
 ghost use Rattle.sp_block.specs.Block.{IsGenesis, IsOther};
-ghost use Rattle.sp_model.specs.Graph.{has, AreDistinct};
+ghost use Rattle.sp_model.specs.Graph.{has};
 ghost use Rattle.sp_model.specs.Votes.{word};
 ghost use Rattle.sp_pool.specs.Kept.{AreKept, graph_of, present, standing_of};
 ghost use Rattle.sp_pool.specs.declared.answers.Standing.{Standing};
@@ -17,23 +18,21 @@ ghost use Rattle.sp_view.specs.Views.{IsView};
 ghost use Rattle.sp_engine.specs.Arrivals.{answer_of, joined, kept_after};
 ghost use Rattle.sp_engine.specs.Presence.{order_of};
 ghost use Rattle.sp_engine.specs.declared.answer.Answer.TheVariants.{Kept};
-ghost use Rattle.sp_engine.specs.Transactions.{balance_by_id, ledger_by_id, ledger_of, locks, state_of, tx_ids};
-ghost use Rattle.sp_carry.specs.declared.state.TxState.{TxState};
-ghost use Rattle.sp_carry.specs.Ledger.{is_accepted, is_carried, state, IsPlain};
-ghost use Rattle.sp_carry.specs.Money.{balance};
+
+mod money;
 
 use crate::acceptance::accept_all;
 use crate::answer::{Answer, Refusal};
 use crate::first::first_of;
-use crate::numbering::add_all;
+use crate::numbering::join_all;
 use crate::valid::valid_block;
 use crate::votes::Votes;
 use sp_accept::Accepted;
 use sp_block::Block;
-use sp_carry::{Carriers, TxState};
+use sp_carry::Carriers;
 use sp_dag::Dag;
 use sp_frozen::Frozen;
-use sp_ids::{BlockId, Lock, Memory, TxId};
+use sp_ids::{BlockId, Memory};
 use sp_model::Word;
 use sp_money::Purse;
 use sp_pool::{Offer, Pool, Standing};
@@ -121,8 +120,9 @@ impl Engine {
     /// finds room. They are refused by their first fault or for their work; else the block is
     /// known, else there is no room for it, else it is kept, and waits or is present.
     ///
-    /// A block that becomes present takes the time of its own votes and of those that it changes, and
-    /// of one pass over all transactions.
+    /// A block that becomes present takes the time of its own votes and of those that it changes. An
+    /// arrival that makes blocks present takes eight counts for each pair besides, which tell the votes
+    /// that turned, and the time of the carriers that these and the new blocks may turn.
     ///
     /// # Errors
     ///
@@ -181,7 +181,8 @@ impl Engine {
         match self.pool.offer(block)? {
             Offer::Present(ids) => {
                 let ids = ids.as_slice();
-                add_all(
+                let from = self.carriers.carrier_count();
+                let changed = join_all(
                     &self.pool,
                     &mut self.dag,
                     &mut self.votes,
@@ -194,6 +195,8 @@ impl Engine {
                     &self.dag,
                     &self.votes,
                     &self.carriers,
+                    changed.as_slice(),
+                    from,
                     &mut self.accepted,
                     &mut self.purse,
                 )?;
@@ -227,104 +230,6 @@ impl Engine {
             return Word::Same;
         }
         self.votes.word(&self.dag, first, second)
-    }
-
-    /// What the present blocks say of a transaction: accepted, rejected, or carried by none of them.
-    /// It stands ready, so it takes about the time of a look-up by hash, and no memory.
-    ///
-    /// The transaction of an id is the first one that has it, in order of presence and then of place.
-    /// Where no two different transactions of the present blocks have one id, which would take two
-    /// inputs of one SHA-256, each is its own.
-    pub fn tx_state(&self, id: &TxId) -> TxState
-        requires { self.now.broken ≡ false }
-        ensures value { result ≡ state_of self.now.kept id.now }
-        ensures absent { (result ≡ TxState.Absent) ↔
-            IsFalse (is_carried (ledger_of self.now.kept) (present self.now.kept) id.now) }
-        ensures state { IsPlain (ledger_of self.now.kept) (present self.now.kept) →
-            result ≡ state (ledger_of self.now.kept) (present self.now.kept) id.now }
-    {
-        match self.carriers.tx_of(id) {
-            None => TxState::Absent,
-            Some(tx) => {
-                if self.accepted.is_accepted(tx) {
-                    TxState::Accepted
-                } else {
-                    TxState::Rejected
-                }
-            }
-        }
-    }
-
-    /// How many transactions the present blocks carry, from 0 to 131,072. One that several of them
-    /// carry counts once. What stands of the list of their ids stands here, for each caller.
-    pub fn tx_count(&self) -> u32
-        requires { self.now.broken ≡ false }
-        ensures count { result ≡ length (tx_ids self.now.kept) }
-        ensures ids { (id : ℕ) → has (tx_ids self.now.kept) id
-            ≡ is_carried (ledger_of self.now.kept) (present self.now.kept) id }
-        ensures once { AreDistinct (tx_ids self.now.kept) }
-        ensures few { result ≤ 131072 }
-    {
-        self.carriers.tx_count()
-    }
-
-    /// The id of the transaction of this number, and whether it is accepted. Transactions are
-    /// numbered from 0 in the order in which their blocks became present, and in a block in that of
-    /// their places. It takes a bounded number of steps.
-    ///
-    /// The transaction of an id is the first one that has it, as in `tx_state`.
-    pub fn tx_at(&self, i: u32) -> (TxId, bool)
-        requires whole { self.now.broken ≡ false }
-        requires within { i < length (tx_ids self.now.kept) }
-        ensures id { slice_get (tx_ids self.now.kept) i ≡ Some result.0 }
-        ensures value { result.1 ≡
-            is_accepted (ledger_by_id self.now.kept) (present self.now.kept) result.0 }
-        ensures accepted { IsPlain (ledger_of self.now.kept) (present self.now.kept) →
-            result.1 ≡ is_accepted (ledger_of self.now.kept) (present self.now.kept) result.0 }
-    {
-        (self.carriers.tx_id(i), self.accepted.is_accepted(i))
-    }
-
-    /// What is left under a lock: the sum of the amounts of all outputs with this lock whose
-    /// transaction is accepted and which no accepted transaction spends; 0 where there is none. It
-    /// stands ready, so it takes about the time of a look-up in an ordered map, and no memory.
-    ///
-    /// The transaction of an id is the first one that has it, as in `tx_state`.
-    pub fn balance(&self, lock: &Lock) -> u128
-        requires { self.now.broken ≡ false }
-        ensures value { result ≡ balance_by_id self.now.kept lock.now }
-        ensures balance { IsPlain (ledger_of self.now.kept) (present self.now.kept) →
-            result ≡ balance (ledger_of self.now.kept) (present self.now.kept) lock.now }
-    {
-        self.purse.balance(lock)
-    }
-
-    /// How many different locks the outputs of the present blocks' transactions have, from 0 to
-    /// 2,097,152. What stands of their list stands here, for each caller: each lock under which
-    /// anything is left is among them.
-    pub fn lock_count(&self) -> u32
-        requires { self.now.broken ≡ false }
-        ensures count { result ≡ length (locks self.now.kept) }
-        ensures once { AreDistinct (locks self.now.kept) }
-        ensures paid { (lock : ℕ) → has (locks self.now.kept) lock ≡ false →
-            balance_by_id self.now.kept lock ≡ 0 }
-        ensures few { result ≤ 2097152 }
-    {
-        self.purse.lock_count()
-    }
-
-    /// The lock of this number, and what is left under it. Locks are numbered from 0 in the order of
-    /// the transactions whose outputs have them, and then in that of the outputs. It takes a bounded
-    /// number of steps.
-    pub fn lock_at(&self, i: u32) -> (Lock, u128)
-        requires whole { self.now.broken ≡ false }
-        requires within { i < length (locks self.now.kept) }
-        ensures lock { slice_get (locks self.now.kept) i ≡ Some result.0 }
-        ensures value { result.1 ≡ balance_by_id self.now.kept result.0 }
-        ensures balance { IsPlain (ledger_of self.now.kept) (present self.now.kept) →
-            result.1 ≡ balance (ledger_of self.now.kept) (present self.now.kept) result.0 }
-    {
-        self.purse.lock_at(i)
     }
 
     /// How many blocks are present, from 1 to 512. What stands of their order stands here, for each

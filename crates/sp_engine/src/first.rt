@@ -136,6 +136,7 @@ fn first_accepted(
 {
     let mut accepted = Accepted::new(alloc);
     let mut purse = Purse::new(alloc);
-    accept_all(dag, votes, carriers, &mut accepted, &mut purse)?;
+    // Nothing was decided before.
+    accept_all(dag, votes, carriers, &[], 0, &mut accepted, &mut purse)?;
     Ok((accepted, purse))
 }

@@ -1,13 +1,13 @@
 //! The steps by which a block joins the votes: the view of it with its past, the view of all blocks,
-//! and the views that it covers.
+//! and the views that it covers. A view that is held beside these stays as it is.
 
 ghost use Rattle.std.specs.Prelude.{◌≡◌, ◌<◌, ◌≤◌, ◌+◌, ◌∷◌, ℕ, List, length, filter, vec_len, vec_capacity, IfOk, OnOk};
 ghost use Rattle.sp_model.specs.Graph.{past};
 ghost use Rattle.sp_dag.specs.Numbered.{graph_of};
 ghost use Rattle.sp_frozen.specs.Voters.{HoldsFrozen};
-ghost use Rattle.sp_view.specs.Stored.{count_of};
+ghost use Rattle.sp_view.specs.Stored.{count_of, row_of};
 ghost use Rattle.sp_view.specs.Views.{Viewed, IsBest};
-ghost use Rattle.sp_engine.specs.Votes.{AreKeptIdsBy, AreViews, bar_row, held_by, is_beyond, IsLast, IsPut};
+ghost use Rattle.sp_engine.specs.Votes.{AreKeptIdsBy, AreShared, AreViews, bar_row, held_by, is_beyond, IsLast, IsPut};
 
 use sp_bits::Row;
 use sp_dag::Dag;
@@ -28,14 +28,16 @@ pub(crate) fn new_tip(
     requires next { length dag.now.parents ≡ frozen.old.blocks + 1 }
     requires frozen { HoldsFrozen dag.now.parents frozen.old }
     requires views { AreViews dag.now.parents rows.old frozen.old.blocks views.now }
-    requires counts { (row : ℕ) → count_of rows.old row ≡ held_by views.now row }
+    requires shared { (beside : List Viewed) ×
+        AreShared dag.now.parents rows.old frozen.old.blocks views.now beside }
     requires few { length views.now ≤ 512 }
     ensures frozen { OnOk result (HoldsFrozen dag.now.parents frozen.new) }
     ensures blocks { OnOk result (frozen.new.blocks ≡ frozen.old.blocks + 1) }
     ensures views { IfOk result (λ tip.
         AreViews dag.now.parents rows.new frozen.new.blocks (tip ∷ views.now)) }
-    ensures counts { IfOk result (λ tip. (row : ℕ) →
-        count_of rows.new row ≡ held_by (tip ∷ views.now) row) }
+    ensures shared { IfOk result (λ tip. (beside : List Viewed) →
+        AreShared dag.now.parents rows.old frozen.old.blocks views.now beside →
+        AreShared dag.now.parents rows.new frozen.new.blocks (tip ∷ views.now) beside) }
     ensures members { IfOk result (λ tip.
         tip.members ≡ bar_row dag.now.parents frozen.old.blocks) }
     ensures kept { IfOk result (λ tip. (i : ℕ) (base : Viewed) →
@@ -72,15 +74,17 @@ pub(crate) fn put_tip(
     requires next { length dag.now.parents ≡ frozen.now.blocks }
     requires frozen { HoldsFrozen dag.now.parents frozen.now }
     requires views { AreViews dag.now.parents rows.old frozen.now.blocks (tip ∷ views.old.items) }
-    requires counts { (row : ℕ) → count_of rows.old row ≡ held_by (tip ∷ views.old.items) row }
+    requires shared { (beside : List Viewed) ×
+        AreShared dag.now.parents rows.old frozen.now.blocks (tip ∷ views.old.items) beside }
     requires few { vec_len views.old ≤ 512 }
     requires last { (b : ℕ) → b + 1 ≡ length dag.now.parents → IsLast b views.old.items }
     ensures put { OnOk result ((b : ℕ) → b + 1 ≡ length dag.now.parents →
         IsPut dag.now.parents b views.old.items tip views.new.items) }
     ensures views { OnOk result
         (AreViews dag.now.parents rows.new frozen.now.blocks views.new.items) }
-    ensures counts { OnOk result ((row : ℕ) →
-        count_of rows.new row ≡ held_by views.new.items row) }
+    ensures shared { OnOk result ((beside : List Viewed) →
+        AreShared dag.now.parents rows.old frozen.now.blocks (tip ∷ views.old.items) beside →
+        AreShared dag.now.parents rows.new frozen.now.blocks views.new.items beside) }
 {
     // Tell the proof that there are at most 512 blocks and 130,816 pairs, and what rows are.
     let b = dag.len() - 1;
@@ -97,11 +101,14 @@ pub(crate) fn put_tip(
 
 /// Lets the views go that lie within a past.
 pub(crate) fn release_within(views: &mut Vec<View>, rows: &mut RowPool, past: &Row)
-    requires { (row : ℕ) → count_of rows.old row ≡ held_by views.old.items row }
+    requires { (row : ℕ) → held_by views.old.items row ≤ count_of rows.old row }
     ensures rest { views.new.items ≡ filter (is_beyond past.now) views.old.items }
     ensures views { (table : List (List ℕ)) (n : ℕ) → AreViews table rows.old n views.old.items →
         AreViews table rows.new n views.new.items }
-    ensures counts { (row : ℕ) → count_of rows.new row ≡ held_by views.new.items row }
+    ensures counts { (row : ℕ) → count_of rows.new row + held_by views.old.items row
+        ≡ count_of rows.old row + held_by views.new.items row }
+    ensures rows { (row : ℕ) → 0 < count_of rows.new row →
+        row_of rows.new row ≡ row_of rows.old row }
 {
     let mut i = 0;
     'views: while i < views.len() {

@@ -10,6 +10,7 @@
 
 mod acceptance;
 mod answer;
+mod changes;
 mod engine;
 mod first;
 mod joining;

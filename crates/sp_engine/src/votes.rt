@@ -1,14 +1,18 @@
 //! The votes of all present blocks: frozen ones, and rows of loose ones that the views of the tips
-//! and of all blocks share.
+//! and of all blocks share. While an arrival's blocks join, a fork of the view of all is held beside,
+//! so that it can be told which votes turned.
 
-ghost use Rattle.std.specs.Prelude.{◌≡◌, ◌≢◌, ◌<◌, ◌≤◌, ◌+◌, ℕ, List, length, IfOk, IfSome, IfNone, OnOk, IsTrue, IsFalse, ◌↔◌};
+ghost use Rattle.std.specs.Prelude.{◌≡◌, ◌≢◌, ◌<◌, ◌≤◌, ◌+◌, ◌∷◌, [], ℕ, List, length, IfOk, IfSome, IfNone, OnOk, IsTrue, IsFalse, ◌↔◌};
 ghost use Rattle.sp_bits.specs.Places.{IsGreatest};
 ghost use Rattle.sp_model.specs.Votes.{virt, word_of};
 ghost use Rattle.sp_dag.specs.Numbered.{graph_of, AreInOrder};
-ghost use Rattle.sp_view.specs.Views.{IsView};
+ghost use Rattle.sp_view.specs.Views.{IsView, Viewed};
+ghost use Rattle.sp_accept.specs.Acceptance.{first_blocks};
+ghost use Rattle.sp_accept.specs.Changes.{TellsChanges};
 ghost use Rattle.sp_engine.specs.Engine.{numbers};
-ghost use Rattle.sp_engine.specs.Votes.{AreVoted, Grew, HoldsVotes, IsOfAll, IsOfTip, is_tip};
+ghost use Rattle.sp_engine.specs.Votes.{AreVoted, AreVotedBeside, Grew, HoldsVotes, IsOfAll, IsOfTip, is_tip};
 
+use crate::changes::changed_pairs;
 use crate::joining::{new_tip, put_tip, release_within};
 use crate::words::{related_word, word_by};
 use sp_bits::Row;
@@ -57,7 +61,7 @@ impl Votes {
     /// Memory was refused.
     pub(crate) fn new(alloc: Global) -> Result<Votes, Memory>
         ensures holds { IfOk result (λ votes. (table : List (List ℕ)) → AreInOrder table →
-            HoldsVotes table votes) }
+            HoldsVotes table votes []) }
         ensures blocks { IfOk result (λ votes. votes.frozen.blocks ≡ 0) }
     {
         let mut views = Vec::new(alloc);
@@ -70,15 +74,18 @@ impl Votes {
         })
     }
 
-    /// Adds the last block of a graph, whose other blocks were added.
+    /// Adds the last block of a graph, whose other blocks were added. A view that is held beside
+    /// stays one.
     ///
     /// # Errors
     ///
     /// Memory was refused.
     pub(crate) fn add(&mut self, dag: &Dag) -> Result<(), Memory>
-        requires holds { HoldsVotes dag.now.parents self.old }
+        requires holds { (beside : List Viewed) × HoldsVotes dag.now.parents self.old beside }
         requires next { length dag.now.parents ≡ self.old.frozen.blocks + 1 }
-        ensures voted { OnOk result (AreVoted dag.now.parents self.new) }
+        ensures voted { OnOk result ((beside : List Viewed) →
+            HoldsVotes dag.now.parents self.old beside →
+            AreVotedBeside dag.now.parents self.new beside) }
         ensures grew { OnOk result
             (Grew dag.now.parents self.old.frozen.blocks self.old self.new) }
     {
@@ -90,6 +97,43 @@ impl Votes {
         put_tip(&mut self.views, dag, &self.frozen, &mut self.rows, tip)?;
         release_within(&mut self.views, &mut self.rows, dag.past(b));
         Ok(())
+    }
+
+    /// The view of all blocks, to be held beside while more blocks join.
+    ///
+    /// # Errors
+    ///
+    /// Memory was refused.
+    pub(crate) fn fork(&mut self, dag: &Dag) -> Result<View, Memory>
+        requires { AreVoted dag.now.parents self.old }
+        ensures voted { IfOk result (λ fork.
+            AreVotedBeside dag.now.parents self.new (fork ∷ [])) }
+        ensures members { IfOk result (λ fork.
+            fork.members ≡ first_blocks (length dag.now.parents)) }
+        ensures views { OnOk result (self.new.views ≡ self.old.views) }
+    {
+        // Tells the proof that there are at most 512 blocks.
+        let _blocks = dag.len();
+        let last = self.views.len() - 1;
+        self.views[last].fork(&mut self.rows)
+    }
+
+    /// The pairs of a fork's blocks on which all blocks have another virtual vote than those did, and
+    /// maybe more. The fork is let go, whatever is answered.
+    ///
+    /// # Errors
+    ///
+    /// Memory was refused.
+    pub(crate) fn changes(&mut self, dag: &Dag, fork: View) -> Result<Vec<(u16, u16)>, Memory>
+        requires { AreVotedBeside dag.now.parents self.old (fork ∷ []) }
+        ensures told { IfOk result (λ pairs. (n : ℕ) → fork.members ≡ first_blocks n →
+            TellsChanges dag.now.parents n pairs.items) }
+        ensures voted { AreVoted dag.now.parents self.new }
+        ensures views { self.new.views ≡ self.old.views }
+    {
+        let pairs = changed_pairs(self.alloc, dag, self.all(), &fork, &self.frozen, &self.rows);
+        fork.release(&mut self.rows);
+        pairs
     }
 
     /// The frozen votes, lent as they stand.

@@ -6,7 +6,8 @@ use Rattle.sp_view.specs.Views.{AreKeptIds, IsBest, Viewed}
 use Rattle.sp_view.proofs.Listing.{view_listed}
 use Rattle.sp_view.proofs.Members.{more_parts}
 use Rattle.sp_engine.specs.Votes.{AreKeptIdsBy, AreViews, bar_row}
-use Rattle.sp_engine.proofs.Sharing.{few_held_by, few_live, held_one, view_of, views_move}
+use Rattle.sp_engine.proofs.Beside.{counted, few_counted, few_live_beside, shared_derived, shared_grown, shared_up}
+use Rattle.sp_engine.proofs.Sharing.{view_of, views_move}
 use Rattle.sp_engine.proofs.Tips.{kept_by_two, others_stay, past_and_block, past_asked, past_lower, past_there, past_without}
 use Rattle.sp_engine.proofs.joining.new_tip.Goals as goal
 
@@ -14,13 +15,10 @@ pub derive-requires-clause-views : goal.derive-requires-clause-views
 derive-requires-clause-views c = λ i view at. (view_of c.args.dag.now.parents c.args.rows.now c.args.frozen.now.blocks c.args.views.now i view c.requires.views at).0
 
 pub derive-requires-clause-counts : goal.derive-requires-clause-counts
-derive-requires-clause-counts c = λ i view at r.
-    let small : length (pairs_of c.args.dag.now.parents) ≤ 130816 = omega (arith, c.pair_count-pairs.ensures.value, c.pair_count-pairs.ensures.bound) in
+derive-requires-clause-counts c = λ i view at r some.
     omega (
       arith,
-      c.requires.counts r,
-      held_one c.args.views.now i view r at,
-      few_held_by c.args.dag.now.parents c.args.rows.now c.args.frozen.now.blocks small c.args.views.now r c.requires.views,
+      few_counted c.args.dag.now.parents c.args.rows.now c.args.frozen.now.blocks c.args.views.now c.requires.shared.0 c.requires.shared.1 c.requires.views r,
       c.requires.few,
     )
 
@@ -38,7 +36,11 @@ derive-requires-clause-added c = λ z h.
 pub derive-requires-clause-few : goal.derive-requires-clause-few
 derive-requires-clause-few c =
     let small : length (pairs_of c.args.dag.now.parents) ≤ 130816 = omega (arith, c.pair_count-pairs.ensures.value, c.pair_count-pairs.ensures.bound) in
-    omega (arith, few_live c.args.dag.now.parents c.args.rows.now c.args.frozen.now.blocks small c.args.views.now c.live-live.ensures.rows c.requires.counts c.requires.views, c.requires.few)
+    omega (
+      arith,
+      few_live_beside c.args.dag.now.parents c.args.rows.now c.args.frozen.now.blocks c.args.views.now c.requires.shared.0 c.requires.shared.1 small c.requires.views c.live-live.ensures.rows,
+      c.requires.few,
+    )
 
 pub past_votes-requires-clause-listed : goal.past_votes-requires-clause-listed
 past_votes-requires-clause-listed c =
@@ -71,20 +73,24 @@ add-requires-2-clause-past c =
 
 pub add-requires-2-clause-few : goal.add-requires-2-clause-few
 add-requires-2-clause-few c =
-    let small : length (pairs_of c.args.dag.now.parents) ≤ 130816 = omega (arith, c.pair_count-pairs.ensures.value, c.pair_count-pairs.ensures.bound) in
+    let table : List (List ℕ) = c.args.dag.now.parents in
+    let small : length (pairs_of table) ≤ 130816 = omega (arith, c.pair_count-pairs.ensures.value, c.pair_count-pairs.ensures.bound) in
     let tip : Viewed = c.in_ok-tip.tip in
-    let lower = past_lower c.args.dag.now.parents (c.len-b.result - 1) c.len-b.ensures.numbered.order (omega (arith, c.len-b.ensures.value, c.len-b.ensures.numbered.some)) tip.members
+    let lower = past_lower table (c.len-b.result - 1) c.len-b.ensures.numbered.order (omega (arith, c.len-b.ensures.value, c.len-b.ensures.numbered.some)) tip.members
     (c.in_ok-tip.ensures.members ∙ c.past-past.ensures) in
-    let others : AreViews c.args.dag.now.parents c.derive.new.pool c.args.frozen.now.blocks c.args.views.now =
-    views_move c.args.dag.now.parents c.args.rows.now c.args.frozen.now.blocks c.derive.new.pool c.args.views.now
-    (λ r. omega (arith, c.requires.counts r, c.in_ok-tip.ensures.counts r))
-    (λ r some. c.in_ok-tip.ensures.rows r (omega (arith, some, c.requires.counts r)))
+    let shared = c.requires.shared.1 in
+    let others : AreViews table c.derive.new.pool c.args.frozen.now.blocks c.args.views.now =
+    views_move table c.args.rows.now c.args.frozen.now.blocks c.derive.new.pool c.args.views.now
+    (λ r. omega (arith, shared.counts r, c.in_ok-tip.ensures.counts r))
+    (λ r some. c.in_ok-tip.ensures.rows r (omega (arith, some, shared.counts r)))
     c.requires.views in
     omega (
       arith,
-      few_live c.args.dag.now.parents c.derive.new.pool c.args.frozen.now.blocks small (tip ∷ c.args.views.now) c.live-derived.ensures.rows
-          (λ r. omega (arith, c.requires.counts r, c.in_ok-tip.ensures.counts r))
-          (c.in_ok-tip.ensures.ok, (λ z h. (let less : z < c.len-b.result - 1 = lower z h in omega (arith, less, c.requires.next, c.len-b.ensures.value))), others),
+      few_live_beside table c.derive.new.pool c.args.frozen.now.blocks (tip ∷ c.args.views.now) c.requires.shared.0
+          (shared_derived table c.args.rows.now c.args.frozen.now.blocks c.args.views.now c.requires.shared.0 shared c.derive.new.pool tip c.in_ok-tip.ensures.counts c.in_ok-tip.ensures.rows)
+          small
+          (c.in_ok-tip.ensures.ok, (λ z h. (let less : z < c.len-b.result - 1 = lower z h in omega (arith, less, c.requires.next, c.len-b.ensures.value))), others)
+          c.live-derived.ensures.rows,
       c.requires.few,
     )
 
@@ -104,8 +110,18 @@ returns-clause-views c =
           ]),
       subst (λ (n : ℕ). AreViews table c.add-2.new.pool n c.args.views.now) (let e : c.args.frozen.now.blocks + 1 ≡ c.add.new.self.blocks = omega (arith, c.in_ok-add.ensures.blocks, c.requires.next, c.len-b.ensures.value, c.len-b.ensures.numbered.some) in e)
           (others_stay table c.args.rows.now c.derive.new.pool c.add-2.new.pool c.args.frozen.now.blocks c.args.views.now tip c.add-2.new.self
-          c.requires.counts c.in_ok-tip.ensures.counts c.in_ok-tip.ensures.rows c.in_ok-add-2.ensures.counts c.in_ok-add-2.ensures.others c.requires.views),
+          (counted table c.args.rows.now c.args.frozen.now.blocks c.args.views.now c.requires.shared.0 c.requires.shared.1) c.in_ok-tip.ensures.counts c.in_ok-tip.ensures.rows c.in_ok-add-2.ensures.counts c.in_ok-add-2.ensures.others c.requires.views),
     )
+
+pub returns-clause-shared : goal.returns-clause-shared
+returns-clause-shared c = λ beside shared.
+    let table : List (List ℕ) = c.args.dag.now.parents in
+    let n : ℕ = c.args.frozen.now.blocks in
+    let views : List Viewed = c.args.views.now in
+    let tip : Viewed = c.in_ok-tip.tip in
+    let derived = shared_derived table c.args.rows.now n views beside shared c.derive.new.pool tip c.in_ok-tip.ensures.counts c.in_ok-tip.ensures.rows in
+    let grown = shared_grown table c.derive.new.pool n views beside tip c.add-2.new.self c.add-2.new.pool derived c.in_ok-add-2.ensures.counts c.in_ok-add-2.ensures.others in
+    shared_up table c.add-2.new.pool n (c.add-2.new.self ∷ views) beside grown c.add.new.self.blocks (omega (arith, c.in_ok-add.ensures.blocks, c.requires.next, c.len-b.ensures.value))
 
 pub returns-clause-members : goal.returns-clause-members
 returns-clause-members c =

@@ -11,7 +11,7 @@ pub release-requires : goal.release-requires
 release-requires c = λ r.
     let lt : c.views.i < length c.views.views.items = omega (arith, c.views-test.true, c.len.ensures, c.views.views.ok) in
     let same : held (get_or c.views.views.items c.views.i c.remove.result).entries r ≡ held c.remove.result.entries r = ap (λ (v : Viewed). held v.entries r) (sym c.remove.ensures.value) in
-    omega (arith, same, c.views.invariant.counts r, held_without c.views.views.items c.remove.new.self.items c.views.i c.remove.result c.remove.ensures.by_index.2 lt r)
+    omega (arith, same, c.requires r, c.views.invariant.counts r, held_without c.views.views.items c.remove.new.self.items c.views.i c.remove.result c.remove.ensures.by_index.2 lt r)
 
 pub views-preserved-then-within : goal.views-preserved-then-within
 views-preserved-then-within c =
@@ -25,7 +25,8 @@ views-preserved-then-within c =
       place = omega (arith, c.views-test.true, c.len.ensures, c.remove.ensures.len);
       rest = without_it (is_beyond c.args.past.now) c.args.views.now.items xs c.remove.new.self.items c.views.i c.index.result.now c.remove.ensures.by_index.2 lt within c.views.invariant.rest;
       views = λ table n are. views_without xs c.remove.new.self.items c.views.i c.remove.result c.remove.ensures.by_index.2 lt table c.views.rows c.release.new.pool n
-          (λ r. omega (arith, same r, counts r, c.views.invariant.counts r, c.release.ensures.counts r))
-          (λ r some. c.release.ensures.rows r (omega (arith, some, same r, counts r, c.views.invariant.counts r, c.release.ensures.counts r))) (c.views.invariant.views table n are);
+          (λ r. omega (arith, c.requires r, same r, counts r, c.views.invariant.counts r, c.release.ensures.counts r))
+          (λ r some. c.release.ensures.rows r (omega (arith, some, c.requires r, same r, counts r, c.views.invariant.counts r, c.release.ensures.counts r))) (c.views.invariant.views table n are);
       counts = λ r. omega (arith, same r, counts r, c.views.invariant.counts r, c.release.ensures.counts r);
+      rows = λ r some. c.release.ensures.rows r some ∙ c.views.invariant.rows r (omega (arith, some, c.release.ensures.counts r));
     }

@@ -4,6 +4,7 @@ use Rattle.sp_dag.specs.Numbered.{graph_of}
 use Rattle.sp_model.specs.Graph.{past}
 use Rattle.sp_view.specs.Views.{IsBest, Viewed}
 use Rattle.sp_engine.specs.Votes.{AreKeptIdsBy, AreOfTips, AreViews, bar_row, Grew, HoldsVotes, is_beyond, IsPut, Tallied}
+use Rattle.sp_engine.proofs.Beside.{counted, shared_after, shared_lent, shared_tip}
 use Rattle.sp_engine.proofs.Covering.{few_views, grew, tips_after}
 use Rattle.sp_engine.proofs.votes.Votes.add.Goals as goal
 
@@ -11,7 +12,7 @@ pub new_tip-requires-clause-few : goal.new_tip-requires-clause-few
 new_tip-requires-clause-few c =
     let table : List (List ℕ) = c.args.dag.now.parents in
     let views : List Viewed = c.self.inside.views.items in
-    let are : AreOfTips table c.self.inside.frozen.blocks views = subst (λ (v : Tallied). AreOfTips table v.frozen.blocks v.views) (sym c.self.view_is) c.requires.holds.tips in
+    let are : AreOfTips table c.self.inside.frozen.blocks views = subst (λ (v : Tallied). AreOfTips table v.frozen.blocks v.views) (sym c.self.view_is) c.requires.holds.1.tips in
     let next : length table ≡ c.self.inside.frozen.blocks + 1 = c.requires.next ∙ ap (λ (v : Tallied). v.frozen.blocks + 1) (sym c.self.view_is) in
     let lent : length c.as_slice-views.result.now ≡ length views = ap length (c.as_slice-views.ensures.value ∙ c.in_ok-reserve.ensures.items) in
     omega (arith, lent, next, few_views table c.self.inside.frozen.blocks views are (omega (arith, next)), c.len-b.ensures.value, c.len-b.ensures.numbered.small)
@@ -20,7 +21,7 @@ pub put_tip-requires-clause-few : goal.put_tip-requires-clause-few
 put_tip-requires-clause-few c =
     let table : List (List ℕ) = c.args.dag.now.parents in
     let views : List Viewed = c.self.inside.views.items in
-    let are : AreOfTips table c.self.inside.frozen.blocks views = subst (λ (v : Tallied). AreOfTips table v.frozen.blocks v.views) (sym c.self.view_is) c.requires.holds.tips in
+    let are : AreOfTips table c.self.inside.frozen.blocks views = subst (λ (v : Tallied). AreOfTips table v.frozen.blocks v.views) (sym c.self.view_is) c.requires.holds.1.tips in
     let next : length table ≡ c.self.inside.frozen.blocks + 1 = c.requires.next ∙ ap (λ (v : Tallied). v.frozen.blocks + 1) (sym c.self.view_is) in
     omega (
       arith,
@@ -32,6 +33,26 @@ put_tip-requires-clause-few c =
       c.len-b.ensures.numbered.small,
     )
 
+pub new_tip-requires-clause-shared : goal.new_tip-requires-clause-shared
+new_tip-requires-clause-shared c = (
+  c.requires.holds.0,
+  shared_lent c.args.dag.now.parents (record { frozen = c.self.inside.frozen; rows = c.self.inside.rows; views = c.self.inside.views.items }) c.args.self.now c.as_slice-views.result.now c.requires.holds.0 c.self.view_is (c.as_slice-views.ensures.value ∙ c.in_ok-reserve.ensures.items) c.requires.holds.1.shared,
+)
+
+pub put_tip-requires-clause-shared : goal.put_tip-requires-clause-shared
+put_tip-requires-clause-shared c = (
+  c.requires.holds.0,
+  shared_tip c.args.dag.now.parents (record { frozen = c.self.inside.frozen; rows = c.self.inside.rows; views = c.self.inside.views.items }) c.args.self.now c.new_tip.new.rows c.new_tip.new.frozen.blocks c.in_ok-tip.tip c.as_slice-views.result.now c.reserve.new.self.items c.requires.holds.0
+      c.self.view_is c.as_slice-views.ensures.value c.in_ok-reserve.ensures.items (c.in_ok-tip.ensures.shared c.requires.holds.0) c.requires.holds.1.shared,
+)
+
+pub release_within-requires : goal.release_within-requires
+release_within-requires c =
+    let shared =
+    shared_tip c.args.dag.now.parents (record { frozen = c.self.inside.frozen; rows = c.self.inside.rows; views = c.self.inside.views.items }) c.args.self.now c.new_tip.new.rows c.new_tip.new.frozen.blocks c.in_ok-tip.tip c.as_slice-views.result.now c.reserve.new.self.items c.requires.holds.0
+    c.self.view_is c.as_slice-views.ensures.value c.in_ok-reserve.ensures.items (c.in_ok-tip.ensures.shared c.requires.holds.0) c.requires.holds.1.shared in
+    counted c.args.dag.now.parents c.put_tip.new.rows c.new_tip.new.frozen.blocks c.put_tip.new.views.items c.requires.holds.0 (c.in_ok-put_tip.ensures.shared c.requires.holds.0 shared)
+
 pub returns-clause-voted : goal.returns-clause-voted
 returns-clause-voted c =
     let table : List (List ℕ) = c.args.dag.now.parents in
@@ -41,16 +62,20 @@ returns-clause-voted c =
     let at_b : c.self.inside.frozen.blocks ≡ b = omega (arith, next, c.len-b.ensures.value) in
     let last : b + 1 ≡ length table = omega (arith, next, at_b) in
     let blocks : c.new_tip.new.frozen.blocks ≡ b + 1 = omega (arith, c.in_ok-tip.ensures.blocks, at_b) in
-    let are : AreOfTips table b views = subst (λ (n : ℕ). AreOfTips table n views) at_b (subst (λ (v : Tallied). AreOfTips table v.frozen.blocks v.views) (sym c.self.view_is) c.requires.holds.tips) in
+    let are : AreOfTips table b views = subst (λ (n : ℕ). AreOfTips table n views) at_b (subst (λ (v : Tallied). AreOfTips table v.frozen.blocks v.views) (sym c.self.view_is) c.requires.holds.1.tips) in
     let put : IsPut table b views c.in_ok-tip.tip c.put_tip.new.views.items =
     subst (λ (l : List Viewed). IsPut table b l c.in_ok-tip.tip c.put_tip.new.views.items) c.in_ok-reserve.ensures.items (c.in_ok-put_tip.ensures.put b last) in
     let own : c.in_ok-tip.tip.members ≡ bar_row table b = c.in_ok-tip.ensures.members ∙ ap (bar_row table) at_b in
     let rest = c.release_within.ensures.rest ∙ ap (λ (l : List ℕ). filter (is_beyond l) c.put_tip.new.views.items) c.past.ensures in
-    record {
+    λ beside held. record {
       holds = record {
         frozen = c.in_ok-tip.ensures.frozen;
         views = c.release_within.ensures.views table c.new_tip.new.frozen.blocks c.in_ok-put_tip.ensures.views;
-        counts = c.release_within.ensures.counts;
+        shared =
+            shared_after table c.put_tip.new.rows c.new_tip.new.frozen.blocks c.put_tip.new.views.items beside
+            (c.in_ok-put_tip.ensures.shared beside (shared_tip c.args.dag.now.parents (record { frozen = c.self.inside.frozen; rows = c.self.inside.rows; views = c.self.inside.views.items }) c.args.self.now c.new_tip.new.rows c.new_tip.new.frozen.blocks c.in_ok-tip.tip c.as_slice-views.result.now c.reserve.new.self.items beside
+            c.self.view_is c.as_slice-views.ensures.value c.in_ok-reserve.ensures.items (c.in_ok-tip.ensures.shared beside) held.shared))
+            c.release_within.new.rows c.release_within.new.views.items c.release_within.ensures.counts c.release_within.ensures.rows;
         tips = subst (λ (n : ℕ). AreOfTips table n c.release_within.new.views.items) (sym blocks)
             (tips_after table c.len-b.ensures.numbered.order c.len-b.ensures.numbered.small b last views c.put_tip.new.views.items c.release_within.new.views.items c.in_ok-tip.tip are put own rest);
       };
@@ -65,7 +90,8 @@ returns-clause-grew c =
     let next : length table ≡ c.self.inside.frozen.blocks + 1 = c.requires.next ∙ ap (λ (v : Tallied). v.frozen.blocks + 1) (sym c.self.view_is) in
     let at_b : c.self.inside.frozen.blocks ≡ b = omega (arith, next, c.len-b.ensures.value) in
     let last : b + 1 ≡ length table = omega (arith, next, at_b) in
-    let old : HoldsVotes table (record { frozen = c.self.inside.frozen; rows = c.self.inside.rows; views = views }) = subst (λ (v : Tallied). HoldsVotes table v) (sym c.self.view_is) c.requires.holds in
+    let old : HoldsVotes table (record { frozen = c.self.inside.frozen; rows = c.self.inside.rows; views = views }) c.requires.holds.0 =
+    subst (λ (v : Tallied). HoldsVotes table v c.requires.holds.0) (sym c.self.view_is) c.requires.holds.1 in
     let are : AreOfTips table b views = subst (λ (n : ℕ). AreOfTips table n views) at_b old.tips in
     let sound : AreViews table c.self.inside.rows b views = subst (λ (n : ℕ). AreViews table c.self.inside.rows n views) at_b old.views in
     let put : IsPut table b views c.in_ok-tip.tip c.put_tip.new.views.items =
