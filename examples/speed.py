@@ -75,7 +75,8 @@ RUNS = [
     payments("500 blocks in step, children first", lambda: feeds.children_first(500)),
     *paid_and_unpaid("500 blocks as drawn", graphs.drawn(500, 1, 4), lambda: feeds.paid(graphs.drawn(500, 1, 4))),
     payments("1000 spends that turn 25 times", lambda: feeds.turning(250, 4, 49, True)),
-    payments("1000 spends that turn 25 times, without them", lambda: feeds.turning(250, 4, 49, False)),
+    payments("4000 spends that turn 25 times", lambda: feeds.turning(250, 16, 49, True)),
+    payments("the blocks of these spends, without them", lambda: feeds.turning(250, 4, 49, False)),
 ]
 
 
