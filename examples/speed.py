@@ -1,80 +1,131 @@
 #!/usr/bin/env python3
-"""Times the program on feeds and drills of hundreds of blocks, each five times, and prints the best
-time and the most memory. It runs the program that bin/spectre has built, not the script, which looks
-at the sources first. Run it from anywhere; SPECTRE names another program."""
+"""Times the program on drills and feeds of hundreds of blocks.
 
-import hashlib
+    python3 examples/speed.py [--instructions] [WORD]
+
+Each run is made five times, and one that takes longer than five seconds twice. What is printed is the
+least time of a processor in which the program and the system for it were at work, and the most memory;
+less than about 10 MB of memory isn't seen. With `--instructions` the program's instructions are counted,
+too, by valgrind, which takes some fifty times as long. With a WORD only those runs are made whose name has
+it, as `votes`, `payments` or `spends`.
+
+Each answer to a feed is checked (timing/answers.py): that each block is kept and present, and of payments,
+which are accepted, by what is worked out by hand in timing/feeds.py, and what is left under each lock. The
+feeds: timing/feeds.py has the payments, timing/graphs.py the graphs. Behind the runs stands what payments
+cost, which is the difference between the same graph with and without them, and with which exponent it
+grows where the blocks are twice as many.
+
+The program is the one that bin/spectre has built, and not that script, which looks at the sources first.
+This can be run from anywhere; SPECTRE names another program.
+"""
+
+import argparse
+import math
 import os
-import struct
-import subprocess
+import pathlib
 import sys
-import time
 
-TOP = os.path.dirname(os.path.dirname(os.path.abspath(__file__)))
-SPECTRE = os.environ.get("SPECTRE", os.path.join(TOP, "crates", "spectre", "out", "spectre"))
-GENESIS = bytes([1]) + bytes(19)
+sys.dont_write_bytecode = True
 
+from timing import feeds, graphs
+from timing.answers import check
+from timing.runs import instructions, run
 
-def block(salt, parents):
-    """The bytes of a block without transactions."""
-    head = bytes([1]) + struct.pack("<Q", salt) + bytes(8) + bytes([len(parents)])
-    return head + b"".join(sorted(parents)) + bytes(2)
-
-
-def feed(count, parents_of):
-    """The feed of so many blocks; parents_of says the numbers of a block's parents, 0 being genesis."""
-    ids = [hashlib.sha256(GENESIS).digest()]
-    frames = [b"SPCTRF01\0" + b"B" + struct.pack("<I", len(GENESIS)) + GENESIS]
-    for number in range(1, count + 1):
-        text = block(number, {ids[parent] for parent in parents_of(number)})
-        ids.append(hashlib.sha256(text).digest())
-        frames.append(b"B" + struct.pack("<I", len(text)) + text)
-    return b"".join(frames) + b"E" + bytes(4)
+TOP = pathlib.Path(__file__).resolve().parent.parent
+SPECTRE = os.environ.get("SPECTRE") or str(TOP / "crates/spectre/out/spectre")
+LONG = 5  # seconds
+COUNTS = (125, 250, 500)
 
 
-def crowd(number):
-    """341 blocks on genesis, and 170 on 64 of these each."""
-    if number <= 341:
-        return [0]
-    return [(number * 7 + step * 5) % 341 + 1 for step in range(64)]
+def drill(*numbers):
+    return f"votes: drill {' '.join(map(str, numbers))}", ["drill", *map(str, numbers)], None
 
 
-def layers(number):
-    """Layers of 64, each block on all of the layer below."""
-    layer = (number - 1) // 64
-    return [0] if layer == 0 else range((layer - 1) * 64 + 1, layer * 64 + 1)
+def votes(name, graph):
+    return f"votes: {name}", ["replay"], lambda: feeds.unpaid(graph)
+
+
+def payments(name, build):
+    return f"payments: {name}", ["replay"], build
+
+
+def paid_and_unpaid(name, graph, paid):
+    """The same graph with payments and without."""
+    return [payments(name, paid), payments(f"{name}, without them", lambda: feeds.unpaid(graph))]
+
+
+def step(count):
+    return f"{count} blocks in step"
 
 
 RUNS = [
-    ("drill 128 1 4", ["drill", "128", "1", "4"], b""),
-    ("drill 300 7 4", ["drill", "300", "7", "4"], b""),
-    ("drill 511 1 4", ["drill", "511", "1", "4"], b""),
-    ("drill 511 1 16", ["drill", "511", "1", "16"], b""),
-    ("511 blocks on genesis", ["replay"], feed(511, lambda number: [0])),
-    ("two chains of 255 and 256", ["replay"], feed(511, lambda number: [max(0, number - 2)])),
-    ("341 blocks on genesis, 170 on 64 of them each", ["replay"], feed(511, crowd)),
-    ("layers of 64, each on all of the one below", ["replay"], feed(511, layers)),
+    drill(128, 1, 4),
+    drill(300, 7, 4),
+    drill(511, 1, 4),
+    drill(511, 1, 16),
+    votes("511 blocks on genesis", graphs.star(511)),
+    votes("two chains of 255 and 256", graphs.two_chains(511)),
+    votes("341 blocks on genesis, 170 on 64 of them each", graphs.crowd(511)),
+    votes("layers of 64, each on all of the one below", graphs.layers(511)),
+    *(
+        each
+        for count in COUNTS
+        for each in paid_and_unpaid(step(count), graphs.in_step(count), lambda count=count: feeds.paid_in_step(count))
+    ),
+    payments("500 blocks in step, children first", lambda: feeds.children_first(500)),
+    *paid_and_unpaid("500 blocks as drawn", graphs.drawn(500, 1, 4), lambda: feeds.paid(graphs.drawn(500, 1, 4))),
+    payments("1000 spends that turn 25 times", lambda: feeds.turning(250, 4, 49, True)),
+    payments("4000 spends that turn 25 times", lambda: feeds.turning(250, 16, 49, True)),
+    payments("the blocks of these spends, without them", lambda: feeds.turning(250, 4, 49, False)),
 ]
 
 
-def run(words, text):
-    """The seconds and the most kilobytes of one run."""
-    began = time.monotonic()
-    child = subprocess.Popen([SPECTRE] + words, stdin=subprocess.PIPE, stdout=subprocess.DEVNULL)
-    child.stdin.write(text)
-    child.stdin.close()
-    _, status, usage = os.wait4(child.pid, 0)
-    if status != 0:
-        sys.exit(f"{words} ended with {status}")
-    return time.monotonic() - began, usage.ru_maxrss
+def measured(words, text):
+    """The least seconds and the most memory of some runs, and the answers of the last one."""
+    runs = [run(words, text)]
+    while len(runs) < (2 if runs[0].seconds > LONG else 5):
+        runs.append(run(words, text))
+    return min(each.seconds for each in runs), max(each.memory for each in runs), runs[-1].answers
+
+
+def growth(costs):
+    """The exponent with which the last cost of these grew, when the blocks were twice as many."""
+    return f", exponent {math.log2(costs[-1] / costs[-2]):.2f}" if len(costs) > 1 and min(costs[-2:]) > 0 else ""
+
+
+def show_differences(results, unit):
+    """What payments cost, by what each run took."""
+    costs = []
+    for count in COUNTS:
+        name = f"payments: {step(count)}"
+        if results.keys() >= {name, f"{name}, without them"}:
+            costs.append(results[name] - results[f"{name}, without them"])
+            print(f"{step(count)}: payments take {costs[-1]:,.3f} {unit}{growth(costs)}")
 
 
 def main():
-    for name, words, text in RUNS:
-        runs = [run(words, text) for _ in range(5)]
-        seconds = min(taken for taken, _ in runs)
-        memory = max(most for _, most in runs)
-        print(f"{name}: {seconds:.3f} s, {memory / 1024:.0f} MB")
+    parser = argparse.ArgumentParser(description="Times the program on hundreds of blocks.")
+    parser.add_argument("--instructions", action="store_true", help="count instructions, too, by valgrind")
+    parser.add_argument("word", nargs="?", default="", help="make only the runs whose name has this word")
+    given = parser.parse_args()
+    seconds, counted = {}, {}
+    for name, words, build in RUNS:
+        if given.word not in name:
+            continue
+        feed = build() if build else None
+        command, text = [SPECTRE, *words], feed.text if feed else b""
+        seconds[name], memory, answers = measured(command, text)
+        line = f"{name}: {seconds[name]:.3f} s, {memory / 1024:.0f} MB"
+        if given.instructions:
+            counted[name] = instructions(command, text) / 1e6
+            line += f", {counted[name]:,.1f} million instructions"
+        if feed and feed.ledger.txs:
+            line += ", {} accepted, {} rejected".format(*check(feed, answers))
+        elif feed:
+            check(feed, answers)
+        print(line, flush=True)
+    show_differences(seconds, "s")
+    show_differences(counted, "million instructions")
 
 
 if __name__ == "__main__":

@@ -1,0 +1,141 @@
+"""Feeds of many blocks, each with the lines that answer it."""
+
+from dataclasses import dataclass, field
+
+from .graphs import in_step, pasts
+from .payer import CARRIED, GRANTED, GRANTS, Payer, payee, spending
+from .texts import block, frame, head, sha256, transaction
+
+
+@dataclass
+class Ledger:
+    """The blocks of a graph, genesis first, and their transactions by id."""
+
+    blocks: list = field(default_factory=list)
+    ids: list = field(default_factory=list)
+    txs: dict = field(default_factory=dict)
+
+    def add(self, parents, txs=()):
+        made = block(len(self.blocks), [self.ids[parent] for parent in parents], txs)
+        self.blocks.append(made)
+        self.ids.append(sha256(made))
+        self.txs.update((tx.id, tx) for tx in txs)
+
+
+@dataclass
+class Feed:
+    """The bytes, the lines of the answer up to the report, and what the report is on: the ledger, and the
+    ids of the accepted transactions where they were worked out by hand."""
+
+    text: bytes
+    lines: list
+    ledger: Ledger
+    accepted: object = None
+
+
+def plain(graph):
+    """The graph without transactions."""
+    ledger = Ledger()
+    for parents in graph:
+        ledger.add(parents)
+    return ledger
+
+
+def payments(graph):
+    """The blocks of the graph with 100 transactions each, and the second spends, with their rivals."""
+    ledger, payer = Ledger(), Payer()
+    ledger.add([], payer.grants())
+    for parents, past in list(zip(graph, pasts(graph)))[1:]:
+        ledger.add(parents, payer.next(past))
+    assert len(ledger.txs) == GRANTS + CARRIED * (len(graph) - 1)
+    return ledger, payer.seconds
+
+
+def accepted_in_step(ledger, seconds):
+    """Which transactions are accepted in the end where the graph is `in_step`.
+
+    Say x and y = x + 3 carry the two spends. When y comes, x - 3 to x - 1 have y above them and not x, so
+    they vote for y: y is first, and the second spend is accepted. x + 4 sees x and not y, and puts x first;
+    x + 5 and x + 6 see the same, and what comes later sees the votes of these: x stays first, and the first
+    spend is accepted with all that spends it. So of all second spends the last one alone is accepted,
+    in whose place its rival isn't. (Blocks 2 to 4 rival block 1: a tie until block 5 comes, on 1.)"""
+    lost = {second.id for second, _ in seconds[:-1]} | {seconds[-1][1].id}
+    return ledger.txs.keys() - lost
+
+
+def sent(ledger, order, answers, asked=None):
+    """The feed that sends the blocks in this order, which are answered so, and ends with a report. Behind
+    the blocks that `asked` names comes a question on a transaction, with its answer."""
+    frames, lines = [head(ledger.blocks[0])], []
+    for number in order:
+        frames.append(frame(b"B", ledger.blocks[number]))
+        lines.append(f"kept {ledger.ids[number].hex()} {answers.get(number, 'present 1')}")
+        if asked and number in asked:
+            tx, state = asked[number]
+            frames.append(frame(b"T", tx))
+            lines.append(f"tx {tx.hex()} {state}")
+    return b"".join(frames) + frame(b"R") + frame(b"E"), lines
+
+
+def in_order(ledger, accepted=None, asked=None):
+    """The feed of the blocks in their order, each of which is present at once."""
+    return Feed(*sent(ledger, range(1, len(ledger.blocks)), {}, asked), ledger, accepted)
+
+
+def children_first(count):
+    """The blocks of `in_step` with their payments in reverse order. Blocks 4 to 2 are present at once, and
+    with block 1, which comes last, all others are."""
+    ledger, seconds = payments(in_step(count))
+    answers = {number: "waiting" for number in range(5, count + 1)} | {1: f"present {count - 3}"}
+    text, lines = sent(ledger, range(count, 0, -1), answers)
+    return Feed(text, lines, ledger, accepted_in_step(ledger, seconds))
+
+
+def turning(length, width, turns, is_paying):
+    """A tree of spends of which the first one turns.
+
+    Blocks 1 and 2 on genesis spend one grant, the first into `width` coins. Block 3 stands on both, and on
+    it a chain of `length` blocks in all. Each carries `width` transactions, each of which spends what the
+    one at its place in the block below paid: length * width of them. All these blocks see both 1 and 2,
+    and nothing that decides between them, so they vote for neither. Then the side blocks come, in two
+    chains, on 1 and on 2: one on 1, two on 2, two on 1, two on 2 and so on. Of the side blocks, counted
+    from 0, the one with number k leaves block 1 ahead by 1 where k is 0 modulo 4, behind by 1 where it is
+    2, and a tie where it is odd. So with each that is 0 modulo 4 all spends are accepted, and with the next
+    one all are rejected. A question on the last of them stands behind each side block."""
+    ledger = Ledger()
+
+    def add(parents, *txs):
+        ledger.add(parents, txs if is_paying else ())
+        return len(ledger.blocks) - 1
+
+    grant = transaction([], [(GRANTED, b"payer")])
+    first = transaction(grant.coins, [(GRANTED // width - 1, payee(place)) for place in range(width)])
+    second = transaction(grant.coins, [(GRANTED - 1, payee(width))])
+    add([], grant)
+    add([0], first)
+    add([0], second)
+    coins, below = first.coins, [1, 2]
+    for number in range(length):
+        txs = [spending(coin, width * number + place, False) for place, coin in enumerate(coins)]
+        coins, below = [tx.coins[0] for tx in txs], [add(below, *txs)]
+    tops, asked = [1, 2], {}
+    for side in range(turns):
+        on = (side + 1) // 2 % 2
+        tops[on] = add([tops[on]])
+        asked[tops[on]] = coins[-1].tx, "accepted" if side % 4 == 0 else "rejected"
+    assert turns % 4 == 1
+    return in_order(ledger, ledger.txs.keys() - {second.id}, asked if is_paying else None)
+
+
+def paid_in_step(count):
+    ledger, seconds = payments(in_step(count))
+    return in_order(ledger, accepted_in_step(ledger, seconds))
+
+
+def paid(graph):
+    """The payments of any graph; which ones are accepted isn't worked out."""
+    return in_order(payments(graph)[0])
+
+
+def unpaid(graph):
+    return in_order(plain(graph))

@@ -1,0 +1,58 @@
+"""Graphs: the numbers of each block's parents, those of genesis, which is block 0, first."""
+
+
+def star(count):
+    """All on genesis."""
+    return [[], *([0] for _ in range(count))]
+
+
+def two_chains(count):
+    """Each on the last but one."""
+    return [[], *([max(0, block - 2)] for block in range(1, count + 1))]
+
+
+def crowd(count):
+    """341 on genesis, and all others on 64 of these each."""
+    upper = ([(block * 7 + step * 5) % 341 + 1 for step in range(64)] for block in range(342, count + 1))
+    return [[], *([0] for _ in range(341)), *upper]
+
+
+def layers(count):
+    """Layers of 64, each block on all of the layer below."""
+    below = (range((block - 1) // 64 * 64 - 63, (block - 1) // 64 * 64 + 1) for block in range(65, count + 1))
+    return [[], *([0] for _ in range(64)), *(list(each) for each in below)]
+
+
+def in_step(count):
+    """Four blocks are under way at any time: each sees all but the three before it, and stands on the tips
+    of what it sees. So block n is on n - 7 to n - 4, the first four are on genesis, and n stands side by
+    side with n - 3 to n + 3 alone."""
+    return [[], *([0] if block <= 4 else list(range(max(1, block - 7), block - 3)) for block in range(1, count + 1))]
+
+
+def draws(state):
+    """What a seed draws, one number after another (docs/FORMATS.md, "Scenarios from numbers")."""
+    while True:
+        state = (state * 6364136223846793005 + 1442695040888963407) % 2**64
+        yield state >> 32
+
+
+def drawn(count, seed, width):
+    """That of `make count seed width`: each on one or two drawn among the last blocks."""
+    graph, numbers = [[]], draws(seed)
+    for block in range(1, count + 1):
+        among = range(max(0, block - width), block)
+        picked = {among[next(numbers) % len(among)] for _ in range(2)} if len(among) > 1 else among
+        graph.append(sorted(picked))
+    return graph
+
+
+def pasts(graph):
+    """The past of each block, as a number with a bit for each block in it."""
+    found = []
+    for parents in graph:
+        past = 0
+        for parent in parents:
+            past |= found[parent] | 1 << parent
+        found.append(past)
+    return found
