@@ -1,8 +1,7 @@
 //! Graphs that are drawn, and the orders in which their blocks can come.
 
-ghost use Rattle.std.specs.Prelude.{◌≤◌, ◌<◌, ◌+◌};
-
 use sp_bits::Row;
+use sp_fixtures::Numbered;
 use std::alloc::Global;
 use std::test::Fail;
 
@@ -13,35 +12,35 @@ fn next(state: u64) -> u64 {
         .wrapping_add(1_442_695_040_888_963_407)
 }
 
-/// Adds so many drawn ones of the candidates to the parents, and answers the state behind that.
-fn draw_parents(parents: &mut Row, lowest: u64, count: u64, draws: u64, first: u64) -> u64
-    requires some { 0 < count }
-    requires few { lowest + count ≤ 512 }
-{
+/// Adds so many drawn ones of the latest blocks to the parents of one, and answers the state behind
+/// that.
+fn draw_parents(parents: &mut Row, number: u64, width: u64, draws: u64, first: u64) -> u64 {
     let mut state = first;
     for _ in 0..draws {
         state = next(state);
-        parents.set((lowest + (state >> 32) % count) as u16);
+        let back = (state >> 32) % width.min(number).max(1);
+        parents.set(
+            (number
+                .saturating_sub(width.min(number))
+                .saturating_add(back)
+                % 512) as u16,
+        );
     }
     state
 }
 
 /// The parents of each block by its number, those of the generator for these words: two are drawn of
 /// the latest blocks, and one that is alone is taken.
-pub(crate) fn made(alloc: Global, blocks: u64, seed: u64, width: u64) -> Result<Vec<Row>, Fail>
-    requires few { blocks ≤ 511 }
-    requires wide { 1 ≤ width }
-{
+pub(crate) fn made(alloc: Global, blocks: u64, seed: u64, width: u64) -> Result<Vec<Row>, Fail> {
     let mut graph = Vec::new(alloc);
     graph.push(Row::empty())?;
     let mut state = seed;
     for number in 1..=blocks {
-        let lowest = number.saturating_sub(width);
         let mut parents = Row::empty();
-        if number - lowest == 1 {
-            parents.set(lowest as u16);
+        if number == 1 || width == 1 {
+            let _same = draw_parents(&mut parents, number, 1, 1, state);
         } else {
-            state = draw_parents(&mut parents, lowest, number - lowest, 2, state);
+            state = draw_parents(&mut parents, number, width, 2, state);
         }
         graph.push(parents)?;
     }
@@ -55,23 +54,33 @@ pub(crate) fn bushy(
     seed: u64,
     width: u64,
     most: u64,
-) -> Result<Vec<Row>, Fail>
-    requires few { blocks ≤ 511 }
-    requires wide { 1 ≤ width }
-    requires most { 1 ≤ most }
-{
+) -> Result<Vec<Row>, Fail> {
     let mut graph = Vec::new(alloc);
     graph.push(Row::empty())?;
     let mut state = seed;
     for number in 1..=blocks {
-        let lowest = number.saturating_sub(width);
         let mut parents = Row::empty();
         state = next(state);
-        let draws = (state >> 32) % most + 1;
-        state = draw_parents(&mut parents, lowest, number - lowest, draws, state);
+        let draws = (state >> 32) % most.max(1) + 1;
+        state = draw_parents(&mut parents, number, width, draws, state);
         graph.push(parents)?;
     }
     Ok(graph)
+}
+
+/// The blocks of a graph, by the parents of each.
+pub(crate) fn blocks_of(alloc: Global, graph: &[Row]) -> Result<Numbered, Fail> {
+    let mut blocks = Numbered::of(alloc, &[])?;
+    for parents in graph.iter().skip(1) {
+        let mut numbers = Vec::new(alloc);
+        for number in 0..512u16 {
+            if parents.test(number) {
+                numbers.push(number as usize)?;
+            }
+        }
+        blocks.add(&numbers)?;
+    }
+    Ok(blocks)
 }
 
 /// Which of the blocks whose parents all came comes next.
