@@ -6,7 +6,7 @@ ghost use Rattle.sp_tests_views.specs.Voting.{CanVote};
 
 use crate::counts::{are_counted, count_view};
 use crate::engines::{come, engine_of, view_at};
-use crate::graphs::{Order, blocks_of, bushy, made, ordered};
+use crate::graphs::{Shape, blocks_of, drawn, ordered};
 use crate::rows::right;
 use crate::signs::{are_inside, are_turned, changes, has_votes, past_votes, plain_of};
 use crate::voters::{are_frozen, are_held};
@@ -18,7 +18,6 @@ use sp_frozen::Frozen;
 use sp_rows::RowPool;
 use sp_view::View;
 use std::alloc::Global;
-use std::process::Abort;
 use std::test::Fail;
 
 /// Whether a view votes as the plain votes of its members say.
@@ -129,66 +128,40 @@ fn wrong(
     Ok("")
 }
 
-fn wrong_in(alloc: Global, graph: &[Row], order: Order, seed: u64) -> Result<&'static str, Fail> {
+fn wrong_in(alloc: Global, graph: &[Row], order: u8, seed: u64) -> Result<&'static str, Fail> {
     let blocks = blocks_of(alloc, graph)?;
     let numbers = ordered(alloc, graph, order, seed)?;
+    if numbers.len().saturating_add(1) != graph.len() {
+        return Ok("the order");
+    }
     let mut engine = engine_of(alloc, &blocks)?;
     let wrong = wrong(alloc, &mut engine, &blocks, &numbers);
     drop(engine);
     wrong
 }
 
-const ORDERS: [Order; 3] = [Order::Lowest, Order::Highest, Order::Drawn];
-
-fn each_order(
-    rt: &impl Abort,
-    alloc: Global,
-    row: usize,
-    graph: &[Row],
-    seed: u64,
-) -> Result<(), Fail> {
-    for order in ORDERS {
-        right(rt, row, wrong_in(alloc, graph, order, seed)?);
-    }
-    Ok(())
+/// What is wrong with a drawn graph in one of the three orders.
+fn wrong_of(alloc: Global, shape: &Shape, order: u8) -> Result<&'static str, Fail> {
+    let graph = drawn(alloc, shape)?;
+    wrong_in(alloc, &graph, order, shape.1)
 }
 
-/// Of each graph how many blocks it has, the seed, how many of the latest blocks are drawn from, and
-/// how many parents at most.
-const GRAPHS: &[(u64, u64, u64, u64)] = &[
-    (8, 1, 8, 3),
-    (10, 2, 4, 2),
-    (12, 3, 12, 6),
-    (14, 4, 5, 3),
-    (16, 5, 16, 2),
-    (16, 6, 6, 6),
-    (18, 7, 18, 8),
-    (18, 8, 3, 2),
-    (20, 9, 20, 1),
-    (20, 10, 8, 4),
-    (20, 11, 20, 12),
-    (22, 12, 7, 6),
-    (22, 13, 22, 2),
-    (24, 14, 10, 3),
-    (24, 15, 24, 6),
-    (26, 16, 6, 2),
-    (28, 17, 12, 5),
-    (30, 18, 30, 3),
-    (36, 19, 9, 6),
-    (40, 20, 16, 6),
+#[rattlefmt::skip]
+const GRAPHS: &[Shape] = &[
+    (8, 1, 8, 3), (10, 2, 4, 2), (12, 3, 12, 6), (14, 4, 5, 3), (16, 5, 16, 2),
+    (16, 6, 6, 6), (18, 7, 18, 8), (18, 8, 3, 2), (20, 9, 20, 1), (20, 10, 8, 4),
+    (20, 11, 20, 12), (22, 12, 7, 6), (22, 13, 22, 2), (24, 14, 10, 3), (24, 15, 24, 6),
+    (26, 16, 6, 2), (28, 17, 12, 5), (30, 18, 30, 3), (36, 19, 9, 6), (40, 20, 16, 6),
+    // That of `make 24 5 3`.
+    (24, 5, 3, 0),
 ];
 
 #[test]
-fn bushy_graphs(rt: HostRuntime) -> Result<(), Fail> {
-    for (row, (blocks, seed, width, most)) in GRAPHS.iter().enumerate() {
-        let graph = bushy(rt.alloc(), *blocks, *seed, *width, *most)?;
-        each_order(&rt, rt.alloc(), row, &graph, *seed)?;
+fn each_graph_in_three_orders(rt: HostRuntime) -> Result<(), Fail> {
+    for (row, shape) in GRAPHS.iter().enumerate() {
+        for order in 0..3u8 {
+            right(&rt, row, wrong_of(rt.alloc(), shape, order)?);
+        }
     }
     Ok(())
-}
-
-#[test]
-fn the_made_graph(rt: HostRuntime) -> Result<(), Fail> {
-    let graph = made(rt.alloc(), 24, 5, 3)?;
-    each_order(&rt, rt.alloc(), 0, &graph, 5)
 }
