@@ -1,5 +1,5 @@
 -- Two views over one pool, where one of them comes, goes or grows.
-use Rattle.std.proofs.Common.{◌≡◌, ℕ, ◌+◌, ◌<◌, ◌≤◌, List, [], sym, ap, subst, arith}
+use Rattle.std.proofs.Common.{◌≡◌, ℕ, ◌+◌, ◌<◌, List, [], sym, ap, subst, arith}
 use Rattle.sp_dag.specs.Numbered.{AreInOrder}
 use Rattle.sp_frozen.specs.Voters.{FrozenRows}
 use Rattle.sp_rows.specs.Pool.{Counted, Pool}

@@ -1,4 +1,4 @@
-use Rattle.std.proofs.Common.{◌≡◌, ◌<◌, ◌-◌, ◌∙◌, ℕ, List, true, ap, sym, length, arith}
+use Rattle.std.proofs.Common.{◌≡◌, ◌<◌, ◌-◌, ◌∙◌, ℕ, List, true, ap, sym, arith}
 use Rattle.sp_model.specs.Graph.{has}
 use Rattle.sp_frozen.specs.PastVotes.{signs_of}
 use Rattle.sp_view.proofs.Listing.{view_listed}

@@ -1,5 +1,4 @@
-use Rattle.std.proofs.Common.{◌≡◌, ◌<◌, ◌∙◌, ℕ, List, true, length, sym, ap, subst, arith}
-use Rattle.sp_model.specs.Graph.{has}
+use Rattle.std.proofs.Common.{sym, subst}
 use Rattle.sp_view.specs.Views.{IsView, Viewed}
 use Rattle.sp_view.proofs.Starting.{view_nothing}
 use Rattle.sp_tests_views.proofs.based.Based.all.Goals as goal
