@@ -1,20 +1,24 @@
--- Sets of blocks that hold the past of each member.
-use Rattle.std.proofs.Common.{◌≡◌, ◌⊎◌, ℕ, ◌<◌, Bool, true, ◌||◌, List, [], length, sym, ap, subst, ◌∙◌, eqb, inl, inr, arith}
+-- Graphs whose blocks have frozen votes, and sets of blocks that hold the past of each member.
+use Rattle.std.proofs.Common.{◌≡◌, ℕ, ◌<◌, true, List, [], ◌∷◌, ◌++◌, length, get_or, zero, suc, Some, sym, ap, subst, ◌∙◌, arith}
+use Rattle.std.specs.Prelude.{slice_get}
 use Rattle.std.specs.List.{list_all}
-use Rattle.std.proofs.lemmas.Bool.{eqb-true, or_cases}
-use Rattle.sp_bits.specs.Members.{has-places_where}
-use Rattle.sp_bits.proofs.Counts.{has-small}
-use Rattle.sp_view.proofs.Bests.{within_from}
-use Rattle.sp_bits.specs.Places.{IsRow, places_where}
-use Rattle.sp_dag.specs.Numbered.{graph_of, AreInOrder}
-use Rattle.sp_dag.proofs.Whole.{complete_numbered}
-use Rattle.sp_model.specs.Graph.{has, past, IsDownset}
+use Rattle.sp_bits.specs.Places.{IsRow}
+use Rattle.sp_dag.specs.Numbered.{graph_of, pairs_of, AreInOrder, IsPair}
+use Rattle.sp_dag.proofs.Whole.{past_members}
+use Rattle.sp_model.specs.Graph.{has, in_past, past, IsDownset}
+use Rattle.sp_frozen.specs.Voters.{FrozenRows, HoldsFrozen}
+use Rattle.sp_frozen.proofs.Growth.{frozen_stays}
 use Rattle.sp_plain.specs.Plain.{IsClosed}
 use Rattle.sp_plain.proofs.Downsets.{past_below, past_closed}
-use Rattle.sp_view.specs.Settled.{IsAsked}
-use Rattle.sp_view.specs.Views.{Viewed, IsView}
 use Rattle.sp_rows.specs.Pool.{Pool}
+use Rattle.sp_view.specs.Settled.{IsAsked}
+use Rattle.sp_view.specs.Views.{AreListed, IsView, Viewed}
+use Rattle.sp_view.proofs.Bests.{within_from}
+use Rattle.sp_view.proofs.Listing.{view_listed}
+use Rattle.sp_view.proofs.Staying.{view_stays}
+use Rattle.sp_tests_views.specs.Voting.{CanVote, IsBased}
 
+-- the past of a block
 module _ (table : List (List ℕ)) (b : ℕ) (order : AreInOrder table) (lt : b < length table) (row : List ℕ) (is : row ≡ past (graph_of table) b) where
   pub past_asked : IsRow row → IsAsked (graph_of table) row
   past_asked r = record { row = r; down = subst (λ (l : List ℕ). IsDownset (graph_of table) l) (sym is) (past_closed table b order lt) }
@@ -28,25 +32,48 @@ module _ (table : List (List ℕ)) (b : ℕ) (order : AreInOrder table) (lt : b 
     closed = λ z a h r. subst (λ (l : List ℕ). has l a ≡ true) (sym is) ((past_closed table b order lt).closed z a (ap (λ (l : List ℕ). has l z) (sym is) ∙ h) r);
   }
 
--- the members of a view hold the past of each
-pub view_set : (table : List (List ℕ)) (view : Viewed) (pool : Pool) → IsView table view pool → IsClosed (graph_of table) (length table) view.members
-view_set table view pool is = record { below = is.below; closed = is.asked.down.closed }
+  -- within a set
+  pub past_within : (set : List ℕ) → list_all (has set) row ≡ true → (z : ℕ) → in_past (graph_of table) z b ≡ true → has set z ≡ true
+  past_within set all z r =
+      within_from (record { members = row; entries = [] }) set all z (ap (λ (l : List ℕ). has l z) is ∙ past_members table z b order lt ∙ r)
 
--- and so does each set of blocks of the graph that does
-pub closed_asked : (table : List (List ℕ)) (set : List ℕ) → AreInOrder table → IsRow set → IsClosed (graph_of table) (length table) set → IsAsked (graph_of table) set
-closed_asked table set order row closed = record { row = row; down = record { all_complete = λ z h. complete_numbered table z order (closed.below z h); closed = closed.closed } }
+-- what may be asked of a view
+module _ (table : List (List ℕ)) (frozen : FrozenRows) (pool : Pool) (view : Viewed) (can : CanVote table frozen pool view) where
+  pub can_added : (z : ℕ) → has view.members z ≡ true → z < frozen.blocks
+  can_added z h = (let lt : z < length table = can.is.below z h in omega (arith, lt, can.based.every))
 
--- what is within a set
-pub all_have : (set row : List ℕ) (z : ℕ) → list_all (has set) row ≡ true → has row z ≡ true → has set z ≡ true
-all_have set row z all h = within_from (record { members = row; entries = [] }) set all z h
+  pub can_listed : AreListed view.entries (length frozen.pluses)
+  can_listed = view_listed table view pool frozen can.is can.based.voted can_added
 
--- a row with one place more has its own and that one
-pub has_added : (row : List ℕ) (n z : ℕ) → has (places_where (λ p. has row p || eqb p n)) z ≡ true → (has row z ≡ true) ⊎ (z ≡ n)
-has_added row n z h =
-    let test : ℕ → Bool = λ p. has row p || eqb p n in
-    let here : test z ≡ true = sym (has-places_where test z (has-small test z h)) ∙ h in
-    elim (or_cases (has row z) (eqb z n) here) [ inl own ↦ inl own | inr new ↦ inr (eqb-true z n new) ]
+  pub can_set : (set : List ℕ) → set ≡ view.members → IsClosed (graph_of table) (length table) set
+  can_set set e = subst (λ (l : List ℕ). IsClosed (graph_of table) (length table) l) (sym e) (record { below = can.is.below; closed = can.is.asked.down.closed })
 
--- the members of a view to which a block was added are below a number above both
-pub added_below : (old new : List ℕ) (b n : ℕ) → new ≡ places_where (λ p. has old p || eqb p b) → ((z : ℕ) → has old z ≡ true → z < n) → b < n → (z : ℕ) → has new z ≡ true → z < n
-added_below old new b n is below lt z h = elim (has_added old b z (ap (λ (l : List ℕ). has l z) (sym is) ∙ h)) [ inl own ↦ below z own | inr same ↦ omega (arith, same, lt) ]
+-- each pair has frozen rows
+pub based_pair : (table : List (List ℕ)) (frozen : FrozenRows) (i : ℕ) (pair : ℕ × ℕ) → IsBased table frozen → slice_get (pairs_of table) i ≡ Some pair → IsPair table pair → i < length frozen.pluses
+based_pair table frozen i pair based at kind = based.voted.there i pair.0 pair.1 at (let lt = kind.within in omega (arith, lt, based.every))
+
+-- no block has a vote yet
+pub frozen_none : (table : List (List ℕ)) (frozen : FrozenRows) → frozen ≡ record { blocks = 0; pluses = []; minuses = [] } → HoldsFrozen table frozen
+frozen_none table frozen e = subst (λ (f : FrozenRows). HoldsFrozen table f) (sym e) (record {
+  within = omega arith;
+  few = omega arith;
+  below = λ i x y at lt. absurd (omega (arith, lt));
+  there = λ i x y at lt. absurd (omega (arith, lt));
+  each = λ i x y at lt. absurd (omega (arith, lt));
+})
+
+-- a graph with one block more
+module _ (table more : List (List ℕ)) (parents : List ℕ) (is : more ≡ table ++ parents ∷ []) (order : AreInOrder table) (order' : AreInOrder more) where
+  in_order : AreInOrder (table ++ parents ∷ [])
+  in_order = subst (λ (t : List (List ℕ)). AreInOrder t) is order'
+
+  pub frozen_beside : (frozen : FrozenRows) → HoldsFrozen table frozen → HoldsFrozen more frozen
+  frozen_beside frozen h = subst (λ (t : List (List ℕ)). HoldsFrozen t frozen) (sym is) (frozen_stays table parents order in_order frozen h)
+
+  pub view_beside : (view : Viewed) (pool : Pool) → IsView table view pool → IsView more view pool
+  view_beside view pool h = subst (λ (t : List (List ℕ)). IsView t view pool) (sym is) (view_stays table parents view pool in_order h)
+
+-- each of one id is there
+pub each_there : (ids : List ℕ) (id k d : ℕ) → has ids id ≡ true → k < 1 → has ids (get_or (id ∷ []) k d) ≡ true
+each_there ids id zero d there lt = there
+each_there ids id (suc k) d there lt = absurd (omega (arith, lt))

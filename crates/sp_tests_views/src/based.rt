@@ -1,20 +1,25 @@
-//! A graph with its frozen votes and no view, for tests that make the views themselves.
+//! A graph that grows with its frozen votes, apart from an engine.
 
-ghost use Rattle.std.specs.Prelude.{◌≡◌, ◌<◌, ◌≤◌, ◌+◌, ◌∷◌, [], ℕ, List, length, IfOk, OnOk};
+ghost use Rattle.std.specs.Prelude.{◌≡◌, ◌<◌, ◌+◌, ℕ, length, IfOk, IsTrue, OnOk};
+ghost use Rattle.sp_model.specs.Graph.{has};
+ghost use Rattle.sp_dag.specs.Numbered.{graph_of};
 ghost use Rattle.sp_frozen.specs.Voters.{HoldsFrozen};
-ghost use Rattle.sp_tests_views.specs.Holding.{IsBased, IsOneMore, Holds};
+ghost use Rattle.sp_rows.specs.Pool.{Pool};
+ghost use Rattle.sp_view.specs.Settled.{IsAsked};
+ghost use Rattle.sp_view.specs.Views.{Viewed, IsView};
+ghost use Rattle.sp_tests_views.specs.Voting.{AreTwo, IsBased};
 
-use crate::blocks::{add_block, first, id, row_of};
-use crate::holding::derive;
 use sp_bits::Row;
 use sp_dag::Dag;
 use sp_frozen::Frozen;
+use sp_ids::{BlockId, Memory};
 use sp_rows::RowPool;
 use sp_view::View;
 use std::alloc::Global;
 use std::test::Fail;
 
-/// A graph and the frozen votes of all its blocks. Genesis is number 0 and has the name 0.
+/// A graph and the frozen votes of all its blocks, each of which is named by the one byte of its id.
+/// Genesis is number 0 and has the name 0.
 #[derive(Drop)]
 pub(crate) struct Based {
     pub(crate) alloc: Global,
@@ -22,9 +27,19 @@ pub(crate) struct Based {
     pub(crate) frozen: Frozen,
 }
 
+fn id(byte: u8) -> BlockId {
+    BlockId::from_bytes([byte; 32])
+}
+
+fn is_in(dag: &Dag, id: &BlockId) -> bool
+    ensures { result ≡ has dag.now.ids id.now }
+{
+    dag.number(id).is_some()
+}
+
 /// Adds the last block of a graph to the frozen votes, by a view of its past that is derived from
 /// nothing.
-fn freeze_last(alloc: Global, dag: &Dag, frozen: &mut Frozen) -> Result<(), Fail>
+fn freeze_last(alloc: Global, dag: &Dag, frozen: &mut Frozen) -> Result<(), Memory>
     requires frozen { HoldsFrozen dag.now.parents frozen.old }
     requires next { length dag.now.parents ≡ frozen.old.blocks + 1 }
     ensures { OnOk result (IsBased dag.now.parents frozen.new) }
@@ -35,85 +50,72 @@ fn freeze_last(alloc: Global, dag: &Dag, frozen: &mut Frozen) -> Result<(), Fail
     let _members = past.count();
     let _pairs = dag.pair_count();
     let mut pool = RowPool::new(alloc);
-    let view = derive(alloc, &[], dag, frozen, &mut pool, past)?;
+    let view = View::derive(alloc, &[], dag, frozen, &mut pool, past)?;
     let votes = view.past_votes(frozen, &pool)?;
-    frozen.add(dag, b, &votes)?;
-    Ok(())
+    frozen.add(dag, b, &votes)
 }
 
 impl Based {
     /// Genesis alone.
-    fn start(alloc: Global) -> Result<Based, Fail>
+    pub(crate) fn start(alloc: Global) -> Result<Based, Memory>
         ensures { IfOk result (λ based. IsBased based.dag.parents based.frozen) }
     {
         let dag = Dag::new(alloc, id(0))?;
-        // Tells the proof that there is a block.
-        let _blocks = dag.len();
         let mut frozen = Frozen::new(alloc);
         freeze_last(alloc, &dag, &mut frozen)?;
         Ok(Based { alloc, dag, frozen })
     }
 
-    /// One block more, on the blocks with these names.
-    fn next(self, name: u8, parents: &Row) -> Result<Based, Fail>
-        requires { IsBased self.dag.parents self.frozen }
-        ensures based { IfOk result (λ based. IsBased based.dag.parents based.frozen) }
-        ensures more { IfOk result (λ based. IsOneMore self.dag.parents based.dag.parents) }
+    /// Adds a block on another one.
+    pub(crate) fn grow(&mut self, name: u8, parent: u8) -> Result<(), Fail>
+        requires { IsBased self.old.dag.parents self.old.frozen }
+        ensures based { OnOk result (IsBased self.new.dag.parents self.new.frozen) }
+        ensures views { OnOk result ((view : Viewed) (pool : Pool) →
+            IsView self.old.dag.parents view pool → IsView self.new.dag.parents view pool) }
     {
-        let Based {
-            alloc,
-            mut dag,
-            mut frozen,
-        } = self;
-        add_block(alloc, &mut dag, name, parents)?;
-        freeze_last(alloc, &dag, &mut frozen)?;
-        Ok(Based { alloc, dag, frozen })
-    }
-
-    /// The same, beside some views.
-    pub(crate) fn grow(
-        self,
-        views: &[View],
-        pool: &RowPool,
-        name: u8,
-        parents: &Row,
-    ) -> Result<Based, Fail>
-        requires based { IsBased self.dag.parents self.frozen }
-        requires holds { Holds self.dag.parents self.frozen pool.now views.now }
-        ensures based { IfOk result (λ based. IsBased based.dag.parents based.frozen) }
-        ensures holds { IfOk result (λ based.
-            Holds based.dag.parents based.frozen pool.now views.now) }
-    {
-        let based = self.next(name, parents)?;
-        Ok(based)
-    }
-
-    /// Genesis, and then blocks named 1, 2 and so on, on these parents.
-    pub(crate) fn of(alloc: Global, blocks: &[&[u8]]) -> Result<Based, Fail>
-        ensures { IfOk result (λ based. IsBased based.dag.parents based.frozen) }
-    {
-        let mut based = Based::start(alloc)?;
-        let mut name = 0u8;
-        for parents in blocks {
-            name = name.saturating_add(1);
-            based = based.next(name, &row_of(parents))?;
+        let new = id(name);
+        let on = id(parent);
+        if is_in(&self.dag, &new) || !is_in(&self.dag, &on) || self.dag.len() == 512 {
+            return Err("known, on an unknown block, or too many".into());
         }
-        Ok(based)
+        self.dag.add(new, &[on])?;
+        // Tells the proof that the blocks stand in order.
+        let _blocks = self.dag.len();
+        freeze_last(self.alloc, &self.dag, &mut self.frozen)?;
+        Ok(())
     }
 
-    /// The view of so many first blocks, derived from others.
-    pub(crate) fn view(&self, views: &[View], pool: &mut RowPool, count: u16) -> Result<View, Fail>
+    /// Adds a block to a view, if the view has its past and not the block.
+    pub(crate) fn join(&self, pool: &mut RowPool, view: &mut View, b: u16) -> Result<(), Fail>
         requires based { IsBased self.now.dag.parents self.now.frozen }
-        requires holds { Holds self.now.dag.parents self.now.frozen pool.old views.now }
-        ensures { IfOk result (λ view.
-            Holds self.now.dag.parents self.now.frozen pool.new (view ∷ views.now)) }
+        requires is { IsView self.now.dag.parents view.old pool.old }
+        ensures is { OnOk result (IsView self.now.dag.parents view.new pool.new) }
+        ensures beside { OnOk result ((other : Viewed) →
+            AreTwo self.now.dag.parents self.now.frozen pool.old other view.old →
+            AreTwo self.now.dag.parents self.now.frozen pool.new other view.new) }
     {
-        if count > self.dag.len() {
-            return Err("fewer blocks".into());
+        if b >= self.dag.len() || pool.live() >= 1 << 20 {
+            return Err("no such block, or too many rows".into());
         }
-        let members = first(&self.dag, count);
-        // Tells the proof that they are a row.
-        let _members = members.count();
-        derive(self.alloc, views, &self.dag, &self.frozen, pool, &members)
+        if view.members().test(b) || !self.dag.past(b).within(view.members()) {
+            return Err("a member, or above other blocks".into());
+        }
+        view.add(&self.dag, &self.frozen, pool, b)?;
+        Ok(())
+    }
+
+    /// All blocks, by a view that takes one after another.
+    pub(crate) fn all(&self) -> Result<Row, Fail>
+        requires { IsBased self.now.dag.parents self.now.frozen }
+        ensures asked { IfOk result (IsAsked (graph_of self.now.dag.parents)) }
+        ensures below { IfOk result (λ all. (z : ℕ) → IsTrue (has all z) →
+            z < self.now.frozen.blocks) }
+    {
+        let mut pool = RowPool::new(self.alloc);
+        let mut view = View::empty(self.alloc);
+        for b in 0..self.dag.len() {
+            self.join(&mut pool, &mut view, b)?;
+        }
+        Ok(*view.members())
     }
 }

@@ -2,11 +2,9 @@
 
 use sp_rows::{RowId, RowPool};
 use sp_view::View;
-use std::alloc::Global;
-use std::test::Fail;
 
 /// Counts an entry's row; false where the row has no place in the list.
-fn count_row(holders: &mut Vec<u32>, row: RowId) -> bool {
+fn count_row(holders: &mut [u32], row: RowId) -> bool {
     match holders.get_mut(row.0 as usize) {
         Some(count) => {
             *count = count.saturating_add(1);
@@ -16,8 +14,9 @@ fn count_row(holders: &mut Vec<u32>, row: RowId) -> bool {
     }
 }
 
-/// Counts the rows of the entries of a view.
-fn count_view(holders: &mut Vec<u32>, view: &View, pairs: u32) -> bool {
+/// Counts the rows of the entries of a view; false where an entry has one row twice, or one has no
+/// place in the list.
+pub(crate) fn count_view(holders: &mut [u32], view: &View, pairs: u32) -> bool {
     let mut all = true;
     for pair in 0..pairs {
         if let Some((plus, minus)) = view.rows(pair) {
@@ -35,24 +34,14 @@ fn is_counted(pool: &RowPool, row: RowId, count: u32) -> bool {
     pool.is_live(row) && pool.count(row) == count
 }
 
-/// Whether each row of a pool is counted as often as entries of the views hold it.
-pub(crate) fn are_counted(
-    alloc: Global,
-    pool: &RowPool,
-    views: &[View],
-    pairs: u32,
-) -> Result<bool, Fail> {
-    // More ids than there are rows.
-    let mut holders = vec![in alloc; 0u32; 4_096]?;
+/// Whether each of so many first rows of a pool is counted as often as was found, and no other is live.
+pub(crate) fn are_counted(pool: &RowPool, holders: &[u32]) -> bool {
     let mut all = true;
-    for view in views {
-        all &= count_view(&mut holders, view, pairs);
-    }
     let mut live = 0usize;
     for id in 0..4_096u32 {
         let count = holders.get(id as usize).copied().unwrap_or(0);
         all &= is_counted(pool, RowId(id), count);
         live = live.saturating_add((count > 0) as usize);
     }
-    Ok(all && live == pool.live())
+    all && live == pool.live()
 }

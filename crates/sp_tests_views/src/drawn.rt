@@ -1,180 +1,167 @@
-//! Graphs that are drawn, each grown in several orders, beside the plain votes.
+//! Graphs that are drawn, whose blocks come to an engine in several orders: its frozen votes and its
+//! views beside the plain votes.
 
-ghost use Rattle.std.specs.Prelude.{◌≡◌, ◌<◌, length, IfOk};
-ghost use Rattle.sp_tests_views.specs.Holding.{CanVote, IsGrown};
+ghost use Rattle.std.specs.Prelude.{◌≡◌, ◌≤◌, false, length};
+ghost use Rattle.sp_tests_views.specs.Voting.{CanVote};
 
-use crate::compare::{hands_on, misvoted, tells_changes};
-use crate::counts::are_counted;
-use crate::graphs::{Order, bushy, made, ordered};
-use crate::grown::{Grown, release_all};
-use crate::voters::{misfrozen, misheld};
+use crate::counts::{are_counted, count_view};
+use crate::engines::{come, engine_of, view_at};
+use crate::graphs::{Shape, blocks_of, drawn, ordered};
+use crate::rows::right;
+use crate::signs::{are_inside, are_turned, changes, has_votes, past_votes, plain_of};
+use crate::voters::{are_frozen, are_held};
 use sp_bits::Row;
 use sp_dag::Dag;
+use sp_engine::Engine;
+use sp_fixtures::Numbered;
 use sp_frozen::Frozen;
-use sp_plain::{Matrix, plain_votes};
 use sp_rows::RowPool;
 use sp_view::View;
 use std::alloc::Global;
-use std::process::Abort;
 use std::test::Fail;
 
-/// The plain votes of a view's members.
-fn plain_of(
+/// Whether a view votes as the plain votes of its members say.
+fn is_right(
     alloc: Global,
     dag: &Dag,
     frozen: &Frozen,
     pool: &RowPool,
     view: &View,
-) -> Result<Matrix, Fail>
+) -> Result<bool, Fail>
     requires { CanVote dag.now.parents frozen.now pool.now view.now }
-    ensures { IfOk result (λ plain. plain.width ≡ length dag.now.parents) }
 {
-    let plain = plain_votes(alloc, dag, view.members())?;
-    Ok(plain)
+    let votes = plain_of(alloc, dag, frozen, pool, view)?;
+    Ok(has_votes(dag, frozen, pool, view, &votes))
 }
 
-/// Compares the view of all blocks with the plain votes of all.
-fn compare_all(rt: &impl Abort, grown: &Grown) -> Result<(), Fail>
-    requires { IsGrown grown.now.dag.parents grown.now.frozen grown.now.pool grown.now.views.items }
+/// Whether a view says of itself what the plain votes of its members say, and what changed from it to
+/// the view of all; in a small graph its rows are compared voter by voter.
+fn is_whole(
+    alloc: Global,
+    dag: &Dag,
+    frozen: &Frozen,
+    pool: &RowPool,
+    view: &View,
+    all: &View,
+) -> Result<bool, Fail>
+    requires can { CanVote dag.now.parents frozen.now pool.now view.now }
+    requires can_all { CanVote dag.now.parents frozen.now pool.now all.now }
 {
-    let all = grown.all()?;
-    let plain = plain_of(grown.alloc, &grown.dag, &grown.frozen, &grown.pool, all)?;
-    let wrong = misvoted(&grown.dag, &grown.frozen, &grown.pool, all, &plain);
-    assert_eq!(rt; wrong, None, "of {} blocks", grown.dag.len());
-    Ok(())
-}
-
-/// Compares the view at a place with the plain votes of its members, and what changed from it to the
-/// view of all with both plain votes.
-fn compare_one(rt: &impl Abort, grown: &Grown, place: usize) -> Result<(), Fail>
-    requires { IsGrown grown.now.dag.parents grown.now.frozen grown.now.pool grown.now.views.items }
-{
-    let (alloc, dag) = (grown.alloc, &grown.dag);
-    let (frozen, pool) = (&grown.frozen, &grown.pool);
-    let all = grown.all()?;
-    let view = grown.view(place)?;
+    let before = plain_of(alloc, dag, frozen, pool, view)?;
     let after = plain_of(alloc, dag, frozen, pool, all)?;
-    let plain = plain_of(alloc, dag, frozen, pool, view)?;
-    assert_eq!(rt; misvoted(dag, frozen, pool, view, &plain), None);
-    assert!(rt; hands_on(alloc, dag, frozen, pool, view, &plain)?);
-    assert!(rt; tells_changes(alloc, dag, frozen, pool, view, all, &plain, &after)?);
-    Ok(())
+    let handed = past_votes(dag, frozen, pool, view)?;
+    let changed = changes(dag, frozen, pool, view, all)?;
+    Ok(
+        has_votes(dag, frozen, pool, view, &before)
+            && are_inside(handed.signs.as_slice(), &before)
+            && are_turned(&changed, &before, &after)
+            && (dag.len() > 17 || are_held(dag, frozen, pool, view)?),
+    )
 }
 
-/// Compares each view.
-fn compare_each(rt: &impl Abort, grown: &Grown) -> Result<(), Fail>
-    requires { IsGrown grown.now.dag.parents grown.now.frozen grown.now.pool grown.now.views.items }
-{
-    for place in 0..grown.views.len() {
-        compare_one(rt, grown, place)?;
+/// Whether the view of all of an engine votes as the plain votes of all say.
+fn all_is_right(alloc: Global, engine: &Engine) -> Result<bool, Fail> {
+    if engine.broken() {
+        return Err("broken".into());
     }
-    Ok(())
+    let (frozen, pool) = (engine.frozen(), engine.row_pool());
+    is_right(alloc, engine.dag(), frozen, pool, engine.view_all())
 }
 
-/// Compares each voter of each pair.
-fn compare_voters(rt: &impl Abort, grown: &Grown) -> Result<(), Fail>
-    requires { IsGrown grown.now.dag.parents grown.now.frozen grown.now.pool grown.now.views.items }
+/// Whether the view of a tip with its past is right, or that of all behind the last block; the rows that
+/// it holds are counted.
+fn is_whole_at(alloc: Global, engine: &Engine, n: u16, holders: &mut [u32]) -> Result<bool, Fail>
+    requires whole { engine.now.broken ≡ false }
+    requires within { n ≤ length engine.now.numbered.parents }
 {
-    let (alloc, dag, frozen) = (grown.alloc, &grown.dag, &grown.frozen);
-    assert_eq!(rt; misfrozen(alloc, dag, frozen)?, None);
-    for view in &grown.views {
-        assert_eq!(rt; misheld(alloc, dag, frozen, &grown.pool, view)?, None);
+    let (dag, frozen, pool) = (engine.dag(), engine.frozen(), engine.row_pool());
+    let Some(view) = view_at(engine, n) else {
+        return Ok(true);
+    };
+    let counted = count_view(holders, view, dag.pair_count());
+    Ok(is_whole(alloc, dag, frozen, pool, view, engine.view_all())? && counted)
+}
+
+/// Whether all views of an engine are right, and each row is counted as often as they hold it.
+fn all_are_whole(alloc: Global, engine: &Engine) -> Result<bool, Fail> {
+    if engine.broken() {
+        return Err("broken".into());
     }
-    Ok(())
-}
-
-/// Lets all views go, after which no row is live.
-fn release(rt: &impl Abort, grown: Grown)
-    requires { IsGrown grown.dag.parents grown.frozen grown.pool grown.views.items }
-{
-    let Grown {
-        alloc: _,
-        dag,
-        frozen,
-        mut pool,
-        mut views,
-    } = grown;
-    release_all(&mut views, &dag, &frozen, &mut pool);
-    assert_eq!(rt; pool.live(), 0);
-}
-
-/// Grows a graph in an order, and compares the view of all after each block.
-fn follow(rt: &impl Abort, alloc: Global, graph: &[Row], order: &[u8]) -> Result<Grown, Fail>
-    ensures { IfOk result (λ g. IsGrown g.dag.parents g.frozen g.pool g.views.items) }
-{
-    let mut grown = Grown::start(alloc)?;
-    for name in order {
-        let parents = graph.get(*name as usize).copied().unwrap_or(Row::empty());
-        grown = grown.grow(*name, &parents)?;
-        compare_all(rt, &grown)?;
+    // More ids than there are rows.
+    let mut holders = vec![in alloc; 0u32; 4_096]?;
+    for n in 0..=engine.present() {
+        if !is_whole_at(alloc, engine, n, &mut holders)? {
+            return Ok(false);
+        }
     }
-    Ok(grown)
+    Ok(are_counted(engine.row_pool(), &holders))
 }
 
-/// Grows a graph in an order, and compares all there is at the end; the voters by themselves only of
-/// a graph that is small.
-fn compare(rt: &impl Abort, grown: Grown) -> Result<(), Fail>
-    requires { IsGrown grown.dag.parents grown.frozen grown.pool grown.views.items }
-{
-    compare_each(rt, &grown)?;
-    if grown.dag.len() <= 17 {
-        compare_voters(rt, &grown)?;
+/// Whether the frozen votes of an engine are right, which is asked of small graphs.
+fn frozen_are_right(alloc: Global, engine: &Engine) -> Result<bool, Fail> {
+    if engine.broken() {
+        return Err("broken".into());
     }
-    let pairs = grown.dag.pair_count();
-    assert!(rt; are_counted(grown.alloc, &grown.pool, &grown.views, pairs)?);
-    release(rt, grown);
-    Ok(())
+    let dag = engine.dag();
+    Ok(dag.len() > 17 || are_frozen(alloc, dag, engine.frozen())?)
 }
 
-const ORDERS: [Order; 3] = [Order::Lowest, Order::Highest, Order::Drawn];
-
-fn each_order(rt: &impl Abort, alloc: Global, graph: &[Row], seed: u64) -> Result<(), Fail> {
-    for order in ORDERS {
-        let numbers = ordered(alloc, graph, order, seed)?;
-        assert!(rt; numbers.len() < graph.len() && numbers.len() == graph.len() - 1);
-        let grown = follow(rt, alloc, graph, &numbers)?;
-        compare(rt, grown)?;
+/// What is wrong as the blocks come in an order, and at the end; nothing where all is right.
+fn wrong(
+    alloc: Global,
+    engine: &mut Engine,
+    blocks: &Numbered,
+    order: &[u8],
+) -> Result<&'static str, Fail> {
+    for number in order {
+        come(engine, blocks, *number as usize)?;
+        if !all_is_right(alloc, engine)? {
+            return Ok("the view of all");
+        }
     }
-    Ok(())
+    if !all_are_whole(alloc, engine)? {
+        return Ok("a view");
+    }
+    if !frozen_are_right(alloc, engine)? {
+        return Ok("a frozen vote");
+    }
+    Ok("")
 }
 
-/// Of each graph how many blocks it has, the seed, how many of the latest blocks are drawn from, and
-/// how many parents at most.
-const GRAPHS: &[(u64, u64, u64, u64)] = &[
-    (8, 1, 8, 3),
-    (10, 2, 4, 2),
-    (12, 3, 12, 6),
-    (14, 4, 5, 3),
-    (16, 5, 16, 2),
-    (16, 6, 6, 6),
-    (18, 7, 18, 8),
-    (18, 8, 3, 2),
-    (20, 9, 20, 1),
-    (20, 10, 8, 4),
-    (20, 11, 20, 12),
-    (22, 12, 7, 6),
-    (22, 13, 22, 2),
-    (24, 14, 10, 3),
-    (24, 15, 24, 6),
-    (26, 16, 6, 2),
-    (28, 17, 12, 5),
-    (30, 18, 30, 3),
-    (36, 19, 9, 6),
-    (40, 20, 16, 6),
+fn wrong_in(alloc: Global, graph: &[Row], order: u8, seed: u64) -> Result<&'static str, Fail> {
+    let blocks = blocks_of(alloc, graph)?;
+    let numbers = ordered(alloc, graph, order, seed)?;
+    if numbers.len().saturating_add(1) != graph.len() {
+        return Ok("the order");
+    }
+    let mut engine = engine_of(alloc, &blocks)?;
+    let wrong = wrong(alloc, &mut engine, &blocks, &numbers);
+    drop(engine);
+    wrong
+}
+
+/// What is wrong with a drawn graph in one of the three orders.
+fn wrong_of(alloc: Global, shape: &Shape, order: u8) -> Result<&'static str, Fail> {
+    let graph = drawn(alloc, shape)?;
+    wrong_in(alloc, &graph, order, shape.1)
+}
+
+#[rattlefmt::skip]
+const GRAPHS: &[Shape] = &[
+    (8, 1, 8, 3), (10, 2, 4, 2), (12, 3, 12, 6), (14, 4, 5, 3), (16, 5, 16, 2),
+    (16, 6, 6, 6), (18, 7, 18, 8), (18, 8, 3, 2), (20, 9, 20, 1), (20, 10, 8, 4),
+    (20, 11, 20, 12), (22, 12, 7, 6), (22, 13, 22, 2), (24, 14, 10, 3), (24, 15, 24, 6),
+    (26, 16, 6, 2), (28, 17, 12, 5), (30, 18, 30, 3), (36, 19, 9, 6), (40, 20, 16, 6),
+    // That of `make 24 5 3`.
+    (24, 5, 3, 0),
 ];
 
 #[test]
-fn bushy_graphs(rt: HostRuntime) -> Result<(), Fail> {
-    for (blocks, seed, width, most) in GRAPHS {
-        assert!(rt; *blocks <= 511 && *width >= 1 && *most >= 1);
-        let graph = bushy(rt.alloc(), *blocks, *seed, *width, *most)?;
-        each_order(&rt, rt.alloc(), &graph, *seed)?;
+fn each_graph_in_three_orders(rt: HostRuntime) -> Result<(), Fail> {
+    for (row, shape) in GRAPHS.iter().enumerate() {
+        for order in 0..3u8 {
+            right(&rt, row, wrong_of(rt.alloc(), shape, order)?);
+        }
     }
     Ok(())
-}
-
-#[test]
-fn the_made_graph(rt: HostRuntime) -> Result<(), Fail> {
-    let graph = made(rt.alloc(), 24, 5, 3)?;
-    each_order(&rt, rt.alloc(), &graph, 5)
 }

@@ -1,8 +1,7 @@
 //! Graphs that are drawn, and the orders in which their blocks can come.
 
-ghost use Rattle.std.specs.Prelude.{◌≤◌, ◌<◌, ◌+◌};
-
 use sp_bits::Row;
+use sp_fixtures::Numbered;
 use std::alloc::Global;
 use std::test::Fail;
 
@@ -13,73 +12,71 @@ fn next(state: u64) -> u64 {
         .wrapping_add(1_442_695_040_888_963_407)
 }
 
-/// Adds so many drawn ones of the candidates to the parents, and answers the state behind that.
-fn draw_parents(parents: &mut Row, lowest: u64, count: u64, draws: u64, first: u64) -> u64
-    requires some { 0 < count }
-    requires few { lowest + count ≤ 512 }
-{
+/// Adds so many drawn ones of the latest blocks to the parents of one, and answers the state behind
+/// that.
+fn draw_parents(parents: &mut Row, number: u64, width: u64, draws: u64, first: u64) -> u64 {
     let mut state = first;
     for _ in 0..draws {
         state = next(state);
-        parents.set((lowest + (state >> 32) % count) as u16);
+        let back = (state >> 32) % width.min(number).max(1);
+        parents.set(
+            (number
+                .saturating_sub(width.min(number))
+                .saturating_add(back)
+                % 512) as u16,
+        );
     }
     state
 }
 
-/// The parents of each block by its number, those of the generator for these words: two are drawn of
-/// the latest blocks, and one that is alone is taken.
-pub(crate) fn made(alloc: Global, blocks: u64, seed: u64, width: u64) -> Result<Vec<Row>, Fail>
-    requires few { blocks ≤ 511 }
-    requires wide { 1 ≤ width }
-{
+/// How many draws the parents of a block take, and the state behind that: from one to `most`, or else
+/// two where that is 0, as the program's generator draws them, which takes a block that is alone.
+fn count_draws(number: u64, width: u64, most: u64, state: u64) -> (u64, u64) {
+    if most > 0 {
+        let state = next(state);
+        ((state >> 32) % most + 1, state)
+    } else if width.min(number) < 2 {
+        (0, state)
+    } else {
+        (2, state)
+    }
+}
+
+/// A drawn graph: how many blocks it has, the seed, how many of the latest blocks are drawn from, and how
+/// many parents at most.
+pub(crate) type Shape = (u64, u64, u64, u64);
+
+/// The parents of each block of a graph by its number.
+pub(crate) fn drawn(alloc: Global, shape: &Shape) -> Result<Vec<Row>, Fail> {
+    let (blocks, seed, width, most) = *shape;
     let mut graph = Vec::new(alloc);
     graph.push(Row::empty())?;
     let mut state = seed;
     for number in 1..=blocks {
-        let lowest = number.saturating_sub(width);
         let mut parents = Row::empty();
-        if number - lowest == 1 {
-            parents.set(lowest as u16);
-        } else {
-            state = draw_parents(&mut parents, lowest, number - lowest, 2, state);
+        let (draws, before) = count_draws(number, width, most, state);
+        if draws == 0 {
+            parents.set((number.saturating_sub(1) % 512) as u16);
         }
+        state = draw_parents(&mut parents, number, width, draws, before);
         graph.push(parents)?;
     }
     Ok(graph)
 }
 
-/// The parents of each block by its number: from one to `most` are drawn of the latest blocks.
-pub(crate) fn bushy(
-    alloc: Global,
-    blocks: u64,
-    seed: u64,
-    width: u64,
-    most: u64,
-) -> Result<Vec<Row>, Fail>
-    requires few { blocks ≤ 511 }
-    requires wide { 1 ≤ width }
-    requires most { 1 ≤ most }
-{
-    let mut graph = Vec::new(alloc);
-    graph.push(Row::empty())?;
-    let mut state = seed;
-    for number in 1..=blocks {
-        let lowest = number.saturating_sub(width);
-        let mut parents = Row::empty();
-        state = next(state);
-        let draws = (state >> 32) % most + 1;
-        state = draw_parents(&mut parents, lowest, number - lowest, draws, state);
-        graph.push(parents)?;
+/// The blocks of a graph, by the parents of each.
+pub(crate) fn blocks_of(alloc: Global, graph: &[Row]) -> Result<Numbered, Fail> {
+    let mut blocks = Numbered::of(alloc, &[])?;
+    for parents in graph.iter().skip(1) {
+        let mut numbers = Vec::new(alloc);
+        for number in 0..512u16 {
+            if parents.test(number) {
+                numbers.push(number as usize)?;
+            }
+        }
+        blocks.add(&numbers)?;
     }
-    Ok(graph)
-}
-
-/// Which of the blocks whose parents all came comes next.
-#[derive(Clone, Copy, Debug, PartialEq, Eq)]
-pub(crate) enum Order {
-    Lowest,
-    Highest,
-    Drawn,
+    Ok(blocks)
 }
 
 /// Whether a block may come next.
@@ -101,25 +98,21 @@ fn ready(alloc: Global, graph: &[Row], come: &Row) -> Result<Vec<u8>, Fail> {
     Ok(numbers)
 }
 
-/// The block that comes next; there is none where all came.
-fn pick(ready: &[u8], order: Order, state: u64) -> Option<u8> {
+/// The block that comes next by one of three orders, the lowest, the highest or a drawn one of those that
+/// may come; there is none where all came.
+fn pick(ready: &[u8], order: u8, state: u64) -> Option<u8> {
     if ready.is_empty() {
         return None;
     }
     match order {
-        Order::Lowest => ready.first().copied(),
-        Order::Highest => ready.last().copied(),
-        Order::Drawn => Some(ready[(state >> 32) as usize % ready.len()]),
+        0 => ready.first().copied(),
+        1 => ready.last().copied(),
+        _ => Some(ready[(state >> 32) as usize % ready.len()]),
     }
 }
 
-/// The numbers of the blocks behind genesis, each behind its parents.
-pub(crate) fn ordered(
-    alloc: Global,
-    graph: &[Row],
-    order: Order,
-    seed: u64,
-) -> Result<Vec<u8>, Fail> {
+/// The numbers of the blocks behind genesis in one of the three orders, each behind its parents.
+pub(crate) fn ordered(alloc: Global, graph: &[Row], order: u8, seed: u64) -> Result<Vec<u8>, Fail> {
     let mut numbers = Vec::new(alloc);
     let mut come = Row::empty();
     come.set(0);

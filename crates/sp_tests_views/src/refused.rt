@@ -1,23 +1,17 @@
 //! What is left of a view and of its rows whether memory is refused or not.
 
-ghost use Rattle.std.specs.Prelude.{◌∷◌, []};
-ghost use Rattle.sp_tests_views.specs.Holding.{Holds, IsBased};
+ghost use Rattle.std.specs.Prelude.{OnOk};
+ghost use Rattle.sp_tests_views.specs.Voting.{AreTwo};
 
-use crate::based::Based;
-use crate::holding::{add, nth, put_last};
+use crate::rows::holds;
+use crate::two::Two;
 use sp_rows::{RowId, RowPool};
 use sp_view::View;
 use std::alloc::Global;
-use std::process::Abort;
 use std::test::Fail;
 
 /// A row as it stands: how often it is counted, and its words. One that isn't live is never counted.
-#[derive(Clone, Copy, Debug, PartialEq, Eq)]
-struct Standing {
-    id: RowId,
-    count: u32,
-    words: [u64; 8],
-}
+type Standing = (RowId, u32, [u64; 8]);
 
 fn seen(pool: &RowPool, id: RowId) -> Standing {
     let mut words = [0; 8];
@@ -26,7 +20,7 @@ fn seen(pool: &RowPool, id: RowId) -> Standing {
         words.copy_from_slice(pool.words(id));
         count = pool.count(id);
     }
-    Standing { id, count, words }
+    (id, count, words)
 }
 
 /// The rows of a view, by the pairs in order.
@@ -41,7 +35,7 @@ fn seen_all(alloc: Global, pool: &RowPool, view: &View) -> Result<Vec<Standing>,
     Ok(rows)
 }
 
-/// Whether the rows of a view stand as before, and so many rows are live.
+/// Whether the rows of a view stand as before, and so many rows are live. It takes no memory.
 fn is_as(pool: &RowPool, view: &View, before: &[Standing], live: usize) -> bool {
     let mut place = 0usize;
     for pair in 0..10u32 {
@@ -57,72 +51,72 @@ fn is_as(pool: &RowPool, view: &View, before: &[Standing], live: usize) -> bool 
     place == before.len() && pool.live() == live
 }
 
-/// 3 stands on 1 and 4 on 2.
-const GRAPH: &[&[u8]] = &[&[0], &[0], &[1], &[2]];
-
-/// Adds 3 to the view of the first three. A refusal leaves the view and all rows as they were.
-fn add_fourth(
-    rt: &impl Abort,
-    based: &Based,
-    pool: &mut RowPool,
-    view: &mut View,
-) -> Result<(), Fail>
-    requires { Holds based.now.dag.parents based.now.frozen pool.old (view.old ∷ []) }
+/// Makes the other view that of the first three, behind which 3 stands on 1 and 4 on 2.
+fn begin(two: &mut Two) -> Result<(), Fail>
+    requires { AreTwo two.old.based.dag.parents two.old.based.frozen
+        two.old.pool two.old.one two.old.other }
+    ensures { OnOk result (AreTwo two.new.based.dag.parents two.new.based.frozen
+        two.new.pool two.new.one two.new.other) }
 {
-    let before = seen_all(based.alloc, pool, view)?;
-    let live = pool.live();
-    match add(view, &[], &based.dag, &based.frozen, pool, 3) {
-        Ok(()) => {
-            assert_eq!(rt; view.members().count(), 4);
-            Ok(())
-        }
-        Err(refused) => {
-            assert!(rt; view.members().count() == 3 && is_as(pool, view, &before, live));
-            Err(refused)
-        }
-    }
+    two.derive()?;
+    two.grow(3, 1)?;
+    two.grow(4, 2)
 }
 
-/// Derives the view of all from that of the first three. A refusal leaves all rows as they were.
-fn derive_all(
-    rt: &impl Abort,
-    based: &Based,
-    pool: &mut RowPool,
-    older: &View,
-    views: &[View],
-) -> Result<(), Fail>
-    requires based { IsBased based.now.dag.parents based.now.frozen }
-    requires holds { Holds based.now.dag.parents based.now.frozen pool.old views.now }
+/// Adds 3 to the view of the first three. Where that is refused it says whether the view and all rows
+/// are as they were.
+fn add_fourth(two: &mut Two) -> Result<(bool, Result<(), Fail>), Fail>
+    requires { AreTwo two.old.based.dag.parents two.old.based.frozen
+        two.old.pool two.old.one two.old.other }
 {
-    let before = seen_all(based.alloc, pool, older)?;
-    let live = pool.live();
-    match based.view(views, pool, 5) {
-        Ok(view) => {
-            assert_eq!(rt; view.members().count(), 5);
-            Ok(())
-        }
-        Err(refused) => {
-            assert!(rt; is_as(pool, older, &before, live));
-            Err(refused)
-        }
-    }
+    begin(two)?;
+    let before = seen_all(two.based.alloc, &two.pool, &two.other)?;
+    let live = two.pool.live();
+    let added = two.join(3);
+    let count = two.other.members().count();
+    let stands = if added.is_ok() {
+        count == 4
+    } else {
+        count == 3 && is_as(&two.pool, &two.other, &before, live)
+    };
+    Ok((stands, added))
+}
+
+/// Derives the view of all from that of the first three. Where that is refused it says whether all rows
+/// are as they were.
+fn derive_all(two: &mut Two) -> Result<(bool, Result<(), Fail>), Fail>
+    requires { AreTwo two.old.based.dag.parents two.old.based.frozen
+        two.old.pool two.old.one two.old.other }
+{
+    begin(two)?;
+    two.turn();
+    let before = seen_all(two.based.alloc, &two.pool, &two.one)?;
+    let live = two.pool.live();
+    let derived = two.derive();
+    let stands = if derived.is_ok() {
+        two.other.members().count() == 5
+    } else {
+        is_as(&two.pool, &two.one, &before, live)
+    };
+    Ok((stands, derived))
 }
 
 #[test]
 fn a_view_stays_where_no_block_can_be_added(rt: HostRuntime) -> Result<(), Fail> {
-    let based = Based::of(rt.alloc(), GRAPH)?;
-    let mut pool = RowPool::new(rt.alloc());
-    let mut view = based.view(&[], &mut pool, 3)?;
-    add_fourth(&rt, &based, &mut pool, &mut view)
+    let mut two = Two::start(rt.alloc())?;
+    let left = add_fourth(&mut two);
+    drop(two);
+    let (stands, added) = left?;
+    holds(&rt, 0, stands);
+    added
 }
 
 #[test]
 fn rows_stay_where_no_view_can_be_derived(rt: HostRuntime) -> Result<(), Fail> {
-    let based = Based::of(rt.alloc(), GRAPH)?;
-    let mut pool = RowPool::new(rt.alloc());
-    let mut views = Vec::new(rt.alloc());
-    let first = based.view(views.as_slice(), &mut pool, 3)?;
-    put_last(&mut views, first)?;
-    let listed = views.as_slice();
-    derive_all(&rt, &based, &mut pool, nth(listed, 0)?, listed)
+    let mut two = Two::start(rt.alloc())?;
+    let left = derive_all(&mut two);
+    drop(two);
+    let (stands, derived) = left?;
+    holds(&rt, 0, stands);
+    derived
 }

@@ -1,27 +1,19 @@
 //! Two views of a small graph that share rows: what stands in each row, and how many are live.
 
-ghost use Rattle.std.specs.Prelude.{◌≡◌, [], IfOk, OnOk};
-ghost use Rattle.sp_tests_views.specs.Holding.{CanVote, Holds, IsBased};
+ghost use Rattle.std.specs.Prelude.{OnOk};
+ghost use Rattle.sp_tests_views.specs.Voting.{AreTwo};
 
-use crate::based::Based;
-use crate::blocks::{first, has_just, row_of};
-use crate::compare::{changes, vote_on};
-use crate::grown::{Grown, release_all};
-use crate::holding::{add_at, drop_at, fork_at, nth, put_last};
-use crate::voters::places;
-use sp_plain::plain_votes;
+use crate::places::{has_just, places};
+use crate::rows::right;
+use crate::signs::{changes, has_votes, plain_of};
+use crate::two::Two;
 use sp_rows::{RowId, RowPool};
 use sp_view::View;
-use std::alloc::Global;
-use std::process::Abort;
 use std::test::Fail;
 
 /// Whether a live row has just these places.
-fn is(pool: &RowPool, row: RowId, members: &[u8]) -> bool {
-    match places(pool, row) {
-        Some(row) => has_just(&row, members),
-        None => false,
-    }
+fn is(pool: &RowPool, row: RowId, members: &[u8]) -> Result<bool, Fail> {
+    Ok(has_just(&places(pool, row)?, members))
 }
 
 /// How often each of two rows is counted.
@@ -35,185 +27,155 @@ fn counts(pool: &RowPool, rows: (RowId, RowId)) -> Option<(u32, u32)> {
 
 /// The two rows of a pair inside a view.
 fn rows_of(view: &View, pair: u32) -> Result<(RowId, RowId), Fail> {
-    let rows = view.rows(pair).ok_or("not inside")?;
-    Ok(rows)
+    Ok(view.rows(pair).ok_or("not inside")?)
 }
 
-/// Whether a view is that of genesis, of 1 and of 2: both rows of the one pair are empty.
-fn is_older(pool: &RowPool, view: &View) -> Result<bool, Fail> {
-    let (plus, minus) = rows_of(view, 0)?;
+/// Whether the one view is that of genesis, of 1 and of 2: these two rows of the one pair are empty.
+fn is_older(pool: &RowPool, view: &View, rows: (RowId, RowId)) -> Result<bool, Fail> {
     Ok(
         has_just(view.members(), &[0, 1, 2])
+            && view.rows(0) == Some(rows)
             && view.rows(1).is_none()
-            && is(pool, plus, &[])
-            && is(pool, minus, &[]),
+            && is(pool, rows.0, &[])?
+            && is(pool, rows.1, &[])?,
     )
 }
 
 /// Whether a view is that of all four, of which 3 stands on 1: genesis votes for 1 before 2, and
 /// genesis and 1 vote for 3 before 2.
-fn is_newer(based: &Based, pool: &RowPool, view: &View) -> Result<bool, Fail>
-    requires { CanVote based.now.dag.parents based.now.frozen pool.now view.now }
-{
-    let (plus, minus) = rows_of(view, 0)?;
-    let (new_plus, new_minus) = rows_of(view, 1)?;
-    let (dag, frozen) = (&based.dag, &based.frozen);
+fn is_newer(pool: &RowPool, view: &View) -> Result<bool, Fail> {
+    let (first, second) = (rows_of(view, 0)?, rows_of(view, 1)?);
     Ok(
         has_just(view.members(), &[0, 1, 2, 3])
-            && is(pool, plus, &[])
-            && is(pool, minus, &[0])
-            && is(pool, new_plus, &[0, 1])
-            && is(pool, new_minus, &[])
-            && vote_on(dag, frozen, pool, view, 0) == Some(-1)
-            && vote_on(dag, frozen, pool, view, 1) == Some(1),
+            && is(pool, first.0, &[])?
+            && is(pool, first.1, &[0])?
+            && is(pool, second.0, &[0, 1])?
+            && is(pool, second.1, &[])?,
     )
 }
 
-/// Genesis with 1 and 2 on it, and the view of them as the first of the list.
-fn start(alloc: Global, views: &mut Vec<View>, pool: &mut RowPool) -> Result<Based, Fail>
-    requires none { views.old.items ≡ [] }
-    requires empty { pool.old.rows ≡ [] }
-    ensures based { IfOk result (λ based. IsBased based.dag.parents based.frozen) }
-    ensures holds { IfOk result (λ based.
-        Holds based.dag.parents based.frozen pool.new views.new.items) }
+/// Whether the other view votes so, and the plain votes of the four are the same.
+fn votes_so(two: &Two) -> Result<bool, Fail>
+    requires { AreTwo two.now.based.dag.parents two.now.based.frozen
+        two.now.pool two.now.one two.now.other }
 {
-    let based = Based::of(alloc, &[&[0], &[0]])?;
-    let view = based.view(views, pool, 3)?;
-    put_last(views, view)?;
-    Ok(based)
+    let (dag, frozen, pool) = (&two.based.dag, &two.based.frozen, &two.pool);
+    let votes = [Some(-1), Some(1)];
+    let plain = plain_of(two.based.alloc, dag, frozen, pool, &two.other)?;
+    Ok(has_votes(dag, frozen, pool, &two.other, &votes) && plain.as_slice() == votes.as_slice())
 }
 
-/// Derives the view of all four from those of the list, and puts it last.
-fn derive_four(based: &Based, views: &mut Vec<View>, pool: &mut RowPool) -> Result<(), Fail>
-    requires based { IsBased based.now.dag.parents based.now.frozen }
-    requires holds { Holds based.now.dag.parents based.now.frozen pool.old views.old.items }
-    ensures { OnOk result (Holds based.now.dag.parents based.now.frozen pool.new views.new.items) }
+/// Whether just both pairs changed from the one view to the other.
+fn both_changed(two: &Two) -> Result<bool, Fail>
+    requires { AreTwo two.now.based.dag.parents two.now.based.frozen
+        two.now.pool two.now.one two.now.other }
 {
-    let view = based.view(views, pool, 4)?;
-    put_last(views, view)?;
-    Ok(())
+    let (dag, frozen, pool) = (&two.based.dag, &two.based.frozen, &two.pool);
+    let changed = changes(dag, frozen, pool, &two.one, &two.other)?;
+    Ok(changed.as_slice() == [0, 1].as_slice())
 }
 
-/// Checks that the one unrelated pair is that of 1 and 2, and that both its rows are live and empty.
-fn check_start(rt: &impl Abort, based: &Based, pool: &RowPool, views: &[View]) -> Result<(), Fail> {
-    let dag = &based.dag;
-    assert!(rt; dag.len() == 3);
-    assert_eq!(rt; (dag.pair_of(1, 2), dag.pair_of(0, 1)), (Some(0), None));
-    assert_eq!(rt; pool.live(), 2);
-    assert!(rt; is_older(pool, nth(views, 0)?)?);
-    Ok(())
+/// Whether two views share a row that the older one has from before, while the other row differs, and so
+/// do those of the new pair.
+fn share_one(two: &Two, before: (RowId, RowId)) -> Result<bool, Fail> {
+    let (pool, after) = (&two.pool, rows_of(&two.other, 0)?);
+    Ok(
+        pool.live() == 5
+            && after.0 == before.0
+            && after.1 != before.1
+            && counts(pool, before) == Some((2, 1))
+            && counts(pool, after) == Some((2, 1))
+            && is_older(pool, &two.one, before)?
+            && is_newer(pool, &two.other)?,
+    )
 }
 
-/// Checks two views of a list, of which the first has the rows from before, and the second shares one
-/// of them; the other one differs, and so do the rows of the new pair.
-fn check_both(
-    rt: &impl Abort,
-    based: &Based,
-    pool: &RowPool,
-    views: &[View],
-    before: (RowId, RowId),
-) -> Result<(), Fail>
-    requires { Holds based.now.dag.parents based.now.frozen pool.now views.now }
-{
-    let (older, newer) = (nth(views, 0)?, nth(views, 1)?);
-    let after = rows_of(newer, 0)?;
-    assert_eq!(rt; pool.live(), 5);
-    assert!(rt; after.0 == before.0 && after.1 != before.1);
-    assert!(rt; is_newer(based, pool, newer)?);
-    assert!(rt; is_older(pool, older)? && rows_of(older, 0)? == before);
-    assert_eq!(rt;
-        (counts(pool, before), counts(pool, after)),
-        (Some((2, 1)), Some((2, 1)))
-    );
-    let changed = changes(&based.dag, &based.frozen, pool, older, newer)?;
-    assert_eq!(rt; changed.as_slice(), [0, 1].as_slice());
-    Ok(())
-}
-
-/// Checks the second view once the first one went.
-fn check_alone(rt: &impl Abort, based: &Based, pool: &RowPool, views: &[View]) -> Result<(), Fail>
-    requires { Holds based.now.dag.parents based.now.frozen pool.now views.now }
-{
-    assert_eq!(rt; pool.live(), 4);
-    let view = nth(views, 0)?;
-    assert!(rt; is_newer(based, pool, view)?);
-    Ok(())
-}
-
-/// Lets the first view go and then the other one, after which no row is live.
-fn let_both_go(
-    rt: &impl Abort,
-    based: &Based,
-    pool: &mut RowPool,
-    views: &mut Vec<View>,
-) -> Result<(), Fail>
-    requires { Holds based.now.dag.parents based.now.frozen pool.old views.old.items }
-{
-    assert!(rt; views.len() == 2);
-    drop_at(views, &based.dag, &based.frozen, pool, 0);
-    check_alone(rt, based, pool, views)?;
-    release_all(views, &based.dag, &based.frozen, pool);
-    assert_eq!(rt; pool.live(), 0);
-    Ok(())
-}
-
-/// The plain votes of all four on the two pairs.
-fn plain_four(based: &Based) -> Result<(i8, i8), Fail> {
-    if based.dag.len() != 4 {
-        return Err("other blocks".into());
+/// Whether 1 and 2 are the one unrelated pair, both of whose rows are live and empty.
+fn is_start(two: &Two, rows: (RowId, RowId)) -> Result<bool, Fail> {
+    let dag = &two.based.dag;
+    if dag.len() != 3 {
+        return Ok(false);
     }
-    let plain = plain_votes(based.alloc, &based.dag, &first(&based.dag, 4))?;
-    Ok((plain.vote(1, 2), plain.vote(2, 3)))
+    let pairs = (dag.pair_of(1, 2), dag.pair_of(0, 1));
+    Ok(pairs == (Some(0), None) && two.pool.live() == 2 && is_older(&two.pool, &two.one, rows)?)
+}
+
+/// Makes the one view that of genesis, 1 and 2, and answers its rows.
+fn begin(two: &mut Two) -> Result<(RowId, RowId), Fail>
+    requires { AreTwo two.old.based.dag.parents two.old.based.frozen
+        two.old.pool two.old.one two.old.other }
+    ensures { OnOk result (AreTwo two.new.based.dag.parents two.new.based.frozen
+        two.new.pool two.new.one two.new.other) }
+{
+    two.derive()?;
+    two.turn();
+    let rows = rows_of(&two.one, 0)?;
+    if is_start(two, rows)? {
+        Ok(rows)
+    } else {
+        Err("another start".into())
+    }
+}
+
+/// What is wrong with both views, with the newer one once the older one went, and once both did.
+fn wrong_then(two: &mut Two, before: (RowId, RowId)) -> Result<&'static str, Fail>
+    requires { AreTwo two.old.based.dag.parents two.old.based.frozen
+        two.old.pool two.old.one two.old.other }
+{
+    if !(share_one(two, before)? && votes_so(two)? && both_changed(two)?) {
+        return Ok("both");
+    }
+    two.turn();
+    two.let_go();
+    if !(two.pool.live() == 4 && is_newer(&two.pool, &two.one)?) {
+        return Ok("the newer one");
+    }
+    two.turn();
+    if !votes_so(two)? {
+        return Ok("the votes of the newer one");
+    }
+    two.let_go();
+    Ok(if two.pool.live() == 0 { "" } else { "none" })
+}
+
+fn wrong_forked(two: &mut Two) -> Result<&'static str, Fail>
+    requires { AreTwo two.old.based.dag.parents two.old.based.frozen
+        two.old.pool two.old.one two.old.other }
+{
+    let before = begin(two)?;
+    two.fork()?;
+    if (two.pool.live(), counts(&two.pool, before)) != (2, Some((2, 2))) {
+        return Ok("the fork");
+    }
+    two.grow(3, 1)?;
+    two.join(3)?;
+    wrong_then(two, before)
+}
+
+fn wrong_derived(two: &mut Two) -> Result<&'static str, Fail>
+    requires { AreTwo two.old.based.dag.parents two.old.based.frozen
+        two.old.pool two.old.one two.old.other }
+{
+    let before = begin(two)?;
+    two.grow(3, 1)?;
+    two.derive()?;
+    wrong_then(two, before)
 }
 
 #[test]
 fn a_fork_keeps_the_rows_that_stay(rt: HostRuntime) -> Result<(), Fail> {
-    let mut pool = RowPool::new(rt.alloc());
-    let mut views = Vec::new(rt.alloc());
-    let two = start(rt.alloc(), &mut views, &mut pool)?;
-    check_start(&rt, &two, &pool, &views)?;
-    let before = rows_of(nth(&views, 0)?, 0)?;
-    fork_at(&two, &mut views, &mut pool, 0)?;
-    assert_eq!(rt; (pool.live(), counts(&pool, before)), (2, Some((2, 2))));
-    let three = two.grow(&views, &pool, 3, &row_of(&[1]))?;
-    add_at(&mut views, &three.dag, &three.frozen, &mut pool, 1, 3)?;
-    check_both(&rt, &three, &pool, &views, before)?;
-    let_both_go(&rt, &three, &mut pool, &mut views)?;
-    assert_eq!(rt; plain_four(&three)?, (-1, 1));
+    let mut two = Two::start(rt.alloc())?;
+    let wrong = wrong_forked(&mut two);
+    drop(two);
+    right(&rt, 0, wrong?);
     Ok(())
 }
 
 #[test]
 fn a_derived_view_keeps_the_rows_that_stay(rt: HostRuntime) -> Result<(), Fail> {
-    let mut pool = RowPool::new(rt.alloc());
-    let mut views = Vec::new(rt.alloc());
-    let two = start(rt.alloc(), &mut views, &mut pool)?;
-    let before = rows_of(nth(&views, 0)?, 0)?;
-    let three = two.grow(&views, &pool, 3, &row_of(&[1]))?;
-    derive_four(&three, &mut views, &mut pool)?;
-    check_both(&rt, &three, &pool, &views, before)?;
-    let_both_go(&rt, &three, &mut pool, &mut views)
-}
-
-/// Checks that the views of the new tip and of all hold these two rows, and no others are live.
-fn check_tip(rt: &impl Abort, grown: &Grown, before: (RowId, RowId)) -> Result<(), Fail> {
-    assert_eq!(rt; grown.views.len(), 2);
-    let (tip, all) = (nth(&grown.views, 0)?, nth(&grown.views, 1)?);
-    assert!(rt; has_just(tip.members(), &[0, 1, 2, 3]) && has_just(all.members(), &[0, 1, 2, 3]));
-    assert!(rt; rows_of(tip, 0)? == before && rows_of(all, 0)? == before);
-    assert!(rt; is(&grown.pool, before.0, &[]) && is(&grown.pool, before.1, &[]));
-    assert_eq!(rt;
-        (grown.pool.live(), counts(&grown.pool, before)),
-        (2, Some((2, 2)))
-    );
+    let mut two = Two::start(rt.alloc())?;
+    let wrong = wrong_derived(&mut two);
+    drop(two);
+    right(&rt, 0, wrong?);
     Ok(())
-}
-
-#[test]
-fn a_block_on_two_tips_takes_no_rows(rt: HostRuntime) -> Result<(), Fail> {
-    let two = Grown::of(rt.alloc(), &[&[0], &[0]])?;
-    let before = rows_of(two.all()?, 0)?;
-    assert!(rt; is(&two.pool, before.0, &[]) && is(&two.pool, before.1, &[]));
-    let three = two.grow(3, &row_of(&[1, 2]))?;
-    check_tip(&rt, &three, before)
 }

@@ -1,24 +1,27 @@
 //! Small graphs whose votes and rows are worked out by hand.
 
-ghost use Rattle.std.specs.Prelude.{◌<◌, length, IfOk, IfSome};
+ghost use Rattle.std.specs.Prelude.{◌≡◌, [], ◌<◌, length, IfOk, IfSome};
 ghost use Rattle.sp_dag.specs.Numbered.{pairs_of};
-ghost use Rattle.sp_tests_views.specs.Holding.{CanVote, IsBased, IsGrown};
+ghost use Rattle.sp_tests_views.specs.Voting.{CanVote};
 
-use crate::based::Based;
-use crate::blocks::has_just;
-use crate::compare::vote_on;
-use crate::grown::Grown;
-use crate::voters::{frozen_rows, places};
+use crate::engines::{come, engine_of};
+use crate::places::{has_just, places};
+use crate::rows::holds;
+use crate::signs::vote_on;
+use crate::voters::frozen_rows;
 use sp_bits::Row;
 use sp_dag::Dag;
+use sp_engine::Engine;
+use sp_fixtures::Numbered;
 use sp_frozen::Frozen;
+use sp_ids::Memory;
 use sp_rows::RowPool;
 use sp_view::View;
 use std::alloc::Global;
 use std::test::Fail;
 
 /// Blocks by number, each with the numbers of its parents; genesis is number 0 and isn't listed.
-type Graph = &'static [&'static [u8]];
+type Graph = &'static [&'static [usize]];
 
 /// 1 and 2 stand side by side on genesis.
 const TWO: Graph = &[&[0], &[0]];
@@ -102,6 +105,9 @@ fn pair_of(dag: &Dag, x: u16, y: u16) -> Result<Option<u32>, Fail>
     }
 }
 
+/// The frozen voters of +1 and of -1 on a pair, and the loose ones.
+type Four = (Row, Row, Row, Row);
+
 /// The four rows of a pair inside a view.
 fn four_rows(
     dag: &Dag,
@@ -109,113 +115,165 @@ fn four_rows(
     pool: &RowPool,
     view: &View,
     pair: u32,
-) -> Result<(Row, Row, Row, Row), Fail>
-    requires based { IsBased dag.now.parents frozen.now }
-    requires listed { pair < length (pairs_of dag.now.parents) }
-{
-    let (plus, minus) = view.rows(pair).ok_or("not inside")?;
-    let loose_plus = places(pool, plus).ok_or("no such row")?;
-    let loose_minus = places(pool, minus).ok_or("no such row")?;
-    let (frozen_plus, frozen_minus) = frozen_rows(dag, frozen, pair);
-    Ok((frozen_plus, frozen_minus, loose_plus, loose_minus))
-}
-
-/// The sum of the votes of a view's members on a pair, if its sign is what the view says.
-fn sum_on(dag: &Dag, frozen: &Frozen, pool: &RowPool, view: &View, pair: u32) -> Result<i32, Fail>
-    requires based { IsBased dag.now.parents frozen.now }
+) -> Result<Four, Fail>
     requires can { CanVote dag.now.parents frozen.now pool.now view.now }
     requires listed { pair < length (pairs_of dag.now.parents) }
 {
-    let (plus, minus, loose_plus, loose_minus) = four_rows(dag, frozen, pool, view, pair)?;
-    let sum = view.members().balance(&plus, &minus);
-    let sum = sum.saturating_add(view.members().balance(&loose_plus, &loose_minus));
-    let sign = vote_on(dag, frozen, pool, view, pair).ok_or("not inside")?;
-    if (sum > 0, sum < 0) != (sign == 1, sign == -1) {
-        return Err("another sign".into());
+    let (plus, minus) = frozen_rows(dag, frozen, pair);
+    match view.rows(pair) {
+        Some(loose) => Ok((plus, minus, places(pool, loose.0)?, places(pool, loose.1)?)),
+        None => Err("not inside".into()),
     }
-    Ok(sum)
 }
 
-/// The sum on two blocks in the order in which they are given; there is none where they are related.
-fn sum_of(
+/// What a view has of two unrelated blocks: the sum of its members' votes, in the order in which the
+/// blocks are given, and the four rows of their pair.
+type Said = Option<(i32, Four)>;
+
+/// The sum of the votes of a view's members by the four rows of a pair, if its sign is what the view
+/// says.
+fn sum_on(
+    dag: &Dag,
+    frozen: &Frozen,
+    pool: &RowPool,
+    view: &View,
+    pair: u32,
+    rows: &Four,
+) -> Result<i32, Fail>
+    requires can { CanVote dag.now.parents frozen.now pool.now view.now }
+{
+    let members = view.members();
+    let sum = members
+        .balance(&rows.0, &rows.1)
+        .saturating_add(members.balance(&rows.2, &rows.3));
+    let vote = vote_on(dag, frozen, pool, view, pair);
+    if vote == Some((sum > 0) as i8 - (sum < 0) as i8) {
+        Ok(sum)
+    } else {
+        Err("another sign".into())
+    }
+}
+
+fn said_of(
     dag: &Dag,
     frozen: &Frozen,
     pool: &RowPool,
     view: &View,
     x: u16,
     y: u16,
-) -> Result<Option<i32>, Fail>
-    requires based { IsBased dag.now.parents frozen.now }
-    requires can { CanVote dag.now.parents frozen.now pool.now view.now }
+) -> Result<Said, Fail>
+    requires { CanVote dag.now.parents frozen.now pool.now view.now }
 {
-    match pair_of(dag, x, y)? {
-        Some(pair) => {
-            let sum = sum_on(dag, frozen, pool, view, pair)?;
-            Ok(Some(if x < y { sum } else { sum.saturating_neg() }))
-        }
-        None => Ok(None),
+    let Some(pair) = pair_of(dag, x, y)? else {
+        return Ok(None);
+    };
+    let rows = four_rows(dag, frozen, pool, view, pair)?;
+    let sum = sum_on(dag, frozen, pool, view, pair, &rows)?;
+    Ok(Some((if x < y { sum } else { sum.saturating_neg() }, rows)))
+}
+
+/// The view of the same set as another one, derived from nothing over a pool without rows.
+fn derived(
+    alloc: Global,
+    dag: &Dag,
+    frozen: &Frozen,
+    pool: &RowPool,
+    view: &View,
+    own: &mut RowPool,
+) -> Result<View, Memory>
+    requires can { CanVote dag.now.parents frozen.now pool.now view.now }
+    requires empty { own.old.rows ≡ [] }
+    ensures { IfOk result (λ again. CanVote dag.now.parents frozen.now own.new again) }
+{
+    View::derive(alloc, &[], dag, frozen, own, view.members())
+}
+
+/// The same by that view.
+fn said_again(
+    alloc: Global,
+    dag: &Dag,
+    frozen: &Frozen,
+    pool: &RowPool,
+    view: &View,
+    x: u16,
+    y: u16,
+) -> Result<Said, Fail>
+    requires { CanVote dag.now.parents frozen.now pool.now view.now }
+{
+    let mut own = RowPool::new(alloc);
+    let again = derived(alloc, dag, frozen, pool, view, &mut own)?;
+    said_of(dag, frozen, &own, &again, x, y)
+}
+
+/// What the view of all of an engine has, which grew block by block, and the derived one.
+fn both(alloc: Global, engine: &Engine, x: u16, y: u16) -> Result<(Said, Said), Fail> {
+    if engine.broken() {
+        return Err("broken".into());
     }
+    let (dag, frozen, pool) = (engine.dag(), engine.frozen(), engine.row_pool());
+    let all = engine.view_all();
+    let said = said_of(dag, frozen, pool, all, x, y)?;
+    let again = said_again(alloc, dag, frozen, pool, all, x, y)?;
+    Ok((said, again))
 }
 
-/// The sum by the view of all that grew block by block.
-fn grown_sum(alloc: Global, graph: Graph, x: u16, y: u16) -> Result<Option<i32>, Fail> {
-    let grown = Grown::of(alloc, graph)?;
-    sum_of(&grown.dag, &grown.frozen, &grown.pool, grown.all()?, x, y)
+fn both_behind(
+    engine: &mut Engine,
+    blocks: &Numbered,
+    x: u16,
+    y: u16,
+) -> Result<(Said, Said), Fail> {
+    for number in 1..blocks.ids.len() {
+        come(engine, blocks, number)?;
+    }
+    both(blocks.alloc, engine, x, y)
 }
 
-/// The sum by the view of all that is derived from nothing.
-fn derived_sum(alloc: Global, graph: Graph, x: u16, y: u16) -> Result<Option<i32>, Fail> {
-    let based = Based::of(alloc, graph)?;
-    let mut pool = RowPool::new(alloc);
-    let view = based.view(&[], &mut pool, based.dag.len())?;
-    sum_of(&based.dag, &based.frozen, &pool, &view, x, y)
+/// What both have of two blocks of a graph.
+fn both_of(alloc: Global, graph: Graph, x: u16, y: u16) -> Result<(Said, Said), Fail> {
+    let blocks = Numbered::of(alloc, graph)?;
+    let mut engine = engine_of(alloc, &blocks)?;
+    let both = both_behind(&mut engine, &blocks, x, y);
+    drop(engine);
+    both
+}
+
+fn has_sum(said: &Said, sum: Option<i32>) -> bool {
+    match said {
+        Some((found, _)) => sum == Some(*found),
+        None => sum.is_none(),
+    }
 }
 
 #[test]
 fn sums(rt: HostRuntime) -> Result<(), Fail> {
-    for (graph, x, y, sum) in SUMS {
-        assert_eq!(rt;
-            grown_sum(rt.alloc(), graph, *x, *y)?,
-            *sum,
-            "{x} and {y} of {graph:?}"
-        );
-        assert_eq!(rt;
-            derived_sum(rt.alloc(), graph, *x, *y)?,
-            *sum,
-            "{x} and {y} of {graph:?}"
-        );
+    for (row, (graph, x, y, sum)) in SUMS.iter().enumerate() {
+        let both = both_of(rt.alloc(), graph, *x, *y)?;
+        holds(&rt, row, has_sum(&both.0, *sum) && has_sum(&both.1, *sum));
     }
     Ok(())
 }
 
-/// Whether the four rows of two blocks' pair are these.
-fn has_sides(grown: &Grown, x: u16, y: u16, sides: &Sides) -> Result<bool, Fail>
-    requires { IsGrown grown.now.dag.parents grown.now.frozen grown.now.pool grown.now.views.items }
-{
-    let all = grown.all()?;
-    let pair = pair_of(&grown.dag, x, y)?.ok_or("related")?;
-    let (plus, minus, loose_plus, loose_minus) = four_rows(
-        &grown.dag,
-        &grown.frozen,
-        &grown.pool,
-        all,
-        pair,
-    )?;
-    Ok(
-        has_just(&plus, sides[0])
-            && has_just(&minus, sides[1])
-            && has_just(&loose_plus, sides[2])
-            && has_just(&loose_minus, sides[3]),
-    )
+fn has_sides(said: &Said, sides: &Sides) -> bool {
+    match said {
+        Some((_, rows)) => {
+            has_just(&rows.0, sides[0])
+                && has_just(&rows.1, sides[1])
+                && has_just(&rows.2, sides[2])
+                && has_just(&rows.3, sides[3])
+        }
+        None => false,
+    }
 }
 
 #[test]
 fn rows(rt: HostRuntime) -> Result<(), Fail> {
-    for (graph, x, y, sides) in SIDES {
-        let grown = Grown::of(rt.alloc(), graph)?;
-        assert!(rt;
-            has_sides(&grown, *x, *y, sides)?,
-            "{x} and {y} of {graph:?}"
+    for (row, (graph, x, y, sides)) in SIDES.iter().enumerate() {
+        let both = both_of(rt.alloc(), graph, *x, *y)?;
+        holds(
+            &rt,
+            row,
+            has_sides(&both.0, sides) && has_sides(&both.1, sides),
         );
     }
     Ok(())

@@ -1,6 +1,18 @@
-use Rattle.sp_tests_views.proofs.Changing.{holds_next}
+use Rattle.std.proofs.Common.{◌∷◌, [], ap, rules}
+use Rattle.std.specs.Prelude.{map}
+use Rattle.sp_dag.specs.Numbered.{number_of, Numbered}
+use Rattle.sp_tests_views.proofs.Pasts.{each_there, frozen_beside, view_beside}
 use Rattle.sp_tests_views.proofs.based.Based.grow.Goals as goal
 
-pub returns-clause-holds : goal.returns-clause-holds
-returns-clause-holds c =
-    holds_next c.args.self.dag.parents c.in_ok-based.based.dag.parents c.args.self.frozen c.in_ok-based.based.frozen c.args.pool.now c.args.views.now c.requires.based c.in_ok-based.ensures.based c.in_ok-based.ensures.more c.requires.holds
+pub add-requires-clause-known : goal.add-requires-clause-known
+add-requires-clause-known c = λ k d lt. each_there c.args.self.now.dag.ids c.id-on.result k d (search rules) lt
+
+pub freeze_last-requires-clause-frozen : goal.freeze_last-requires-clause-frozen
+freeze_last-requires-clause-frozen c =
+    frozen_beside c.args.self.now.dag.parents c.add.new.self.parents (map (number_of c.args.self.now.dag.ids) (c.id-on.result ∷ [])) (ap (λ (n : Numbered). n.parents) c.in_ok-add.ensures.ok)
+    c.len.ensures.numbered.order c.len-blocks.ensures.numbered.order c.args.self.now.frozen c.requires.voted
+
+pub returns-clause-views : goal.returns-clause-views
+returns-clause-views c =
+    view_beside c.args.self.now.dag.parents c.add.new.self.parents (map (number_of c.args.self.now.dag.ids) (c.id-on.result ∷ [])) (ap (λ (n : Numbered). n.parents) c.in_ok-add.ensures.ok)
+    c.len.ensures.numbered.order c.len-blocks.ensures.numbered.order

@@ -1,9 +1,0 @@
-use Rattle.std.proofs.Common.{◌<◌, ℕ, Option, length, subst}
-use Rattle.std.specs.Prelude.{IfSome}
-use Rattle.sp_view.proofs.Listing.{view_listed}
-use Rattle.sp_tests_views.proofs.compare.vote_on.Goals as goal
-
-pub virtual_vote-requires-clause-listed : goal.virtual_vote-requires-clause-listed
-virtual_vote-requires-clause-listed c =
-    subst (λ (o : Option (ℕ × ℕ)). IfSome o (λ _. c.args.pair < length c.args.frozen.now.pluses)) c.in-Some.ensures.some
-    (view_listed c.args.dag.now.parents c.args.view.now c.args.pool.now c.args.frozen.now c.requires.is c.requires.voted c.requires.added c.args.pair)

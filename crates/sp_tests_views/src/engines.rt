@@ -1,0 +1,43 @@
+//! An engine to which the blocks of a graph come one by one.
+
+ghost use Rattle.std.specs.Prelude.{◌≡◌, ◌≤◌, false, length, IfSome};
+ghost use Rattle.sp_tests_views.specs.Voting.{CanVote};
+
+use sp_engine::{Answer, Engine};
+use sp_fixtures::{Numbered, genesis_of};
+use sp_view::View;
+use std::alloc::Global;
+use std::test::Fail;
+
+/// An engine of genesis alone.
+pub(crate) fn engine_of(alloc: Global, blocks: &Numbered) -> Result<Engine, Fail> {
+    Ok(Engine::new(alloc, genesis_of(alloc, blocks.text(0))?, 0)?)
+}
+
+/// A block comes to an engine, whose parents are all present.
+pub(crate) fn come(engine: &mut Engine, blocks: &Numbered, number: usize) -> Result<(), Fail> {
+    if engine.broken() {
+        return Err("broken".into());
+    }
+    match engine.offer(blocks.text(number))? {
+        Answer::Kept { id: _, present: 1 } => Ok(()),
+        _ => Err("not present".into()),
+    }
+}
+
+/// The view of a tip and its past, by the tip's number, or that of all blocks by the number behind the
+/// last one.
+pub(crate) fn view_at(engine: &Engine, n: u16) -> Option<&View>
+    requires whole { engine.now.broken ≡ false }
+    requires within { n ≤ length engine.now.numbered.parents }
+    ensures { IfSome result (λ view. CanVote engine.now.numbered.parents
+        engine.now.votes.frozen engine.now.votes.rows view.now) }
+{
+    // Tells the proof that all blocks have frozen votes.
+    let _frozen = engine.frozen();
+    if n < engine.present() {
+        engine.tip_view(n)
+    } else {
+        Some(engine.view_all())
+    }
+}
