@@ -1,7 +1,7 @@
-//! Acceptance: which carriers and which transactions are accepted, by one pass over the carriers in
-//! their order, and which transactions' acceptance turned. It stands on the definition of an
-//! accepted carrier in the crate of the carriers; where blocks stand to one another is told by
-//! whatever order is handed in.
+//! Acceptance: which carriers and which transactions are accepted, and which transactions'
+//! acceptance turned, by what blocks that join can change, or by one pass over all carriers in their
+//! order. It stands on the definition of an accepted carrier in the crate of the carriers; where
+//! blocks stand to one another is told by whatever order is handed in.
 #![tactic(auto)]
 
 mod accepted;
