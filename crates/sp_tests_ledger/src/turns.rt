@@ -1,0 +1,122 @@
+//! Which transactions turn as blocks come, where acceptance decides anew and where it decides by what
+//! changed: steps that were worked out by hand.
+
+use crate::ledger::Ledger;
+use crate::payments::{chosen, tx_ids};
+use crate::rows::right;
+use crate::turn_rows::{Laid, SCENES, Step};
+use sp_carry::Flip;
+use sp_fixtures::graph;
+use sp_ids::TxId;
+use std::alloc::Global;
+use std::test::Fail;
+
+/// Pairs that no update has to be told: the higher number first, related ones, such as come twice,
+/// and blocks that don't exist. Those that are there may be told, too.
+#[rattlefmt::skip]
+const OTHERS: &[(u16, u16)] = &[
+    (5, 6), (2, 1), (1, 2), (600, 700), (65_535, 0), (0, 1), (1, 1), (3, 4), (0, 65_535),
+    (1, 2), (2, 3), (1, 3), (1, 512), (4, 2), (2, 4), (0, 0), (3, 3), (1, 4),
+];
+
+/// Adds a block with the transactions of these numbers.
+fn lay(alloc: Global, ids: &[TxId], ledger: &mut Ledger, laid: &Laid) -> Result<(), Fail> {
+    let (parents, numbers) = *laid;
+    let [new, _] = ledger.blocks().to_le_bytes();
+    let mut named = Vec::new(alloc);
+    for parent in parents {
+        named.push(graph::id(*parent))?;
+    }
+    let txs = chosen(alloc, ids, numbers)?;
+    ledger.add(graph::id(new), &named, &txs)
+}
+
+/// Decides anew, by what changed, or so with other pairs.
+fn decide(ledger: &mut Ledger, way: u8) -> Result<Vec<Flip>, Fail> {
+    match way {
+        0 => ledger.rebuild(),
+        1 => ledger.update(&[]),
+        _ => ledger.update(OTHERS),
+    }
+}
+
+fn are_turned(flips: &[Flip], turned: &[(u32, bool)]) -> bool {
+    flips.len() == turned.len()
+        && flips
+            .iter()
+            .zip(turned)
+            .all(|(flip, one)| flip.tx == one.0 && flip.now == one.1)
+}
+
+/// What is wrong where it decides once more.
+fn decided(
+    ledger: &mut Ledger,
+    way: u8,
+    step: &Step,
+    turned: &[(u32, bool)],
+) -> Result<&'static str, Fail> {
+    let flips = decide(ledger, way)?;
+    if !are_turned(&flips, turned) {
+        Ok("turned")
+    } else if !ledger.are_carriers(step.carriers) {
+        Ok("carriers")
+    } else if !ledger.are_txs(step.txs) {
+        Ok("transactions")
+    } else {
+        Ok("")
+    }
+}
+
+/// What is wrong after a step, where nothing turns when it decides a second time.
+fn stepped(
+    alloc: Global,
+    ids: &[TxId],
+    ledger: &mut Ledger,
+    way: u8,
+    step: &Step,
+) -> Result<&'static str, Fail> {
+    for laid in step.blocks {
+        lay(alloc, ids, ledger, laid)?;
+    }
+    let first = decided(ledger, way, step, step.turned)?;
+    if !first.is_empty() {
+        return Ok(first);
+    }
+    decided(ledger, way, step, &[])
+}
+
+/// What is wrong in the steps, the first of them that is.
+fn walked(
+    alloc: Global,
+    ids: &[TxId],
+    ledger: &mut Ledger,
+    way: u8,
+    steps: &[Step],
+) -> Result<&'static str, Fail> {
+    ledger.carry(&chosen(alloc, ids, &[0])?)?;
+    for step in steps {
+        let wrong = stepped(alloc, ids, ledger, way, step)?;
+        if !wrong.is_empty() {
+            return Ok(wrong);
+        }
+    }
+    Ok("")
+}
+
+fn wrong_in(alloc: Global, way: u8, steps: &[Step]) -> Result<&'static str, Fail> {
+    let ids = tx_ids(alloc)?;
+    let mut ledger = Ledger::of(alloc, graph::id(0))?;
+    let wrong = walked(alloc, &ids, &mut ledger, way, steps);
+    drop(ledger);
+    wrong
+}
+
+#[test]
+fn turned_transactions(rt: HostRuntime) -> Result<(), Fail> {
+    for (place, steps) in SCENES.iter().enumerate() {
+        for way in 0..3u8 {
+            right(&rt, place, wrong_in(rt.alloc(), way, steps)?);
+        }
+    }
+    Ok(())
+}
