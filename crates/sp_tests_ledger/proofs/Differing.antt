@@ -46,9 +46,9 @@ StayIn before after = (pair : ℕ × ℕ) → Contains before pair → Contains 
 
 pub block_more : (one other : Virts) (n : ℕ) (before after : List (ℕ × ℕ)) → AreTold one other n before → AreToldOf one other n n after → StayIn before after → AreTold one other (n + 1) after
 block_more one other n before after told new stay = λ x y lower within differ. elim (cases_lt y n) [
-      | inl less ↦ stay (x, y) (told x y lower less differ)
-      | inr ge ↦ (let last : n ≡ y = omega (arith, ge, within) in at y last x lower differ)
-    ]
+  | inl less ↦ stay (x, y) (told x y lower less differ)
+  | inr ge ↦ (let last : n ≡ y = omega (arith, ge, within) in at y last x lower differ)
+]
   where
     at : (y : ℕ) → n ≡ y → (x : ℕ) → x < y → entry one x y ≢ entry other x y → Contains after (x, y)
     at y last = subst (λ (z : ℕ). (x : ℕ) → x < z → entry one x z ≢ entry other x z → Contains after (x, z)) last new
@@ -56,10 +56,10 @@ block_more one other n before after told new stay = λ x y lower within differ. 
 pub pair_more : (one other : Virts) (y n : ℕ) (before after : List (ℕ × ℕ)) → AreToldOf one other y n before → StayIn before after
     → (entry one n y ≢ entry other n y → Contains after (n, y)) → AreToldOf one other y (n + 1) after
 pair_more one other y n before after told stay new = λ x within differ. elim (cases_lt x n) [
-      | inl less ↦ stay (x, y) (told x less differ)
-      | inr ge ↦ (let last : n ≡ x = omega (arith, ge, within) in
-          (subst (λ (z : ℕ). entry one z y ≢ entry other z y → Contains after (z, y)) last new) differ)
-    ]
+  | inl less ↦ stay (x, y) (told x less differ)
+  | inr ge ↦ (let last : n ≡ x = omega (arith, ge, within) in
+      (subst (λ (z : ℕ). entry one z y ≢ entry other z y → Contains after (z, y)) last new) differ)
+]
 
 -- ---- the carriers so far
 

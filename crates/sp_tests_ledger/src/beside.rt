@@ -44,13 +44,11 @@ fn follow_all(engine: &Engine, ledger: &mut Ledger, present: u16) -> Result<(), 
 }
 
 fn are_txs(one: &[(TxId, bool)], other: &[(TxId, bool)]) -> bool {
-    one.len() == other.len()
-        && one.iter().zip(other).all(|(a, b)| a.0 == b.0 && a.1 == b.1)
+    one.len() == other.len() && one.iter().zip(other).all(|(a, b)| a.0 == b.0 && a.1 == b.1)
 }
 
 fn are_left(one: &[(Lock, u128)], other: &[(Lock, u128)]) -> bool {
-    one.len() == other.len()
-        && one.iter().zip(other).all(|(a, b)| a.0 == b.0 && a.1 == b.1)
+    one.len() == other.len() && one.iter().zip(other).all(|(a, b)| a.0 == b.0 && a.1 == b.1)
 }
 
 fn is_said(one: &Said, other: &Said) -> bool {

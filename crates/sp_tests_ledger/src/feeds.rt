@@ -4,7 +4,7 @@ ghost use Rattle.std.specs.Prelude.{◌<◌};
 
 use crate::blocks::Blocks;
 use crate::drawn::{Draws, Shape, drawn};
-use crate::payments::{ALICE, EVE, Paid, grant, spend};
+use crate::payments::{ALICE, BOB, CAROL, DAVE, EVE, Paid, grant, spend};
 use sp_ids::{Outpoint, TxId};
 use sp_tx::{Tx, Txs, id};
 use std::alloc::Global;
@@ -43,7 +43,7 @@ fn recent<T: Copy>(draws: &mut Draws, list: &[T], among: usize) -> Option<T> {
 
 /// One of the owners.
 fn owner(draws: &mut Draws) -> u8 {
-    [ALICE, 2, 3, 4, EVE][draws.below(5)]
+    [ALICE, BOB, CAROL, DAVE, EVE][draws.below(5)]
 }
 
 /// What spends an output. One in eight has another's preimage or pays more than there is.
@@ -99,7 +99,7 @@ impl Purses {
         if draws.below(4) == 0 && !self.spends.is_empty() {
             return recent(draws, &self.spends, 6);
         }
-        let coin = recent(draws, &self.coins, 10)?;
+        let coin = recent(draws, &self.coins, 24)?;
         Some(spend_of(draws, &coin))
     }
 
@@ -136,15 +136,13 @@ fn txs_of(alloc: Global, chosen: &[Spend]) -> Result<Txs, Fail> {
     Ok(Txs::of(txs))
 }
 
-/// What genesis grants.
-#[rattlefmt::skip]
-const GRANTS: &[Paid] = &[(1 << 60, ALICE), (1 << 59, 2), (1 << 58, 3)];
-
+/// Genesis, which grants ten amounts.
 fn begin(blocks: &mut Blocks, purses: &mut Purses) -> Result<(), Fail> {
     let mut txs = Vec::new(purses.alloc);
-    for paid in GRANTS {
-        let tx = grant(purses.alloc, &[*paid])?;
-        purses.add_grant(&tx, *paid)?;
+    for number in 0..10u8 {
+        let paid = ((1u64 << 60) + number as u64, ALICE + number % 5);
+        let tx = grant(purses.alloc, &[paid])?;
+        purses.add_grant(&tx, paid)?;
         txs.push(tx)?;
     }
     blocks.put(&[], Txs::of(txs))

@@ -34,9 +34,9 @@ mod beside;
 #[cfg(test)]
 mod blocks;
 #[cfg(test)]
-mod collisions;
-#[cfg(test)]
 mod changes;
+#[cfg(test)]
+mod collisions;
 #[cfg(test)]
 mod drawn;
 #[cfg(test)]

@@ -167,7 +167,11 @@ fn wrong(alloc: Global, engine: &Engine, step: &Step) -> Result<&'static str, Fa
 }
 
 /// What is wrong after the first step after which something is.
-fn come(alloc: Global, engine: &mut Engine, blocks: &Blocks) -> Result<(usize, &'static str), Fail> {
+fn come(
+    alloc: Global,
+    engine: &mut Engine,
+    blocks: &Blocks,
+) -> Result<(usize, &'static str), Fail> {
     let mut came = 1usize;
     for step in STEPS {
         offer_each(engine, blocks, came, step.0)?;

@@ -17,11 +17,11 @@ use sp_play::Scene;
 use std::alloc::Global;
 use std::test::Fail;
 
-/// From chains of a few to crowds whose blocks have many parents.
+/// From trees to crowds whose blocks have many parents.
 #[rattlefmt::skip]
 const SHAPES: &[Shape] = &[
-    (21, 24, 2, 3), (22, 24, 2, 4), (23, 24, 3, 4), (24, 24, 1, 3), (25, 22, 3, 6),
-    (26, 22, 2, 5), (27, 20, 4, 8), (28, 20, 2, 3), (29, 18, 1, 4), (30, 16, 2, 16),
+    (11, 36, 1, 4), (30, 36, 1, 8), (15, 36, 1, 8), (20, 36, 2, 6), (7, 36, 2, 6),
+    (2, 34, 2, 12), (20, 34, 2, 12), (57, 34, 2, 12), (31, 32, 3, 8), (14, 30, 4, 30),
 ];
 
 /// How many transactions are rejected at the end, and how many turned back before.
@@ -86,10 +86,11 @@ fn are_many(alloc: Global, which: usize, least: &Counts) -> Result<bool, Fail> {
 }
 
 /// The least counts, where the blocks come as they were made, the last one first, or as drawn.
+#[rattlefmt::skip]
 const LEAST: &[Counts] = &[
-    Counts { rejected: 100, turned_back: 20 },
-    Counts { rejected: 100, turned_back: 0 },
-    Counts { rejected: 100, turned_back: 10 },
+    Counts { rejected: 380, turned_back: 100 },
+    Counts { rejected: 380, turned_back: 9 },
+    Counts { rejected: 380, turned_back: 30 },
 ];
 
 #[test]

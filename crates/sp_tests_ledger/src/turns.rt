@@ -11,8 +11,8 @@ use sp_ids::TxId;
 use std::alloc::Global;
 use std::test::Fail;
 
-/// Pairs that no update has to be told: the higher number first, related ones, such as come twice,
-/// and blocks that don't exist. Those that are there may be told, too.
+/// Pairs beside those that an update has to be told, in no order: some have the higher number first,
+/// some are of related blocks, of new ones or of none, and some stand twice.
 #[rattlefmt::skip]
 const OTHERS: &[(u16, u16)] = &[
     (5, 6), (2, 1), (1, 2), (600, 700), (65_535, 0), (0, 1), (1, 1), (3, 4), (0, 65_535),
@@ -31,12 +31,29 @@ fn lay(alloc: Global, ids: &[TxId], ledger: &mut Ledger, laid: &Laid) -> Result<
     ledger.add(graph::id(new), &named, &txs)
 }
 
-/// Decides anew, by what changed, or so with other pairs.
-fn decide(ledger: &mut Ledger, way: u8) -> Result<Vec<Flip>, Fail> {
+/// How a ledger decides.
+#[derive(Clone, Copy)]
+enum Way {
+    Anew,
+    /// By what changed.
+    Told,
+    /// So, where other pairs are told too.
+    ToldMore,
+}
+
+/// How it decides on the first step, and then on the others.
+const WAYS: &[(Way, Way)] = &[
+    (Way::Anew, Way::Anew),
+    (Way::Told, Way::Told),
+    (Way::ToldMore, Way::ToldMore),
+    (Way::Anew, Way::Told),
+];
+
+fn decide(ledger: &mut Ledger, way: Way) -> Result<Vec<Flip>, Fail> {
     match way {
-        0 => ledger.rebuild(),
-        1 => ledger.update(&[]),
-        _ => ledger.update(OTHERS),
+        Way::Anew => ledger.rebuild(),
+        Way::Told => ledger.update(&[]),
+        Way::ToldMore => ledger.update(OTHERS),
     }
 }
 
@@ -51,7 +68,7 @@ fn are_turned(flips: &[Flip], turned: &[(u32, bool)]) -> bool {
 /// What is wrong where it decides once more.
 fn decided(
     ledger: &mut Ledger,
-    way: u8,
+    way: Way,
     step: &Step,
     turned: &[(u32, bool)],
 ) -> Result<&'static str, Fail> {
@@ -72,7 +89,7 @@ fn stepped(
     alloc: Global,
     ids: &[TxId],
     ledger: &mut Ledger,
-    way: u8,
+    way: Way,
     step: &Step,
 ) -> Result<&'static str, Fail> {
     for laid in step.blocks {
@@ -90,11 +107,12 @@ fn walked(
     alloc: Global,
     ids: &[TxId],
     ledger: &mut Ledger,
-    way: u8,
+    ways: (Way, Way),
     steps: &[Step],
 ) -> Result<&'static str, Fail> {
     ledger.carry(&chosen(alloc, ids, &[0])?)?;
-    for step in steps {
+    for (place, step) in steps.iter().enumerate() {
+        let way = if place == 0 { ways.0 } else { ways.1 };
         let wrong = stepped(alloc, ids, ledger, way, step)?;
         if !wrong.is_empty() {
             return Ok(wrong);
@@ -103,10 +121,10 @@ fn walked(
     Ok("")
 }
 
-fn wrong_in(alloc: Global, way: u8, steps: &[Step]) -> Result<&'static str, Fail> {
+fn wrong_in(alloc: Global, ways: (Way, Way), steps: &[Step]) -> Result<&'static str, Fail> {
     let ids = tx_ids(alloc)?;
     let mut ledger = Ledger::of(alloc, graph::id(0))?;
-    let wrong = walked(alloc, &ids, &mut ledger, way, steps);
+    let wrong = walked(alloc, &ids, &mut ledger, ways, steps);
     drop(ledger);
     wrong
 }
@@ -114,8 +132,8 @@ fn wrong_in(alloc: Global, way: u8, steps: &[Step]) -> Result<&'static str, Fail
 #[test]
 fn turned_transactions(rt: HostRuntime) -> Result<(), Fail> {
     for (place, steps) in SCENES.iter().enumerate() {
-        for way in 0..3u8 {
-            right(&rt, place, wrong_in(rt.alloc(), way, steps)?);
+        for ways in WAYS {
+            right(&rt, place, wrong_in(rt.alloc(), *ways, steps)?);
         }
     }
     Ok(())
