@@ -1,12 +1,8 @@
 -- What a test's ledger holds stays so as blocks come, are carried and are decided on.
-use Rattle.std.proofs.Common.{◌≡◌, ℕ, ◌+◌, ◌<◌, List, [], ◌∷◌, ◌++◌, length, refl, sym, ap, subst, ◌∙◌, arith, length-append}
-use Rattle.std.proofs.lemmas.List.Elements.{All-nil}
+use Rattle.std.proofs.Common.{◌≡◌, ℕ, ◌<◌, List, [], ◌∷◌, ◌++◌, length, sym, subst, arith, length-append}
 use Rattle.sp_tx.specs.Parts.{Transaction}
 use Rattle.sp_dag.specs.Numbered.{AreInOrder}
-use Rattle.sp_carry.specs.declared.carrier.Carrier.{Carrier}
-use Rattle.sp_carry.specs.Payment.{payment_of}
-use Rattle.sp_carry.specs.Ledger.{is_sound}
-use Rattle.sp_carry.specs.Carried.{Carried, IsCarried, ledger_of, nothing, tx_at, with_block, with_carriers}
+use Rattle.sp_carry.specs.Carried.{Carried, IsCarried, with_block, with_carriers}
 use Rattle.sp_carry.proofs.Blocks.{blocks_all}
 use Rattle.sp_carry.proofs.Soundness.{grown_sound, sound_block}
 use Rattle.sp_accept.specs.Acceptance.{Acceptance, IsRight}

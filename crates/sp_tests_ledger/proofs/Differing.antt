@@ -11,7 +11,6 @@ use Rattle.sp_dag.proofs.Whole.{keys_are_numbers}
 use Rattle.sp_plain.specs.Virts.{entry, HasVirts, Virts}
 use Rattle.sp_carry.specs.declared.carrier.Carrier.{Carrier}
 use Rattle.sp_carry.proofs.Members.{contains_from_in, in_append_left, in_append_right, in_from_contains}
-use Rattle.sp_accept.specs.Acceptance.{first_blocks}
 use Rattle.sp_accept.specs.Changes.{carriers_below, TellsChanges}
 
 -- what is in a list is in a longer one

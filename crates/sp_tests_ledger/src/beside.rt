@@ -22,22 +22,24 @@ fn block_at(engine: &Engine, n: u16) -> Result<&Block, Fail> {
     Ok(engine.block(&id).ok_or("not kept")?)
 }
 
-/// A ledger of the genesis block of an engine.
+/// A ledger of the genesis block of an engine, which follows it by `decide`.
 pub fn ledger_of(alloc: Global, engine: &Engine) -> Result<Ledger, Fail> {
     let genesis = block_at(engine, 0)?;
-    let mut ledger = Ledger::of(alloc, genesis.id)?;
-    ledger.carry(&genesis.txs)?;
-    Ok(ledger)
+    Ledger::of(alloc, genesis.id)
 }
 
-/// Adds the block of this number.
+/// Adds what the block of this number carries, and the block itself where it isn't genesis.
 fn follow(engine: &Engine, ledger: &mut Ledger, n: u16) -> Result<(), Fail> {
     let block = block_at(engine, n)?;
-    ledger.add(block.id, block.parents.as_slice(), &block.txs)
+    if n == 0 {
+        ledger.carry(&block.txs)
+    } else {
+        ledger.add(block.id, block.parents.as_slice(), &block.txs)
+    }
 }
 
 fn follow_all(engine: &Engine, ledger: &mut Ledger, present: u16) -> Result<(), Fail> {
-    for n in ledger.blocks()..present {
+    for n in ledger.carried()..present {
         follow(engine, ledger, n)?;
     }
     Ok(())

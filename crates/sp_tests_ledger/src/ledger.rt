@@ -95,6 +95,11 @@ impl Ledger {
         self.dag.len()
     }
 
+    /// Of how many of them the carriers were added.
+    pub fn carried(&self) -> u16 {
+        self.carriers.block_count()
+    }
+
     fn stand(&mut self, new: BlockId, parents: &[BlockId]) -> Result<(), Fail> {
         stand(&mut self.dag, new, parents)?;
         Ok(())

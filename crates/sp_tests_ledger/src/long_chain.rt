@@ -37,20 +37,28 @@ fn alone(alloc: Global, tx: Tx) -> Result<Txs, Fail> {
     Ok(Txs::of(txs))
 }
 
+/// Adds a block that carries one transaction, whose id it answers.
+fn put(alloc: Global, blocks: &mut Blocks, parents: &[usize], tx: Tx) -> Result<TxId, Fail> {
+    let id = id(alloc, &tx)?;
+    blocks.put(parents, alone(alloc, tx)?)?;
+    Ok(id)
+}
+
 /// Genesis, and blocks 1 and 2 on it, which spend what it grants; the id of the spend in block 1.
 fn begin(alloc: Global, blocks: &mut Blocks) -> Result<TxId, Fail> {
-    let granted = grant(alloc, &[(100, ALICE)])?;
+    let granted = put(alloc, blocks, &[], grant(alloc, &[(100, ALICE)])?)?;
     let from = Outpoint {
-        tx: id(alloc, &granted)?,
+        tx: granted,
         index: 0,
     };
-    let first = spend(alloc, from, ALICE, FIRST)?;
-    let first_id = id(alloc, &first)?;
-    let rival = spend(alloc, from, ALICE, &[(100, CAROL)])?;
-    blocks.put(&[], alone(alloc, granted)?)?;
-    blocks.put(&[0], alone(alloc, first)?)?;
-    blocks.put(&[0], alone(alloc, rival)?)?;
-    Ok(first_id)
+    let first = put(alloc, blocks, &[0], spend(alloc, from, ALICE, FIRST)?)?;
+    let _rival = put(
+        alloc,
+        blocks,
+        &[0],
+        spend(alloc, from, ALICE, &[(100, CAROL)])?,
+    )?;
+    Ok(first)
 }
 
 /// Where the threads begin.

@@ -9,6 +9,7 @@ use sp_carry::Flip;
 use sp_fixtures::graph;
 use sp_ids::TxId;
 use std::alloc::Global;
+use std::process::Abort;
 use std::test::Fail;
 
 /// Pairs beside those that an update has to be told, in no order: some have the higher number first,
@@ -121,20 +122,29 @@ fn walked(
     Ok("")
 }
 
-fn wrong_in(alloc: Global, ways: (Way, Way), steps: &[Step]) -> Result<&'static str, Fail> {
-    let ids = tx_ids(alloc)?;
+fn wrong_in(
+    alloc: Global,
+    ids: &[TxId],
+    ways: (Way, Way),
+    steps: &[Step],
+) -> Result<&'static str, Fail> {
     let mut ledger = Ledger::of(alloc, graph::id(0))?;
-    let wrong = walked(alloc, &ids, &mut ledger, ways, steps);
+    let wrong = walked(alloc, ids, &mut ledger, ways, steps);
     drop(ledger);
     wrong
 }
 
-#[test]
-fn turned_transactions(rt: HostRuntime) -> Result<(), Fail> {
+fn judge(rt: &impl Abort, alloc: Global, ids: &[TxId]) -> Result<(), Fail> {
     for (place, steps) in SCENES.iter().enumerate() {
         for ways in WAYS {
-            right(&rt, place, wrong_in(rt.alloc(), *ways, steps)?);
+            right(rt, place, wrong_in(alloc, ids, *ways, steps)?);
         }
     }
     Ok(())
+}
+
+#[test]
+fn turned_transactions(rt: HostRuntime) -> Result<(), Fail> {
+    let ids = tx_ids(rt.alloc())?;
+    judge(&rt, rt.alloc(), &ids)
 }

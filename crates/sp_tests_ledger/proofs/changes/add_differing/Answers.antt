@@ -2,7 +2,6 @@ use Rattle.std.specs.Int.{w8}
 use Rattle.std.proofs.Common.{◌≡◌, ◌++◌, ◌∷◌, [], ℕ, List, FitsSigned, ap, rules, subst, sym, ◌∙◌, to_z}
 use Rattle.std.specs.Prelude.{Contains}
 use Rattle.std.proofs.lemmas.Int.{to_z-of_z}
-use Rattle.sp_plain.specs.Virts.{entry}
 use Rattle.sp_tests_ledger.proofs.Differing.{is_last, pair_more, stays_in, StayIn}
 use Rattle.sp_tests_ledger.proofs.changes.add_differing.Goals as goal
 use Rattle.sp_tests_ledger.proofs.changes.add_differing.Goals.{then-vote+in_ok-push, else-vote}

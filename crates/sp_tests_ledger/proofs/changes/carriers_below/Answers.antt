@@ -1,4 +1,4 @@
-use Rattle.std.proofs.Common.{◌+◌, ℕ, cond, ap, sym, ◌∙◌, arith, ltb}
+use Rattle.std.proofs.Common.{◌+◌, cond, ap, sym, ◌∙◌, arith}
 use Rattle.std.proofs.lemmas.Bool.{le-ltb, lt-ltb}
 use Rattle.sp_tests_ledger.proofs.Differing.{carrier_more}
 use Rattle.sp_tests_ledger.proofs.changes.carriers_below.Goals as goal

@@ -1,4 +1,4 @@
-use Rattle.std.specs.Prelude.{ℕ, ◌≡◌, ◌≤◌, take}
+use Rattle.std.specs.Prelude.{◌≡◌, ◌≤◌, take}
 use Rattle.sp_accept.specs.Changes.{carriers_below}
 use Rattle.sp_tests_ledger.proofs.changes.carriers_below.Given as goal
 
