@@ -1,2 +1,4 @@
 pub mod Prepared
-pub mod AllBlocks
+pub mod FirstBlocks
+pub mod Decided
+pub mod Differing

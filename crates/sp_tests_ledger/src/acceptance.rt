@@ -119,7 +119,7 @@ fn states(alloc: Global, engine: &Engine, ids: &[TxId]) -> Result<Vec<TxState>, 
 }
 
 /// How many blocks are present, and how many transactions they carry.
-fn counts(engine: &Engine) -> Result<(u16, u32), Fail> {
+pub fn counts(engine: &Engine) -> Result<(u16, u32), Fail> {
     if engine.broken() {
         return Err("broken".into());
     }
@@ -133,7 +133,7 @@ fn tx_at(engine: &Engine, i: u32) -> Result<(TxId, bool), Fail> {
     Ok(engine.tx_at(i))
 }
 
-fn listed(alloc: Global, engine: &Engine, count: u32) -> Result<Vec<(TxId, bool)>, Fail> {
+pub fn listed(alloc: Global, engine: &Engine, count: u32) -> Result<Vec<(TxId, bool)>, Fail> {
     let mut listed = Vec::new(alloc);
     for i in 0..count {
         listed.push(tx_at(engine, i)?)?;

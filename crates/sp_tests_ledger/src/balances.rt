@@ -42,7 +42,7 @@ fn lock_at(engine: &Engine, i: u32) -> Result<(Lock, u128), Fail> {
     Ok(engine.lock_at(i))
 }
 
-fn balance(engine: &Engine, lock: &Lock) -> Result<u128, Fail> {
+pub fn balance(engine: &Engine, lock: &Lock) -> Result<u128, Fail> {
     if engine.broken() {
         return Err("broken".into());
     }
@@ -65,7 +65,7 @@ fn asked(alloc: Global, engine: &Engine) -> Result<Vec<u128>, Fail> {
     Ok(asked)
 }
 
-fn said(alloc: Global, engine: &Engine) -> Result<Said, Fail> {
+pub fn said(alloc: Global, engine: &Engine) -> Result<Said, Fail> {
     Ok(Said {
         listed: listed(alloc, engine)?,
         asked: asked(alloc, engine)?,

@@ -1,14 +1,16 @@
-//! Blocks that carry payments, made from drafts: what the tests of balances offer to an engine.
+//! Blocks that carry transactions, made from drafts: what the tests of balances, of drawn feeds and of
+//! long chains offer to an engine.
 
 use crate::acceptance_rows::Laid;
 use crate::payments::{chosen, tx_ids};
 use sp_block::{Draft, Parents, draft_bytes};
 use sp_ids::{BlockId, TxId};
+use sp_tx::Txs;
 use std::alloc::Global;
 use std::test::Fail;
 
 /// The bytes of a draft, of nonce 0.
-fn text_of(alloc: Global, draft: &Draft) -> Result<Vec<u8>, Fail> {
+pub fn text_of(alloc: Global, draft: &Draft) -> Result<Vec<u8>, Fail> {
     if draft.parents.as_slice().len() > 64 || draft.txs.as_slice().len() > 256 {
         return Err("too long".into());
     }
@@ -25,14 +27,19 @@ pub struct Blocks {
 }
 
 impl Blocks {
-    /// Genesis, with these transactions, and then the others.
-    pub fn of(alloc: Global, genesis: &[usize], blocks: &[Laid]) -> Result<Blocks, Fail> {
-        let mut all = Blocks {
+    /// No block.
+    pub fn new(alloc: Global) -> Result<Blocks, Fail> {
+        Ok(Blocks {
             alloc,
             txs: tx_ids(alloc)?,
             ids: Vec::new(alloc),
             texts: Vec::new(alloc),
-        };
+        })
+    }
+
+    /// Genesis, with these payments, and then the others.
+    pub fn of(alloc: Global, genesis: &[usize], blocks: &[Laid]) -> Result<Blocks, Fail> {
+        let mut all = Blocks::new(alloc)?;
         all.add(&[], genesis)?;
         for (parents, txs) in blocks {
             all.add(parents, txs)?;
@@ -48,20 +55,26 @@ impl Blocks {
         Ok(Parents::of(ids))
     }
 
-    fn spelled(&self, parents: &[usize], txs: &[usize]) -> Result<Vec<u8>, Fail> {
+    fn spelled(&self, parents: &[usize], txs: Txs) -> Result<Vec<u8>, Fail> {
         let draft = Draft {
             salt: self.ids.len() as u64,
             parents: self.parents(parents)?,
-            txs: chosen(self.alloc, &self.txs, txs)?,
+            txs,
         };
         text_of(self.alloc, &draft)
     }
 
-    fn add(&mut self, parents: &[usize], txs: &[usize]) -> Result<(), Fail> {
+    /// Adds a block with these transactions.
+    pub fn put(&mut self, parents: &[usize], txs: Txs) -> Result<(), Fail> {
         let text = self.spelled(parents, txs)?;
         self.ids.push(BlockId::of(&text))?;
         self.texts.push(text)?;
         Ok(())
+    }
+
+    fn add(&mut self, parents: &[usize], txs: &[usize]) -> Result<(), Fail> {
+        let txs = chosen(self.alloc, &self.txs, txs)?;
+        self.put(parents, txs)
     }
 
     /// How many there are, with genesis.

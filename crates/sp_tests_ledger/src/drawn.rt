@@ -8,13 +8,13 @@ use std::test::Fail;
 
 /// Numbers that seem to have no order, each from the one before it.
 #[derive(Drop)]
-struct Draws {
-    last: u64,
+pub struct Draws {
+    pub last: u64,
 }
 
 impl Draws {
     /// A number below the count.
-    fn below(&mut self, count: usize) -> usize
+    pub fn below(&mut self, count: usize) -> usize
         requires { 0 < count }
         ensures { result < count }
     {
@@ -29,7 +29,7 @@ impl Draws {
 pub type Shape = (u64, usize, usize, usize);
 
 /// The parents of the block of this number, which isn't 0.
-fn drawn(
+pub fn drawn(
     alloc: Global,
     draws: &mut Draws,
     shape: &Shape,

@@ -2,16 +2,19 @@
 //! calls. They stand in a crate of their own because a crate with tests is proved twice.
 //!
 //! `rivals` tests which carriers conflict, and `collisions` that outpoints which crowd a table by hash
-//! don't make the look-ups of carriers slow. `rebuild` tests which transactions turn as blocks come.
+//! don't make the look-ups of carriers slow. `turns` tests which transactions turn as blocks come.
 //! `votes` tests what an engine says of each two blocks, and `shared_rows` the rows that its views share.
 //! `arrivals`, `refusals` and `full_engine` test what an engine says of the bytes that come, and
 //! `acceptance` which transactions it accepts. `purse` tests what is left as transactions are accepted
-//! and taken back, by the purse itself, and `balances` what an engine says is left.
+//! and taken back, by the purse itself, and `balances` what an engine says is left. `spent_twice` tests
+//! both after each arrival of drawn feeds, and `long_chain` that a long chain of spends turns.
 //!
-//! `arrival_rows`, `acceptance_rows`, `balance_rows` and `purse_rows` are tables of these. `engine`
-//! makes an engine and runs it, `plain` asks the plain votes beside it, `drawn` draws graphs, `blocks`
-//! makes blocks that carry transactions, `payments` makes transactions, `left` compares what is left
-//! under each lock, and `rows` judges a table's row.
+//! `arrival_rows`, `acceptance_rows`, `balance_rows`, `purse_rows` and `turn_rows` are tables of these.
+//! `engine` makes an engine and runs it, `beside` asks a ledger beside it, `plain` asks the plain votes,
+//! `drawn` draws graphs and `feeds` what their blocks carry, `blocks` makes blocks that carry
+//! transactions, `payments` makes transactions, `left` compares what is left under each lock, and `rows`
+//! judges a table's row. `ledger` decides on carriers, in the order that `voted` has from the votes, and
+//! `changes` says what it is told.
 #![tactic(auto)]
 
 #[cfg(test)]
@@ -27,7 +30,11 @@ mod balance_rows;
 #[cfg(test)]
 mod balances;
 #[cfg(test)]
+mod beside;
+#[cfg(test)]
 mod blocks;
+#[cfg(test)]
+mod changes;
 #[cfg(test)]
 mod collisions;
 #[cfg(test)]
@@ -35,9 +42,15 @@ mod drawn;
 #[cfg(test)]
 mod engine;
 #[cfg(test)]
+mod feeds;
+#[cfg(test)]
 mod full_engine;
 #[cfg(test)]
+mod ledger;
+#[cfg(test)]
 mod left;
+#[cfg(test)]
+mod long_chain;
 #[cfg(test)]
 mod payments;
 #[cfg(test)]
@@ -47,8 +60,6 @@ mod purse;
 #[cfg(test)]
 mod purse_rows;
 #[cfg(test)]
-mod rebuild;
-#[cfg(test)]
 mod refusals;
 #[cfg(test)]
 mod rivals;
@@ -56,5 +67,13 @@ mod rivals;
 mod rows;
 #[cfg(test)]
 mod shared_rows;
+#[cfg(test)]
+mod spent_twice;
+#[cfg(test)]
+mod turn_rows;
+#[cfg(test)]
+mod turns;
+#[cfg(test)]
+mod voted;
 #[cfg(test)]
 mod votes;

@@ -22,7 +22,7 @@ pub const EVE: u8 = 5;
 type Spend = (usize, u8, u8);
 
 /// An output: its amount, and the preimage of its lock.
-type Paid = (u64, u8);
+pub type Paid = (u64, u8);
 
 /// The inputs and the outputs of a transaction.
 pub type Payment = (&'static [Spend], &'static [Paid]);
@@ -69,6 +69,8 @@ pub const PAYMENTS: &[Payment] = &[
     // 29 pays Bob twice, and 30 spends the second of these.
     (&[(0, 0, ALICE)], &[(60, BOB), (30, CAROL), (10, BOB)]),
     (&[(29, 2, BOB)], &[(10, DAVE)]),
+    // 31 spends the other one of what 17 pays.
+    (&[(17, 0, ALICE)], &[(60, EVE)]),
 ];
 
 /// A number that no transaction has gives an id that none has.
@@ -102,6 +104,22 @@ fn outputs(alloc: Global, paid: &[Paid]) -> Result<Outputs, Fail> {
         })?;
     }
     Ok(Outputs::of(outputs))
+}
+
+/// What pays these from nothing.
+pub fn grant(alloc: Global, paid: &[Paid]) -> Result<Tx, Fail> {
+    let inputs = Inputs::of(Vec::new(alloc));
+    let outputs = outputs(alloc, paid)?;
+    Ok(Tx::new(alloc, inputs, outputs)?)
+}
+
+/// What spends one output, by a preimage, and pays these.
+pub fn spend(alloc: Global, from: Outpoint, word: u8, paid: &[Paid]) -> Result<Tx, Fail> {
+    let preimage = Bytes::of(Vec::from_slice(alloc, &[word])?);
+    let mut inputs = Vec::new(alloc);
+    inputs.push(Input { from, preimage })?;
+    let outputs = outputs(alloc, paid)?;
+    Ok(Tx::new(alloc, Inputs::of(inputs), outputs)?)
 }
 
 /// The transaction, by the ids of those before it.

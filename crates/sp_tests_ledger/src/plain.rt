@@ -1,4 +1,4 @@
-//! The plain votes of all blocks of a graph, and what an engine says beside them.
+//! The plain votes of the first blocks of a graph and of all, and what an engine says beside them.
 
 ghost use Rattle.std.specs.Prelude.{◌≡◌, ◌≤◌, ◌<◌, false, length, IfOk};
 ghost use Rattle.std.specs.List.{range_with_len};
@@ -27,13 +27,24 @@ fn row_below(count: u16) -> Row
     row
 }
 
+/// The virtual votes of the first blocks, as many as the count, on each two of all.
+pub fn votes_of_first(alloc: Global, dag: &Dag, count: u16) -> Result<Matrix, Memory>
+    requires { count ≤ length dag.now.parents }
+    ensures { IfOk result
+        (HasVirts (graph_of dag.now.parents) (range_with_len 0 count) (length dag.now.parents)) }
+{
+    // Tells the proof that the blocks stand in order.
+    let _blocks = dag.len();
+    let members = row_below(count);
+    plain_votes(alloc, dag, &members)
+}
+
 /// The virtual votes of all blocks on each two of them.
 pub fn votes_of_all(alloc: Global, dag: &Dag) -> Result<Matrix, Memory>
     ensures { IfOk result
         (HasVirts (graph_of dag.now.parents) (numbers dag.now) (length dag.now.parents)) }
 {
-    let members = row_below(dag.len());
-    plain_votes(alloc, dag, &members)
+    votes_of_first(alloc, dag, dag.len())
 }
 
 fn word_of(vote: i8) -> Word {

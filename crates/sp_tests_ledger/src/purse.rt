@@ -71,7 +71,7 @@ fn asked(alloc: Global, purse: &Purse) -> Result<Vec<u128>, Fail> {
     Ok(asked)
 }
 
-fn said(alloc: Global, purse: &Purse) -> Result<Said, Fail> {
+pub fn said(alloc: Global, purse: &Purse) -> Result<Said, Fail> {
     Ok(Said {
         listed: listed(alloc, purse)?,
         asked: asked(alloc, purse)?,

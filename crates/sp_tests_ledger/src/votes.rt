@@ -76,7 +76,7 @@ fn blocks_in_any_order(rt: HostRuntime) -> Result<(), Fail> {
 }
 
 /// The engine of a scene's genesis block, which takes no work.
-fn engine_of_scene(alloc: Global, scene: &Scene) -> Result<Engine, Fail> {
+pub fn engine_of_scene(alloc: Global, scene: &Scene) -> Result<Engine, Fail> {
     let head = scene.head()?;
     engine_of(alloc, head.genesis.bytes.as_slice(), 0)
 }

@@ -7,7 +7,7 @@ use Rattle.sp_dag.proofs.Whole.{keys_are_numbers}
 use Rattle.sp_plain.specs.Virts.{entry, HasVirts, Virts}
 use Rattle.sp_accept.specs.Standing.{is_before}
 use Rattle.sp_engine.specs.Engine.{numbers}
-use Rattle.sp_tests_ledger.proofs.rebuild.VotedOrderOrder.before.Goals as goal
+use Rattle.sp_tests_ledger.proofs.voted.VotedOrderOrder.before.Goals as goal
 
 -- the votes say it
 before_is : (blocks : Numbered) (virts : Virts) (table : List (List ℕ)) (x y : ℕ) → HasVirts (graph_of blocks.parents) (numbers blocks) (length blocks.parents) virts

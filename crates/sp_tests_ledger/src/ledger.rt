@@ -1,0 +1,228 @@
+//! Blocks with their carriers, and which of these are accepted: what the tests decide on, anew or by
+//! what changed.
+
+ghost use Rattle.std.specs.Bool.{OnTrue};
+ghost use Rattle.std.specs.Prelude.{◌≡◌, ◌++◌, ◌∷◌, [], ℕ, List, All, IsTrue, OnOk, OnErr};
+ghost use Rattle.sp_model.specs.Graph.{has};
+ghost use Rattle.sp_dag.specs.Numbered.{AreInOrder};
+
+use crate::changes::{carriers_below, changed};
+use crate::plain::votes_of_all;
+use crate::voted::VotedOrder;
+use sp_accept::Accepted;
+use sp_carry::{Carriers, Flip};
+use sp_dag::Dag;
+use sp_ids::{BlockId, TxId};
+use sp_money::Purse;
+use sp_tx::Txs;
+use std::alloc::Global;
+use std::marker::Model;
+use std::test::Fail;
+
+fn are_in(dag: &Dag, ids: &[BlockId]) -> bool
+    ensures { OnTrue result (All (λ id. IsTrue (has dag.now.ids id)) ids.now) }
+{
+    ids.iter().all(|id| dag.number(id).is_some())
+}
+
+/// Adds a block on others that are there.
+fn stand(dag: &mut Dag, new: BlockId, parents: &[BlockId]) -> Result<(), Fail>
+    ensures grown { OnOk result
+        ((row : List ℕ) × (dag.new.parents ≡ dag.old.parents ++ row ∷ [])) }
+    ensures order { OnOk result (AreInOrder dag.new.parents) }
+    ensures err { OnErr result (dag.new ≡ dag.old) }
+{
+    if dag.number(&new).is_some() || !are_in(dag, parents) {
+        return Err("known, or on an unknown parent".into());
+    }
+    if dag.len() >= 512 || parents.is_empty() {
+        return Err("too many blocks, or no parent".into());
+    }
+    dag.add(new, parents)?;
+    // Tells the proof that the blocks stand in order.
+    let _blocks = dag.len();
+    Ok(())
+}
+
+/// What is accepted by one decision on all carriers, and what that leaves.
+#[derive(Drop)]
+pub struct Anew {
+    pub accepted: Accepted,
+    pub purse: Purse,
+}
+
+/// Blocks by number with their carriers, and which of these are accepted, as of the last decision:
+/// then there were so many blocks. Contracts see how many blocks there are.
+#[derive(Drop)]
+pub struct Ledger {
+    alloc: Global,
+    dag: Dag,
+    carriers: Carriers,
+    accepted: Accepted,
+    decided: u16,
+}
+
+impl Model for Ledger {
+    ghost use Rattle.std.specs.Prelude.{ℕ, length};
+    ghost use Rattle.sp_tests_ledger.specs.Decided.{IsDecided};
+
+    ghost Value = { ℕ };
+
+    ghost view = { λ l. length l.dag.parents };
+
+    ghost invariant = { λ l. IsDecided l.dag.parents l.carriers l.accepted l.decided };
+}
+
+impl Ledger {
+    /// Genesis alone, of this id, without its carriers.
+    pub fn of(alloc: Global, genesis: BlockId) -> Result<Ledger, Fail> {
+        let dag = Dag::new(alloc, genesis)?;
+        let carriers = Carriers::new(alloc);
+        // These tell the proof what always holds of a graph and of carriers.
+        let _present = dag.len();
+        let _added = carriers.block_count();
+        Ok(Ledger {
+            alloc,
+            dag,
+            carriers,
+            accepted: Accepted::new(alloc),
+            decided: 0,
+        })
+    }
+
+    /// How many blocks there are.
+    pub fn blocks(&self) -> u16 {
+        self.dag.len()
+    }
+
+    /// Of how many of them the carriers were added.
+    pub fn carried(&self) -> u16 {
+        self.carriers.block_count()
+    }
+
+    fn stand(&mut self, new: BlockId, parents: &[BlockId]) -> Result<(), Fail> {
+        stand(&mut self.dag, new, parents)?;
+        Ok(())
+    }
+
+    /// The next block carries these.
+    pub fn carry(&mut self, txs: &Txs) -> Result<(), Fail> {
+        let number = self.carriers.block_count();
+        if number >= self.dag.len() || txs.as_slice().len() > 256 {
+            return Err("no such block, or too many transactions".into());
+        }
+        self.carriers.add(&self.dag, number, txs)?;
+        // Tells the proof what always holds of carriers.
+        let _added = self.carriers.block_count();
+        Ok(())
+    }
+
+    /// Adds a block on others, which carries these.
+    pub fn add(&mut self, new: BlockId, parents: &[BlockId], txs: &Txs) -> Result<(), Fail> {
+        self.stand(new, parents)?;
+        self.carry(txs)
+    }
+
+    /// Decides on all carriers anew, and answers what turned.
+    pub fn rebuild(&mut self) -> Result<Vec<Flip>, Fail> {
+        let count = self.carriers.block_count();
+        if count != self.dag.len() {
+            return Err("a block without its carriers".into());
+        }
+        let votes = votes_of_all(self.alloc, &self.dag)?;
+        let order = VotedOrder {
+            dag: &self.dag,
+            votes: &votes,
+        };
+        let flips = self.accepted.rebuild(&order, &self.carriers)?;
+        self.decided = count;
+        Ok(flips)
+    }
+
+    /// Decides by what changed since the last decision, and answers what turned. It tells these pairs
+    /// first, and then those on which the votes turned.
+    pub fn update(&mut self, others: &[(u16, u16)]) -> Result<Vec<Flip>, Fail> {
+        let count = self.carriers.block_count();
+        if count != self.dag.len() {
+            return Err("a block without its carriers".into());
+        }
+        let votes = votes_of_all(self.alloc, &self.dag)?;
+        let changed = changed(self.alloc, &self.dag, &votes, self.decided, others)?;
+        let from = carriers_below(&self.carriers, self.decided);
+        let order = VotedOrder {
+            dag: &self.dag,
+            votes: &votes,
+        };
+        let flips = self
+            .accepted
+            .update(&order, &self.carriers, &changed, from)?;
+        self.decided = count;
+        Ok(flips)
+    }
+
+    /// Decides on all carriers by a new acceptance, and pays by a new purse.
+    pub fn anew(&self) -> Result<Anew, Fail> {
+        if self.carriers.block_count() != self.dag.len() {
+            return Err("a block without its carriers".into());
+        }
+        let votes = votes_of_all(self.alloc, &self.dag)?;
+        let order = VotedOrder {
+            dag: &self.dag,
+            votes: &votes,
+        };
+        let mut accepted = Accepted::new(self.alloc);
+        let flips = accepted.rebuild(&order, &self.carriers)?;
+        let mut purse = Purse::new(self.alloc);
+        purse.prepare(&self.carriers)?;
+        purse.apply(&self.carriers, flips.as_slice());
+        Ok(Anew { accepted, purse })
+    }
+
+    /// Whether there are just so many carriers, of which these are accepted.
+    pub fn are_carriers(&self, listed: &[bool]) -> bool {
+        let mut c = 0u32;
+        for flag in listed {
+            if self.accepted.carrier_accepted(c) != *flag {
+                return false;
+            }
+            c = c.wrapping_add(1);
+        }
+        self.carriers.carrier_count() == c && !self.accepted.carrier_accepted(c)
+    }
+
+    /// Whether there are just so many transactions, of which these are accepted.
+    pub fn are_txs(&self, listed: &[bool]) -> bool {
+        let mut tx = 0u32;
+        for flag in listed {
+            if self.accepted.is_accepted(tx) != *flag {
+                return false;
+            }
+            tx = tx.wrapping_add(1);
+        }
+        self.carriers.tx_count() == tx && !self.accepted.is_accepted(tx)
+    }
+
+    /// Whether the same carriers and transactions are accepted as in another decision.
+    pub fn is_same(&self, other: &Accepted) -> bool {
+        for c in 0..self.carriers.carrier_count() {
+            if self.accepted.carrier_accepted(c) != other.carrier_accepted(c) {
+                return false;
+            }
+        }
+        for tx in 0..self.carriers.tx_count() {
+            if self.accepted.is_accepted(tx) != other.is_accepted(tx) {
+                return false;
+            }
+        }
+        true
+    }
+
+    /// The transactions in their order, and whether each is accepted.
+    pub fn listed(&self) -> Result<Vec<(TxId, bool)>, Fail> {
+        let mut listed = Vec::new(self.alloc);
+        for tx in 0..self.carriers.tx_count() {
+            listed.push((self.carriers.tx_id(tx), self.accepted.is_accepted(tx)))?;
+        }
+        Ok(listed)
+    }
+}

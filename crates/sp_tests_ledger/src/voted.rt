@@ -1,0 +1,54 @@
+//! The order of the blocks of a graph that their plain votes give.
+
+ghost use Rattle.std.specs.Prelude.{◌≡◌, ◌<◌, negsuc};
+ghost use Rattle.std.specs.Ordering.{int_eq};
+ghost use Rattle.sp_plain.specs.Virts.{entry};
+
+use sp_accept::Order;
+use sp_dag::Dag;
+use sp_plain::Matrix;
+use std::marker::Model;
+
+/// Whether a vote puts x before y.
+fn is_first(votes: &Matrix, x: u16, y: u16) -> bool
+    requires x_in { x < votes.now.width }
+    requires y_in { y < votes.now.width }
+    ensures { result ≡ int_eq (entry votes.now x y) (negsuc 0) }
+{
+    let vote = votes.vote(x, y);
+    vote == -1
+}
+
+/// The blocks by number, in the order that the votes of all of them give. Contracts see the parents
+/// of each block.
+#[derive(Drop)]
+pub struct VotedOrder<'a> {
+    pub dag: &'a Dag,
+    pub votes: &'a Matrix,
+}
+
+impl<'a> Model for VotedOrder<'a> {
+    ghost use Rattle.std.specs.Prelude.{List, ℕ, length};
+    ghost use Rattle.sp_dag.specs.Numbered.{graph_of};
+    ghost use Rattle.sp_plain.specs.Virts.{HasVirts};
+    ghost use Rattle.sp_engine.specs.Engine.{numbers};
+
+    ghost Value = { List (List ℕ) };
+
+    ghost view = { λ o. o.dag.now.parents };
+
+    ghost invariant = { λ o. HasVirts (graph_of o.dag.now.parents) (numbers o.dag.now)
+        (length o.dag.now.parents) o.votes.now };
+}
+
+impl<'a> Order for VotedOrder<'a> {
+    ghost table = { λ o. o };
+
+    fn before(&self, x: u16, y: u16) -> bool {
+        is_first(self.votes, x, y)
+    }
+
+    fn in_past(&self, x: u16, y: u16) -> bool {
+        self.dag.in_past(x, y)
+    }
+}
