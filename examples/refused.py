@@ -1,7 +1,9 @@
 #!/usr/bin/env python3
 """Plays a scenario of 40 blocks with each allocation of the program refused in turn: each run has to
-end with the code of Memory, and to write a front of what it writes with memory. It needs gcc, and runs
-from anywhere; SPECTRE names another program than the one that bin/spectre has built."""
+end with the code of Memory, and to write a front of what it writes with memory. A list that grows asks
+for twice its room and, where that is refused, once more for what it needs; where that is granted, the
+run has to end with 0 and to write all. It needs gcc, and runs from anywhere; SPECTRE names another
+program than the one that bin/spectre has built."""
 
 import os
 import subprocess
@@ -68,11 +70,16 @@ def main():
             count = int.from_bytes(file.read(), sys.byteorder)
         if whole.returncode != 0:
             sys.exit("it failed with memory")
+        spared = 0
         for number in range(count):
             run = play(REFUSED=str(number))
+            if run.returncode == 0 and run.stdout == whole.stdout:
+                spared += 1
+                continue
             if run.returncode != MEMORY or not whole.stdout.startswith(run.stdout):
                 sys.exit(f"allocation {number}: it ended with {run.returncode}")
-        print(f"{count} allocations, each refused once: Memory, and a front of the output")
+        print(f"{count} allocations, each refused once: Memory, and a front of the output;")
+        print(f"but for {spared}, where less was asked for, and all was written")
 
 
 if __name__ == "__main__":
