@@ -45,7 +45,6 @@ use std::marker::Model;
 /// work, the kept blocks in their order, genesis first, whether memory was refused, and the present
 /// blocks by number with their votes: frozen ones, and views of the tips and of all of them, whose
 /// rows one pool has.
-#[derive(Drop)]
 pub struct Engine {
     alloc: Global,
     bits: u8,
@@ -81,6 +80,31 @@ impl Model for Engine {
     ghost invariant = { λ e. e.broken ≡ false →
         IsEngine e.bits e.pool e.genesis e.dag e.votes × IsAccepting e.pool e.dag e.carriers e.accepted
         × IsPaying e.carriers e.accepted e.purse };
+}
+
+// Written out, so that where an engine is let go there is one call, and not one for each thing that it
+// holds: each such place is proved.
+impl Drop for Engine {
+    fn drop(self) {
+        let Engine {
+            alloc: _,
+            bits: _,
+            genesis: _,
+            pool,
+            dag,
+            votes,
+            carriers,
+            accepted,
+            purse,
+            broken: _,
+        } = self;
+        drop(pool);
+        drop(dag);
+        drop(votes);
+        drop(carriers);
+        drop(accepted);
+        drop(purse);
+    }
 }
 
 impl Engine {

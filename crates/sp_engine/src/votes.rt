@@ -27,7 +27,6 @@ use std::marker::Model;
 
 /// The votes of the first blocks of a graph. Contracts see the frozen votes, the pool of rows, and
 /// the views over it: those of the tips, ascending, and behind them that of all blocks.
-#[derive(Drop)]
 pub(crate) struct Votes {
     alloc: Global,
     frozen: Frozen,
@@ -41,6 +40,21 @@ impl Model for Votes {
     ghost Value = { Tallied };
 
     ghost view = { λ v. record { frozen = v.frozen; rows = v.rows; views = v.views.items } };
+}
+
+// Written out, so that where they are let go there is one call.
+impl Drop for Votes {
+    fn drop(self) {
+        let Votes {
+            alloc: _,
+            frozen,
+            rows,
+            views,
+        } = self;
+        drop(frozen);
+        drop(rows);
+        drop(views);
+    }
 }
 
 // Whether a place is the highest one of a row.

@@ -34,7 +34,6 @@ use std::marker::Model;
 
 /// A node that keeps its blocks in memory, and in a journal where it has one. Contracts see the bits
 /// of work, the kept blocks, whether it is stopped, and the journal.
-#[derive(Drop)]
 pub struct Node {
     alloc: Global,
     engine: Engine,
@@ -53,6 +52,21 @@ impl Model for Node {
 
     ghost invariant = { λ n. n.stopped ≡ false
         → (n.engine.broken ≡ false) × FitsOn n.engine.bits n.engine.kept n.journal };
+}
+
+// Written out, so that where a node is let go there is one call, and not one for each thing that it
+// holds: each such place is proved.
+impl Drop for Node {
+    fn drop(self) {
+        let Node {
+            alloc: _,
+            engine,
+            journal,
+            stopped: _,
+        } = self;
+        drop(engine);
+        drop(journal);
+    }
 }
 
 impl Node {

@@ -1,8 +1,9 @@
 //! The start of a node's engine and journal, on a disk that holds no journal and on one that does.
 
-ghost use Rattle.std.specs.Prelude.{◌≡◌, ◌⊎◌, ◌+◌, ◌++◌, ◌≤◌, ◌∷◌, [], false, true, fold, length, map, Err, IfErr, IfOk, IfSome, IsErrOf, Ok, OnOk};
+ghost use Rattle.std.specs.Prelude.{◌≡◌, ◌⊎◌, ◌+◌, ◌++◌, ◌≤◌, ◌∷◌, [], false, true, fold, length, map, Err, IfErr, IfNone, IfOk, IfSome, IsErrOf, Ok, OnOk};
 ghost use Rattle.sp_ids.specs.Digest.{sha256_number};
 ghost use Rattle.sp_io.specs.Causes.{Rose};
+ghost use Rattle.sp_block.specs.Block.{IsGenesis};
 ghost use Rattle.sp_disk.specs.Moments.{Leaves};
 ghost use Rattle.sp_engine.specs.Arrivals.{kept_after, kept_by_all};
 ghost use Rattle.sp_engine.specs.Blocks.{block_in};
@@ -11,6 +12,7 @@ ghost use Rattle.sp_journal.specs.Creation.{HoldsNoneOrNew, IsSynced, IsVacant};
 ghost use Rattle.sp_journal.specs.Journal.{contents};
 ghost use Rattle.sp_journal.specs.Recovery.{bytes_in, id_behind, IsGood};
 ghost use Rattle.sp_journal.specs.Settled.{IsTold, SameTold};
+ghost use Rattle.sp_journal.specs.declared.fault.CreateFault.TheVariants as creations;
 ghost use Rattle.sp_journal.specs.declared.gate_kind.Gate.TheVariants.{Shut};
 ghost use Rattle.sp_form.specs.Turns.{InTurn};
 ghost use Rattle.sp_pool.specs.Kept.{ids_of};
@@ -50,6 +52,17 @@ impl From<Memory> for StartFault {
     }
 }
 
+// Why no journal was created is why no node was started.
+fn of_creation(fault: CreateFault) -> StartFault
+    ensures disk { fault ≡ creations.DiskFault → result ≡ faults.DiskFault }
+    ensures memory { fault ≡ creations.Memory → result ≡ faults.Memory }
+{
+    match fault {
+        CreateFault::DiskFault => StartFault::DiskFault,
+        CreateFault::Memory => StartFault::Memory,
+    }
+}
+
 /// An engine of the head's genesis block alone, and its journal on the disk. The engine comes first,
 /// so that want of memory leaves the disk as it was.
 pub(crate) fn start_new<D: Disk>(
@@ -77,8 +90,10 @@ pub(crate) fn start_new<D: Disk>(
     let engine = Engine::new(alloc, genesis, bits)?;
     match Journal::create(alloc, disk, gate, bits, engine.genesis()) {
         Ok(journal) => Ok((engine, journal)),
-        Err(CreateFault::DiskFault) => Err(StartFault::DiskFault),
-        Err(CreateFault::Memory) => Err(StartFault::Memory),
+        Err(fault) => {
+            drop(engine);
+            Err(of_creation(fault))
+        }
     }
 }
 
@@ -102,6 +117,44 @@ fn restore(engine: &mut Engine, blocks: &[Block]) -> Result<(), Memory>
     Ok(())
 }
 
+/// An engine of these blocks, all of which it keeps: genesis, and the others in their order.
+fn engine_of(alloc: Global, genesis: Block, bits: u8, blocks: &[Block]) -> Result<Engine, Memory>
+    requires genesis { IsGenesis genesis }
+    requires bits { bits ≤ 64 }
+    requires good { InTurn (IsGood bits) id_behind (ids_of (genesis ∷ [])) blocks.now }
+    requires few { length blocks.now ≤ 511 }
+    ensures engine { IfOk result (IsLedger bits (genesis ∷ blocks.now)) }
+    ensures sent { IfOk result (λ engine. engine.kept
+        ≡ kept_by_all bits genesis (map bytes_in blocks.now)) }
+{
+    let mut engine = Engine::new(alloc, genesis, bits)?;
+    let restored = restore(&mut engine, blocks);
+    if restored.is_err() {
+        drop(engine);
+        return Err(Memory);
+    }
+    Ok(engine)
+}
+
+// What stands in the way of a head's blocks in an opened journal, if anything does.
+fn other_chain(opened: &Opened, head: &FeedHead) -> Option<StartFault>
+    ensures other { IfSome result (λ fault. (IsSameChain opened.now head.now → ⊥)
+        × (fault ≡ faults.OtherChain opened.now.bits (sha256_number opened.now.genesis.bytes)
+        head.now.bits (sha256_number head.now.genesis.bytes))) }
+    ensures same { IfNone result (IsSameChain opened.now head.now) }
+{
+    let same = head.genesis.bytes.as_slice() == opened.genesis.bytes.as_slice();
+    if head.bits == opened.bits && same {
+        return None;
+    }
+    Some(StartFault::OtherChain {
+        stored_bits: opened.bits,
+        stored: opened.genesis.id,
+        fed_bits: head.bits,
+        fed: head.genesis.id,
+    })
+}
+
 /// An engine of a found journal's blocks, which are offered to it in their order, and that journal.
 /// The disk isn't called.
 pub(crate) fn start_found(
@@ -117,26 +170,12 @@ pub(crate) fn start_found(
         ⊎ ((IsSameChain opened head → ⊥)
         × (fault ≡ faults.OtherChain opened.bits (sha256_number opened.genesis.bytes) head.bits (sha256_number head.genesis.bytes)))) }
 {
+    if let Some(fault) = other_chain(&opened, &head) {
+        return Err(fault);
+    }
     let FeedHead { bits, genesis } = head;
-    let Opened {
-        journal,
-        bits: stored_bits,
-        genesis: stored,
-        blocks,
-    } = opened;
-    if bits != stored_bits || genesis.bytes.as_slice() != stored.bytes.as_slice() {
-        return Err(StartFault::OtherChain {
-            stored_bits,
-            stored: stored.id,
-            fed_bits: bits,
-            fed: genesis.id,
-        });
-    }
-    let mut engine = Engine::new(alloc, genesis, bits)?;
-    match restore(&mut engine, blocks.as_slice()) {
-        Ok(()) => Ok((engine, journal)),
-        Err(_) => Err(StartFault::Memory),
-    }
+    let engine = engine_of(alloc, genesis, bits, opened.blocks.as_slice())?;
+    Ok((engine, opened.journal))
 }
 
 /// The engine of the blocks that an opened journal holds, which are offered to it in their order. Where
@@ -158,7 +197,5 @@ pub fn recovered(alloc: Global, opened: Opened) -> Result<Engine, Memory>
     } = opened;
     // Tells the proof what its bytes spell.
     let _id = genesis.id;
-    let mut engine = Engine::new(alloc, genesis, bits)?;
-    restore(&mut engine, blocks.as_slice())?;
-    Ok(engine)
+    engine_of(alloc, genesis, bits, blocks.as_slice())
 }
