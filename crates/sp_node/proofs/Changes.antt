@@ -15,6 +15,7 @@ use Rattle.sp_pool.specs.declared.answers.Standing.{Standing}
 use Rattle.sp_pool.specs.declared.answers.Standing.TheVariants as standing
 use Rattle.sp_engine.specs.Arrivals.{answer_by, answer_of, answer_to, joined, kept_after, kept_with, valid_by, valid_in}
 use Rattle.sp_engine.specs.Blocks.{block_in, meets}
+use Rattle.sp_engine.specs.declared.answer.Answer.{Answer}
 use Rattle.sp_engine.specs.declared.answer.Answer.TheVariants.{Kept, Held}
 use Rattle.sp_engine.specs.declared.answer.Refusal.{Refusal}
 use Rattle.sp_engine.specs.declared.answer.Refusal.TheVariants.{Work}
@@ -57,6 +58,13 @@ changes bits kept bytes = judged (valid_in bits bytes) refl
     judged : (r : Result ReadBlock Refusal) → valid_in bits bytes ≡ r → Changes bits kept bytes (kept_id (answer_to kept (valid_in bits bytes)))
     judged (Err refusal) e = rw e (ap (kept_with kept) e)
     judged (Ok block) e = rw e (by block (standing_of kept block.id) e refl)
+
+-- the same of what was told of the answer
+pub told_changes : (bits : ℕ) (kept : List ReadBlock) (bytes : List ℕ) (answer : Answer) (told : Option ℕ) → told ≡ kept_id answer → answer ≡ answer_of bits kept bytes → Changes bits kept bytes told
+told_changes bits kept bytes answer told of is = subst (Changes bits kept bytes) (sym (of ∙ ap kept_id is)) (changes bits kept bytes)
+
+pub told_joins : (bits : ℕ) (kept : List ReadBlock) (bytes : List ℕ) (answer : Answer) (told : Option ℕ) (id : ℕ) → told ≡ kept_id answer → answer ≡ answer_of bits kept bytes → told ≡ Some id → Joins bits kept bytes id
+told_joins bits kept bytes answer told id of is some = subst (Changes bits kept bytes) some (told_changes bits kept bytes answer told of is)
 
 -- ---- the block that joins
 
@@ -112,6 +120,9 @@ module _ (bits : ℕ) (kept : List ReadBlock) (bytes : List ℕ) (id : ℕ) (are
 
   pub found : find (λ (b : ReadBlock). eqb b.id id) (kept_after bits kept bytes) ≡ Some j.block
   found = ap (find (λ (b : ReadBlock). eqb b.id id)) j.now ∙ find_last kept j.block id j.same (ap (has (ids_of kept)) (sym j.same) ∙ is_new)
+
+  pub found_now : (now : List ReadBlock) (r : Option (Bor ReadBlock)) → option_copied r ≡ find (λ (b : ReadBlock). eqb b.id id) now → now ≡ kept_after bits kept bytes → option_copied r ≡ Some j.block
+  found_now now r copied is = copied ∙ ap (find (λ (b : ReadBlock). eqb b.id id)) is ∙ found
 
   pub ids_known : journal_ids (journal_in bits kept) ≡ ids_of kept
   ids_known =

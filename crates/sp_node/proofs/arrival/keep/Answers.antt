@@ -11,7 +11,7 @@ use Rattle.sp_journal.proofs.Appended.{by_test}
 use Rattle.sp_pool.specs.Kept.{ids_of}
 use Rattle.sp_engine.specs.Arrivals.{kept_after}
 use Rattle.sp_node.specs.Journalled.{HoldsBeforeOrAfter, journal_in, kept_id}
-use Rattle.sp_node.proofs.Changes.{Changes, changes, fits_more, fits_same, found, has_room, ids_known, is_new, is_other, looked_up, not_missing, now_holds, one_contents, work}
+use Rattle.sp_node.proofs.Changes.{Changes, fits_more, fits_same, found_now, has_room, ids_known, is_new, is_other, looked_up, not_missing, now_holds, one_contents, told_changes, told_joins, work}
 use Rattle.sp_node.proofs.arrival.keep.Goals as goal
 
 pub returns-in_default-clause-acknowledged : goal.returns-in_default-clause-acknowledged
@@ -19,8 +19,7 @@ returns-in_default-clause-acknowledged g c told =
     let bits = c.args.engine.now.bits in
     let kept = c.args.engine.now.kept in
     let bytes = c.args.bytes.now in
-    let told_by = c.kept_id.ensures ∙ ap kept_id c.in_ok-answer.ensures.answer in
-    let change = subst (Changes bits kept bytes) (sym told_by) (changes bits kept bytes) in
+    let change = told_changes bits kept bytes _ _ c.kept_id.ensures c.in_ok-answer.ensures.answer in
     let same = c.in_ok-answer.ensures.kept ∙ subst (Changes bits kept bytes) c.in_default.is change in
     subst (λ (k : List ReadBlock). Stands c.args.journal.now (journal_in c.offer.new.self.bits k) (g.D.Disk.now c.args.disk.now)) (sym same)
     (subst (λ (b : ℕ). Stands c.args.journal.now (journal_in b kept) (g.D.Disk.now c.args.disk.now)) (sym c.offer.ensures.bits) (c.requires.stands told))
@@ -30,11 +29,9 @@ unreachable-requires g c =
     let bits = c.args.engine.now.bits in
     let kept = c.args.engine.now.kept in
     let bytes = c.args.bytes.now in
-    let told_by = c.kept_id.ensures ∙ ap kept_id c.in_ok-answer.ensures.answer in
-    let change = subst (Changes bits kept bytes) (sym told_by) (changes bits kept bytes) in
-    let joins = subst (Changes bits kept bytes) c.in-Some.is change in
+    let joins = told_joins bits kept bytes _ _ c.in-Some.id c.kept_id.ensures c.in_ok-answer.ensures.answer c.in-Some.is in
     let are = c.kept_count-before.ensures.blocks in
-    let copied = c.block.ensures ∙ ap (find (λ (b : ReadBlock). eqb b.id c.in-Some.id)) c.in_ok-answer.ensures.kept ∙ found bits kept bytes c.in-Some.id are joins in
+    let copied = found_now bits kept bytes c.in-Some.id are joins _ c.block.result c.block.ensures c.in_ok-answer.ensures.kept in
     absurd (not_missing c.block.result joins.block c.in_default-block.is copied)
 
 pub append-requires-clause-room : goal.append-requires-clause-room
@@ -42,11 +39,9 @@ append-requires-clause-room g c =
     let bits = c.args.engine.now.bits in
     let kept = c.args.engine.now.kept in
     let bytes = c.args.bytes.now in
-    let told_by = c.kept_id.ensures ∙ ap kept_id c.in_ok-answer.ensures.answer in
-    let change = subst (Changes bits kept bytes) (sym told_by) (changes bits kept bytes) in
-    let joins = subst (Changes bits kept bytes) c.in-Some.is change in
+    let joins = told_joins bits kept bytes _ _ c.in-Some.id c.kept_id.ensures c.in_ok-answer.ensures.answer c.in-Some.is in
     let are = c.kept_count-before.ensures.blocks in
-    let copied = c.block.ensures ∙ ap (find (λ (b : ReadBlock). eqb b.id c.in-Some.id)) c.in_ok-answer.ensures.kept ∙ found bits kept bytes c.in-Some.id are joins in
+    let copied = found_now bits kept bytes c.in-Some.id are joins _ c.block.result c.block.ensures c.in_ok-answer.ensures.kept in
     omega (arith, c.requires.fits.count, has_room bits kept bytes c.in-Some.id are joins)
 
 pub append-requires-clause-other : goal.append-requires-clause-other
@@ -54,11 +49,9 @@ append-requires-clause-other g c =
     let bits = c.args.engine.now.bits in
     let kept = c.args.engine.now.kept in
     let bytes = c.args.bytes.now in
-    let told_by = c.kept_id.ensures ∙ ap kept_id c.in_ok-answer.ensures.answer in
-    let change = subst (Changes bits kept bytes) (sym told_by) (changes bits kept bytes) in
-    let joins = subst (Changes bits kept bytes) c.in-Some.is change in
+    let joins = told_joins bits kept bytes _ _ c.in-Some.id c.kept_id.ensures c.in_ok-answer.ensures.answer c.in-Some.is in
     let are = c.kept_count-before.ensures.blocks in
-    let copied = c.block.ensures ∙ ap (find (λ (b : ReadBlock). eqb b.id c.in-Some.id)) c.in_ok-answer.ensures.kept ∙ found bits kept bytes c.in-Some.id are joins in
+    let copied = found_now bits kept bytes c.in-Some.id are joins _ c.block.result c.block.ensures c.in_ok-answer.ensures.kept in
     let is = looked_up c.block.result c.in-Some-block.block joins.block c.in-Some-block.is copied in
     subst IsOther (sym is) (is_other bits kept bytes c.in-Some.id are joins)
 
@@ -67,11 +60,9 @@ append-requires-clause-work g c =
     let bits = c.args.engine.now.bits in
     let kept = c.args.engine.now.kept in
     let bytes = c.args.bytes.now in
-    let told_by = c.kept_id.ensures ∙ ap kept_id c.in_ok-answer.ensures.answer in
-    let change = subst (Changes bits kept bytes) (sym told_by) (changes bits kept bytes) in
-    let joins = subst (Changes bits kept bytes) c.in-Some.is change in
+    let joins = told_joins bits kept bytes _ _ c.in-Some.id c.kept_id.ensures c.in_ok-answer.ensures.answer c.in-Some.is in
     let are = c.kept_count-before.ensures.blocks in
-    let copied = c.block.ensures ∙ ap (find (λ (b : ReadBlock). eqb b.id c.in-Some.id)) c.in_ok-answer.ensures.kept ∙ found bits kept bytes c.in-Some.id are joins in
+    let copied = found_now bits kept bytes c.in-Some.id are joins _ c.block.result c.block.ensures c.in_ok-answer.ensures.kept in
     let is = looked_up c.block.result c.in-Some-block.block joins.block c.in-Some-block.is copied in
     subst (λ (b : ℕ). BeginsWithZeros c.in-Some-block.block.now.id b) (sym c.requires.fits.work)
     (subst (λ (b : ReadBlock). BeginsWithZeros b.id bits) (sym is) (work bits kept bytes c.in-Some.id are joins))
@@ -81,11 +72,9 @@ append-requires-clause-fresh g c live contents stands =
     let bits = c.args.engine.now.bits in
     let kept = c.args.engine.now.kept in
     let bytes = c.args.bytes.now in
-    let told_by = c.kept_id.ensures ∙ ap kept_id c.in_ok-answer.ensures.answer in
-    let change = subst (Changes bits kept bytes) (sym told_by) (changes bits kept bytes) in
-    let joins = subst (Changes bits kept bytes) c.in-Some.is change in
+    let joins = told_joins bits kept bytes _ _ c.in-Some.id c.kept_id.ensures c.in_ok-answer.ensures.answer c.in-Some.is in
     let are = c.kept_count-before.ensures.blocks in
-    let copied = c.block.ensures ∙ ap (find (λ (b : ReadBlock). eqb b.id c.in-Some.id)) c.in_ok-answer.ensures.kept ∙ found bits kept bytes c.in-Some.id are joins in
+    let copied = found_now bits kept bytes c.in-Some.id are joins _ c.block.result c.block.ensures c.in_ok-answer.ensures.kept in
     let is = looked_up c.block.result c.in-Some-block.block joins.block c.in-Some-block.is copied in
     let one = one_contents c.args.journal.now contents (journal_in bits kept) (g.D.Disk.now c.args.disk.now) (g.met.D.Disk.is_moment c.args.disk.now) stands (c.requires.stands stands.told) in
     ap (λ (d : Contents). has (journal_ids d) c.in-Some-block.block.now.id) one ∙ ap (λ (ids : List ℕ). has ids c.in-Some-block.block.now.id) (ids_known bits kept bytes c.in-Some.id are joins)
@@ -96,11 +85,9 @@ returns-then-is_err-clause-any_moment g c told =
     let bits = c.args.engine.now.bits in
     let kept = c.args.engine.now.kept in
     let bytes = c.args.bytes.now in
-    let told_by = c.kept_id.ensures ∙ ap kept_id c.in_ok-answer.ensures.answer in
-    let change = subst (Changes bits kept bytes) (sym told_by) (changes bits kept bytes) in
-    let joins = subst (Changes bits kept bytes) c.in-Some.is change in
+    let joins = told_joins bits kept bytes _ _ c.in-Some.id c.kept_id.ensures c.in_ok-answer.ensures.answer c.in-Some.is in
     let are = c.kept_count-before.ensures.blocks in
-    let copied = c.block.ensures ∙ ap (find (λ (b : ReadBlock). eqb b.id c.in-Some.id)) c.in_ok-answer.ensures.kept ∙ found bits kept bytes c.in-Some.id are joins in
+    let copied = found_now bits kept bytes c.in-Some.id are joins _ c.block.result c.block.ensures c.in_ok-answer.ensures.kept in
     let is = looked_up c.block.result c.in-Some-block.block joins.block c.in-Some-block.is copied in
     let now = now_holds bits kept bytes c.in-Some.id are joins ∙ ap (λ (b : ReadBlock). with_block (journal_in bits kept) b.bytes) (sym is) in
     let run = c.append.ensures.any_moment c.requires.fits.live (journal_in bits kept) (c.requires.stands told) in
@@ -112,11 +99,9 @@ returns-clause-any_moment g c told =
     let bits = c.args.engine.now.bits in
     let kept = c.args.engine.now.kept in
     let bytes = c.args.bytes.now in
-    let told_by = c.kept_id.ensures ∙ ap kept_id c.in_ok-answer.ensures.answer in
-    let change = subst (Changes bits kept bytes) (sym told_by) (changes bits kept bytes) in
-    let joins = subst (Changes bits kept bytes) c.in-Some.is change in
+    let joins = told_joins bits kept bytes _ _ c.in-Some.id c.kept_id.ensures c.in_ok-answer.ensures.answer c.in-Some.is in
     let are = c.kept_count-before.ensures.blocks in
-    let copied = c.block.ensures ∙ ap (find (λ (b : ReadBlock). eqb b.id c.in-Some.id)) c.in_ok-answer.ensures.kept ∙ found bits kept bytes c.in-Some.id are joins in
+    let copied = found_now bits kept bytes c.in-Some.id are joins _ c.block.result c.block.ensures c.in_ok-answer.ensures.kept in
     let is = looked_up c.block.result c.in-Some-block.block joins.block c.in-Some-block.is copied in
     let now = now_holds bits kept bytes c.in-Some.id are joins ∙ ap (λ (b : ReadBlock). with_block (journal_in bits kept) b.bytes) (sym is) in
     let run = c.append.ensures.any_moment c.requires.fits.live (journal_in bits kept) (c.requires.stands told) in
@@ -128,11 +113,9 @@ returns-clause-acknowledged g c told =
     let bits = c.args.engine.now.bits in
     let kept = c.args.engine.now.kept in
     let bytes = c.args.bytes.now in
-    let told_by = c.kept_id.ensures ∙ ap kept_id c.in_ok-answer.ensures.answer in
-    let change = subst (Changes bits kept bytes) (sym told_by) (changes bits kept bytes) in
-    let joins = subst (Changes bits kept bytes) c.in-Some.is change in
+    let joins = told_joins bits kept bytes _ _ c.in-Some.id c.kept_id.ensures c.in_ok-answer.ensures.answer c.in-Some.is in
     let are = c.kept_count-before.ensures.blocks in
-    let copied = c.block.ensures ∙ ap (find (λ (b : ReadBlock). eqb b.id c.in-Some.id)) c.in_ok-answer.ensures.kept ∙ found bits kept bytes c.in-Some.id are joins in
+    let copied = found_now bits kept bytes c.in-Some.id are joins _ c.block.result c.block.ensures c.in_ok-answer.ensures.kept in
     let is = looked_up c.block.result c.in-Some-block.block joins.block c.in-Some-block.is copied in
     let now = now_holds bits kept bytes c.in-Some.id are joins ∙ ap (λ (b : ReadBlock). with_block (journal_in bits kept) b.bytes) (sym is) in
     let all = by_test c.append.result c.if-is_err.ensures.value c.append.ensures.acknowledged (journal_in bits kept) (c.requires.stands told) in
@@ -145,8 +128,7 @@ returns-in_default-clause-fits g c =
     let bits = c.args.engine.now.bits in
     let kept = c.args.engine.now.kept in
     let bytes = c.args.bytes.now in
-    let told_by = c.kept_id.ensures ∙ ap kept_id c.in_ok-answer.ensures.answer in
-    let change = subst (Changes bits kept bytes) (sym told_by) (changes bits kept bytes) in
+    let change = told_changes bits kept bytes _ _ c.kept_id.ensures c.in_ok-answer.ensures.answer in
     let same = c.in_ok-answer.ensures.kept ∙ subst (Changes bits kept bytes) c.in_default.is change in
     fits_same bits c.offer.new.self.bits kept c.offer.new.self.kept c.args.journal.now c.offer.ensures.bits same c.requires.fits
 
@@ -155,9 +137,7 @@ returns-clause-fits g c =
     let bits = c.args.engine.now.bits in
     let kept = c.args.engine.now.kept in
     let bytes = c.args.bytes.now in
-    let told_by = c.kept_id.ensures ∙ ap kept_id c.in_ok-answer.ensures.answer in
-    let change = subst (Changes bits kept bytes) (sym told_by) (changes bits kept bytes) in
-    let joins = subst (Changes bits kept bytes) c.in-Some.is change in
+    let joins = told_joins bits kept bytes _ _ c.in-Some.id c.kept_id.ensures c.in_ok-answer.ensures.answer c.in-Some.is in
     let is = by_test c.append.result c.if-is_err.ensures.value c.append.ensures.ok in
     fits_same bits c.offer.new.self.bits (kept_after bits kept bytes) c.offer.new.self.kept c.append.new.self c.offer.ensures.bits c.in_ok-answer.ensures.kept
     (fits_more bits kept bytes c.in-Some-block.block.now.bytes c.in-Some.id c.args.journal.now c.append.new.self c.requires.fits joins is)
