@@ -14,11 +14,21 @@ use std::marker::Model;
 
 /// From 1 to 512 present blocks, numbered from 0, genesis, in order of presence. Contracts see the
 /// list of their ids and the list of the parents of each by number.
-#[derive(Drop)]
 pub struct Dag {
     alloc: Global,
     ids: IndexSet<BlockId>,
     table: Table,
+}
+
+// Written out, so that where a graph is let go there is one call.
+impl Drop for Dag {
+    fn drop(self) {
+        let Dag {
+            alloc: _,
+            ids: _,
+            table: _,
+        } = self;
+    }
 }
 
 impl Model for Dag {

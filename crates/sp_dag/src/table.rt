@@ -15,13 +15,25 @@ use std::alloc::Global;
 use std::marker::Model;
 
 // Blocks by number. Contracts see the list of the parents of each.
-#[derive(Drop)]
 pub(crate) struct Table {
     parents: Vec<Numbers>,
     pasts: Vec<Row>,
     futures: Vec<Row>,
     pairs: Vec<(u16, u16)>,
     indices: Vec<Indices>,
+}
+
+// Written out, so that where a table is let go there is one call, and not one for each of its lists.
+impl Drop for Table {
+    fn drop(self) {
+        let Table {
+            parents: _,
+            pasts: _,
+            futures: _,
+            pairs: _,
+            indices: _,
+        } = self;
+    }
 }
 
 impl Model for Table {
