@@ -16,12 +16,22 @@ use std::alloc::Global;
 use std::marker::Model;
 
 /// Blocks by place and by id.
-#[derive(Drop)]
 pub struct Entries {
     blocks: IndexMap<BlockId, Block>,
     marks: Vec<bool>,
     // How many of a block's parents, from the first, were seen to be marked.
     seen: Vec<usize>,
+}
+
+// Written out, so that where a pool is let go there is one call.
+impl Drop for Entries {
+    fn drop(self) {
+        let Entries {
+            blocks: _,
+            marks: _,
+            seen: _,
+        } = self;
+    }
 }
 
 impl Model for Entries {
