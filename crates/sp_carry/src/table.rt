@@ -18,7 +18,6 @@ use sp_tx::Tx;
 use std::alloc::Global;
 
 // Transactions, each once, and carriers.
-#[derive(Drop)]
 pub(crate) struct Table {
     pub(crate) blocks: u16,
     pub(crate) txs: Vec<Tx>,
@@ -26,6 +25,20 @@ pub(crate) struct Table {
     pub(crate) rows: Vec<Carrier>,
     pub(crate) by_tx: Vec<Numbers>,
     pub(crate) spenders: Spenders,
+}
+
+// Written out, so that where carriers are let go there is one call, and not one for each table.
+impl Drop for Table {
+    fn drop(self) {
+        let Table {
+            blocks: _,
+            txs: _,
+            ids: _,
+            rows: _,
+            by_tx: _,
+            spenders: _,
+        } = self;
+    }
 }
 
 impl Table {
