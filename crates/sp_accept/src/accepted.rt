@@ -20,12 +20,23 @@ use std::marker::Model;
 
 /// The accepted carriers and transactions of the first blocks of a graph, by number. Contracts see
 /// how many blocks these are, and a flag for each carrier and each transaction.
-#[derive(Drop)]
 pub struct Accepted {
     alloc: Global,
     carriers: Vec<bool>,
     txs: Vec<bool>,
     blocks: u16,
+}
+
+// Written out, so that where flags are let go there is one call.
+impl Drop for Accepted {
+    fn drop(self) {
+        let Accepted {
+            alloc: _,
+            carriers: _,
+            txs: _,
+            blocks: _,
+        } = self;
+    }
 }
 
 impl Model for Accepted {
