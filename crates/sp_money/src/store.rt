@@ -14,13 +14,25 @@ use std::alloc::Global;
 
 // The outputs of all transactions in order, what is left under each lock, the place of each
 // transaction's first output, which transactions are accepted, and the locks.
-#[derive(Drop)]
 pub(crate) struct Store {
     pub(crate) slots: Vec<Slot>,
     pub(crate) totals: Vec<u128>,
     pub(crate) starts: Vec<u32>,
     pub(crate) accepted: Vec<bool>,
     pub(crate) locks: Locks,
+}
+
+// Written out, so that where a purse is let go there is one call, and not one for each table.
+impl Drop for Store {
+    fn drop(self) {
+        let Store {
+            slots: _,
+            totals: _,
+            starts: _,
+            accepted: _,
+            locks: _,
+        } = self;
+    }
 }
 
 // One spender more, or one less.
