@@ -19,7 +19,6 @@ pub struct RowId(pub u32);
 
 /// Rows of eight words, each with how often it is counted. Contracts see the live rows, which are
 /// counted at least once, by ascending id, and how many more can be taken. No row's words move.
-#[derive(Drop)]
 pub struct RowPool {
     chunks: Chunks,
     // How often each row is counted; a free one isn't.
@@ -29,6 +28,20 @@ pub struct RowPool {
     spare: usize,
     live: usize,
     alloc: Global,
+}
+
+// Written out, so that where a pool is let go there is one call.
+impl Drop for RowPool {
+    fn drop(self) {
+        let RowPool {
+            chunks: _,
+            counts: _,
+            first: _,
+            spare: _,
+            live: _,
+            alloc: _,
+        } = self;
+    }
 }
 
 impl Model for RowPool {
