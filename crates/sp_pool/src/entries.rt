@@ -3,8 +3,9 @@
 //! means. A look-up by id goes through a hash table, and all else but `unmarked` takes a
 //! bounded number of steps.
 
-ghost use Rattle.std.specs.Prelude.{◌≡◌, ◌<◌, ◌++◌, ◌∷◌, [], count_by, false, IfOk, IsFalse, length, nat_eq, not, OnErr, OnOk, position, slice_get, slice_set, true};
+ghost use Rattle.std.specs.Prelude.{◌≡◌, ◌<◌, ◌++◌, ◌∷◌, [], count_by, false, IfOk, IsFalse, length, nat_eq, not, OnErr, OnOk, position, slice_get, slice_set, true, vec_capacity, vec_len};
 ghost use Rattle.std.specs.Option.{option_map};
+ghost use Rattle.indexmap.specs.IndexMap.{keys, values};
 ghost use Rattle.sp_model.specs.Graph.{has};
 ghost use Rattle.sp_block.specs.Block.{ReadBlock};
 ghost use Rattle.sp_pool.specs.Kept.{AreApart, ids_of};
@@ -12,7 +13,7 @@ ghost use Rattle.sp_pool.specs.Kept.{AreApart, ids_of};
 use indexmap::IndexMap;
 use sp_block::Block;
 use sp_ids::{BlockId, Memory};
-use std::alloc::Global;
+use std::alloc::{AllocError, Global};
 use std::marker::Model;
 
 /// Blocks by place and by id.
@@ -48,6 +49,28 @@ impl Model for Entries {
     ghost invariant = { AreKeyed };
 }
 
+// One block by its id.
+fn map_of(alloc: Global, first: Block) -> Result<IndexMap<BlockId, Block>, Memory>
+    ensures keys { IfOk result (λ blocks. keys blocks ≡ first.id ∷ []) }
+    ensures values { IfOk result (λ blocks. values blocks ≡ first ∷ []) }
+{
+    let mut blocks = IndexMap::new(alloc);
+    let replaced = blocks.insert(first.id, first)?;
+    drop(replaced);
+    Ok(blocks)
+}
+
+// Makes room for one entry more in each list.
+fn make_room(marks: &mut Vec<bool>, seen: &mut Vec<usize>) -> Result<(), AllocError>
+    ensures marks { marks.new.items ≡ marks.old.items }
+    ensures seen { seen.new.items ≡ seen.old.items }
+    ensures room { OnOk result ((vec_len marks.new < vec_capacity marks.new)
+        × (vec_len seen.new < vec_capacity seen.new)) }
+{
+    marks.reserve(1)?;
+    seen.reserve(1)
+}
+
 impl Entries {
     ghost use Rattle.sp_pool.specs.Marks.{marked, with_unmarked};
 
@@ -55,12 +78,9 @@ impl Entries {
     pub fn new(alloc: Global, first: Block) -> Result<Entries, Memory>
         ensures { IfOk result (λ entries. entries ≡ marked (first ∷ []) (true ∷ []) (0 ∷ [])) }
     {
-        let mut marks = Vec::with_capacity(alloc, 1)?;
-        marks.push_reserved(true);
-        let mut seen = Vec::with_capacity(alloc, 1)?;
-        seen.push_reserved(0);
-        let mut blocks = IndexMap::with_capacity(alloc, 1)?;
-        blocks.insert(first.id, first)?;
+        let blocks = map_of(alloc, first)?;
+        let marks = Vec::from_slice(alloc, &[true])?;
+        let seen = Vec::from_slice(alloc, &[0])?;
         Ok(Entries {
             blocks,
             marks,
@@ -148,9 +168,9 @@ impl Entries {
         ensures ok { OnOk result (self.new ≡ with_unmarked self.old block) }
         ensures err { OnErr result (self.new ≡ self.old) }
     {
-        self.marks.reserve(1)?;
-        self.seen.reserve(1)?;
-        self.blocks.insert(block.id, block)?;
+        make_room(&mut self.marks, &mut self.seen)?;
+        let replaced = self.blocks.insert(block.id, block)?;
+        drop(replaced);
         self.marks.push_reserved(false);
         self.seen.push_reserved(0);
         Ok(())
