@@ -1,7 +1,7 @@
 //! The parents of the present blocks by number, with all that is read from them. It stands apart
 //! from the ids: contracts see the parents alone.
 
-ghost use Rattle.std.specs.Prelude.{◌≡◌, ◌<◌, ◌≤◌, ◌++◌, ◌∷◌, ◌||◌, ◌==◌, ◌↔◌, [], ℕ, length, All, IfOk, OnOk, OnErr, IfSome, IsNone, IsTrue, slice_get, Some, min, max};
+ghost use Rattle.std.specs.Prelude.{◌≡◌, ◌<◌, ◌≤◌, ◌++◌, ◌∷◌, ◌||◌, ◌==◌, ◌↔◌, [], ℕ, length, All, IfOk, OnOk, OnErr, IfSome, IsNone, IsTrue, slice_get, Some, min, max, vec_capacity, vec_len};
 ghost use Rattle.sp_model.specs.Graph.{in_past, keys, past, future, related};
 ghost use Rattle.sp_dag.specs.Numbered.{graph_of, pairs_of, IsPair};
 
@@ -11,7 +11,7 @@ use crate::pairs::push_unrelated;
 use crate::rows::{row_of, set_in_futures};
 use sp_bits::Row;
 use sp_ids::Memory;
-use std::alloc::Global;
+use std::alloc::{AllocError, Global};
 use std::marker::Model;
 
 // Blocks by number. Contracts see the list of the parents of each.
@@ -49,6 +49,28 @@ impl Model for Table {
         AreRight t.parents.items t.pasts.items t.futures.items t.pairs.items t.indices.items };
 }
 
+// Makes room for one block more in each of these lists.
+fn make_room(
+    parents: &mut Vec<Numbers>,
+    pasts: &mut Vec<Row>,
+    futures: &mut Vec<Row>,
+    indices: &mut Vec<Indices>,
+) -> Result<(), AllocError>
+    ensures parents { parents.new.items ≡ parents.old.items }
+    ensures pasts { pasts.new.items ≡ pasts.old.items }
+    ensures futures { futures.new.items ≡ futures.old.items }
+    ensures indices { indices.new.items ≡ indices.old.items }
+    ensures room { OnOk result ((vec_len parents.new < vec_capacity parents.new)
+        × (vec_len pasts.new < vec_capacity pasts.new)
+        × (vec_len futures.new < vec_capacity futures.new)
+        × (vec_len indices.new < vec_capacity indices.new)) }
+{
+    parents.reserve(1)?;
+    pasts.reserve(1)?;
+    futures.reserve(1)?;
+    indices.reserve(1)
+}
+
 impl Table {
     // No blocks.
     pub(crate) fn new(alloc: Global) -> Table
@@ -72,10 +94,12 @@ impl Table {
         ensures err { OnErr result (self.new ≡ self.old) }
     {
         let count = self.parents.len();
-        self.parents.reserve(1)?;
-        self.pasts.reserve(1)?;
-        self.futures.reserve(1)?;
-        self.indices.reserve(1)?;
+        make_room(
+            &mut self.parents,
+            &mut self.pasts,
+            &mut self.futures,
+            &mut self.indices,
+        )?;
         self.pairs.reserve(count)?;
         let mut indices = Vec::with_capacity(alloc, count)?;
         let number = count as u16;

@@ -17,15 +17,15 @@ invariant_of-self-2 c =
     let view : length table ≡ length c.args.self.now = ap length c.self.view_is in
     let adds =
     Adds-read table pasts futures pairs c.args.parents past later c.push_unrelated.new.pairs.items row c.len-count.result c.deref.result.now
-    c.reserve-3.new.self.items c.reserve-5.new.self.items c.as_slice.result.now number (c.deref.ensures.value ∙ c.reserve-2.ensures.items)
-    c.reserve-3.ensures.items c.reserve-5.ensures.items c.as_slice.ensures (omega (arith, view, c.requires.room))
+    c.make_room.new.futures.items c.reserve.new.self.items c.as_slice.result.now number (c.deref.ensures.value ∙ c.make_room.ensures.pasts)
+    c.make_room.ensures.futures c.reserve.ensures.items c.as_slice.ensures (omega (arith, view, c.requires.room))
     (AreBefore-all (length table) c.args.parents (λ k d le. omega (arith, view, c.requires.before k d le))) c.row_of-past.ensures
     c.push_unrelated.ensures.pairs c.push_unrelated.ensures.indices long c.set_in_futures.ensures.rows in
     let right = AreRight-push table pasts futures pairs indices c.args.parents past later c.push_unrelated.new.pairs.items row c.self.invariant adds in
     AreRight-same (table ++ c.args.parents ∷ []) c.push_reserved-4.new.self.items (pasts ++ past ∷ []) c.push_reserved-2.new.self.items (later ++ [] ∷ [])
     c.push_reserved.new.self.items c.push_unrelated.new.pairs.items c.push_unrelated.new.pairs.items (indices ++ row ∷ []) c.push_reserved-3.new.self.items
-    (c.push_reserved-4.ensures.items ∙ ap (λ (l : List (List ℕ)). l ++ c.args.parents ∷ []) c.reserve.ensures.items)
-    (c.push_reserved-2.ensures.items ∙ ap (λ (l : List (List ℕ)). l ++ past ∷ []) c.reserve-2.ensures.items)
+    (c.push_reserved-4.ensures.items ∙ ap (λ (l : List (List ℕ)). l ++ c.args.parents ∷ []) c.make_room.ensures.parents)
+    (c.push_reserved-2.ensures.items ∙ ap (λ (l : List (List ℕ)). l ++ past ∷ []) c.make_room.ensures.pasts)
     (c.push_reserved.ensures.items ∙ ap (λ (r : List ℕ). later ++ r ∷ []) c.empty.ensures) refl
-    (c.push_reserved-3.ensures.items ∙ ap (λ (l : List (List (Option ℕ))). l ++ c.of.result ∷ []) c.reserve-4.ensures.items
+    (c.push_reserved-3.ensures.items ∙ ap (λ (l : List (List (Option ℕ))). l ++ c.of.result ∷ []) c.make_room.ensures.indices
     ∙ ap (λ (r : List (Option ℕ)). indices ++ r ∷ []) c.of.ensures) right
