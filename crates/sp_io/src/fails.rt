@@ -7,7 +7,6 @@ use crate::calls::Calls;
 /// Which calls of an object in memory fail. Its calls are counted from 0, those that fail and
 /// those with an empty buffer or piece among them. The count stays at 2^64 - 1 once it is there,
 /// so that each later call has that number.
-#[derive(Drop)]
 pub enum Fails {
     /// None.
     Never,
@@ -15,6 +14,16 @@ pub enum Fails {
     At(Calls),
     /// The one of this number and each after it.
     From(u32),
+}
+
+impl Drop for Fails {
+    fn drop(self) {
+        match self {
+            Fails::At(calls) => drop(calls),
+            Fails::Never => {}
+            Fails::From(_) => {}
+        }
+    }
 }
 
 impl Fails {

@@ -12,7 +12,6 @@ use crate::source::Source;
 use std::marker::Model;
 
 /// A source over bytes in memory, which gives at most `step` bytes a call.
-#[derive(Drop)]
 pub struct MemSource {
     bytes: Vec<u8>,
     at: usize,
@@ -37,6 +36,22 @@ impl Model for MemSource {
     } };
 
     ghost invariant = { λ s. (s.at ≤ vec_len s.bytes) × (0 < s.step) };
+}
+
+// Written out, so that where a source is let go there is one call: each such place is proved.
+impl Drop for MemSource {
+    fn drop(self) {
+        let MemSource {
+            bytes,
+            at: _,
+            step: _,
+            fails,
+            calls: _,
+            faults: _,
+        } = self;
+        drop(bytes);
+        drop(fails);
+    }
 }
 
 impl MemSource {
