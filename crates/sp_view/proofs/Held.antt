@@ -184,6 +184,17 @@ entry_last [] entry (suc i) e = absurd (omega arith)
 entry_last (x ∷ xs) entry zero e = absurd (omega arith)
 entry_last (x ∷ xs) entry (suc i) e = entry_last xs entry i (omega arith)
 
+-- what each of the entries so far has, and the next one, each of all of them has
+pub entry_next : (Has : ℕ → Option (ℕ × ℕ) → Type 0) (entries items : List (Option (ℕ × ℕ))) (entry : Option (ℕ × ℕ)) (i : ℕ) → length entries ≡ i → items ≡ entries ++ entry ∷ []
+    → ((j : ℕ) → j < i → Has j (entry_at entries j)) → Has i entry → (j : ℕ) → j < i + 1 → Has j (entry_at items j)
+entry_next Has entries items entry i long is before now j le =
+    subst (λ (l : List (Option (ℕ × ℕ))). Has j (entry_at l j)) (sym is)
+    (elim (cases_lt j i) [
+      | inl less ↦ rw (entry_push entries entry j (omega (arith, less, long))) (before j less)
+      | inr more ↦ (let same : i ≡ j = omega (arith, le, more) in
+          rw (entry_last entries entry j (omega (arith, same, long))) (subst (λ (n : ℕ). Has n entry) same now))
+    ])
+
 pub held_push : (entries : List (Option (ℕ × ℕ))) (entry : Option (ℕ × ℕ)) (row : ℕ) → held (entries ++ entry ∷ []) row ≡ held entries row + holds entry row
 held_push [] entry row = omega arith
 held_push (e ∷ es) entry row = (let rest : held (es ++ entry ∷ []) row ≡ held es row + holds entry row = held_push es entry row in omega arith)

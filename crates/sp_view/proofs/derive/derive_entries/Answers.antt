@@ -1,11 +1,10 @@
-use Rattle.std.proofs.Common.{◌≡◌, ◌∙◌, ◌<◌, ◌≤◌, ◌+◌, ◌++◌, ◌∷◌, [], ℕ, List, Option, Some, ap, arith, get_or, length, subst, sym, take, inl, inr}
+use Rattle.std.proofs.Common.{◌≡◌, ◌∙◌, ◌<◌, ◌≤◌, ◌+◌, ◌++◌, ◌∷◌, [], ℕ, List, Option, Some, ap, arith, get_or, length, subst, sym, take}
 use Rattle.std.specs.Prelude.{slice_get}
-use Rattle.std.proofs.lemmas.Bool.{cases_lt}
 use Rattle.sp_dag.specs.Numbered.{graph_of, pairs_of}
 use Rattle.sp_model.specs.Graph.{Graph}
 use Rattle.sp_view.specs.Stored.{count_of, row_of}
 use Rattle.sp_view.specs.Views.{entry_at, holds, held, IsEntry, IsOnce, KeepIds}
-use Rattle.sp_view.proofs.Held.{entry_last, entry_moves, entry_push, held_push, held_take_le, held_take_next, holds_held, once_end, once_more, some_pair}
+use Rattle.sp_view.proofs.Held.{entry_moves, entry_next, held_push, held_take_le, held_take_next, holds_held, once_end, once_more, some_pair}
 use Rattle.sp_view.proofs.Moves.{moved_few, moved_moves, moved_take}
 use Rattle.sp_view.proofs.derive.derive_entries.Goals as goal
 
@@ -67,25 +66,15 @@ pairs-preserved c =
     record {
       long = omega (arith, c.push_reserved.ensures.len, c.pairs.invariant.long);
       room = omega (arith, c.push_reserved.ensures.capacity, c.pairs.invariant.room);
-      entry = λ j x y le at.
-          subst (λ (l : List (Option (ℕ × ℕ))). IsEntry g c.args.target.now x y c.derived_entry.new.pool (entry_at l j)) (sym items)
-          (elim (cases_lt j i) [
-            | inl less ↦ rw (entry_push entries entry j (omega (arith, less, long)))
-                (entry_moves g c.args.target.now x y c.pairs.pool c.derived_entry.new.pool (entry_at entries j)
-                (λ r some. rows r (omega (arith, some, holds_held entries j r, c.pairs.invariant.counts r))) (c.pairs.invariant.entry j x y less at))
-            | inr more ↦ (let same : j ≡ i = omega (arith, le, more) in
-                rw (entry_last entries entry j (omega (arith, same, long))) (c.in_ok-entry.ensures.entry x y (ap (slice_get (pairs_of table)) (sym same) ∙ at)))
-          ]);
-      kept = λ j x y le at.
-          subst (λ (l : List (Option (ℕ × ℕ))). KeepIds g c.args.from.now c.args.target.now x y (entry_at base j) (entry_at l j)) (sym items)
-          (elim (cases_lt j i) [
-            | inl less ↦ rw (entry_push entries entry j (omega (arith, less, long))) (c.pairs.invariant.kept j x y less at)
-            | inr more ↦ (let same : j ≡ i = omega (arith, le, more) in
-                let at' : slice_get (pairs_of table) i ≡ Some (x, y) = ap (slice_get (pairs_of table)) (sym same) ∙ at in
-                rw (entry_last entries entry j (omega (arith, same, long)))
-                (subst (λ (e : Option (ℕ × ℕ)). KeepIds g c.args.from.now c.args.target.now x y e entry) (before ∙ ap (entry_at base) (sym same))
-                (c.in_ok-entry.ensures.kept x y at')))
-          ]);
+      entry = λ j x y le.
+          entry_next (λ k e. slice_get (pairs_of table) k ≡ Some (x, y) → IsEntry g c.args.target.now x y c.derived_entry.new.pool e) entries _ entry i long items
+          (λ k less at. entry_moves g c.args.target.now x y c.pairs.pool c.derived_entry.new.pool (entry_at entries k)
+          (λ r some. rows r (omega (arith, some, holds_held entries k r, c.pairs.invariant.counts r))) (c.pairs.invariant.entry k x y less at))
+          (c.in_ok-entry.ensures.entry x y) j le;
+      kept = λ j x y le.
+          entry_next (λ k e. slice_get (pairs_of table) k ≡ Some (x, y) → KeepIds g c.args.from.now c.args.target.now x y (entry_at base k) e) entries _ entry i long items
+          (λ k less at. c.pairs.invariant.kept k x y less at)
+          (λ at. subst (λ (e : Option (ℕ × ℕ)). KeepIds g c.args.from.now c.args.target.now x y e entry) before (c.in_ok-entry.ensures.kept x y at)) j le;
       counts = λ r.
           let held_is : held c.push_reserved.new.self.items r ≡ held entries r + holds entry r = ap (λ (l : List (Option (ℕ × ℕ))). held l r) items ∙ held_push entries entry r in
           omega (arith, held_is, c.in_ok-entry.ensures.counts r, c.pairs.invariant.counts r);
