@@ -90,20 +90,14 @@ impl Drop for Engine {
             alloc: _,
             bits: _,
             genesis: _,
-            pool,
-            dag,
-            votes,
-            carriers,
-            accepted,
-            purse,
+            pool: _,
+            dag: _,
+            votes: _,
+            carriers: _,
+            accepted: _,
+            purse: _,
             broken: _,
         } = self;
-        drop(pool);
-        drop(dag);
-        drop(votes);
-        drop(carriers);
-        drop(accepted);
-        drop(purse);
     }
 }
 

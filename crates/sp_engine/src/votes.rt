@@ -47,13 +47,10 @@ impl Drop for Votes {
     fn drop(self) {
         let Votes {
             alloc: _,
-            frozen,
-            rows,
-            views,
+            frozen: _,
+            rows: _,
+            views: _,
         } = self;
-        drop(frozen);
-        drop(rows);
-        drop(views);
     }
 }
 

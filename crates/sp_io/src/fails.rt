@@ -16,11 +16,12 @@ pub enum Fails {
     From(u32),
 }
 
+// Written out, so that where a plan is let go there is one call, and no branch.
 impl Drop for Fails {
     fn drop(self) {
         match self {
-            Fails::At(calls) => drop(calls),
             Fails::Never => {}
+            Fails::At(_) => {}
             Fails::From(_) => {}
         }
     }

@@ -46,15 +46,13 @@ impl Model for MemSink {
 impl Drop for MemSink {
     fn drop(self) {
         let MemSink {
-            bytes,
+            bytes: _,
             capacity: _,
             step: _,
-            fails,
+            fails: _,
             calls: _,
             faults: _,
         } = self;
-        drop(bytes);
-        drop(fails);
     }
 }
 

@@ -42,15 +42,13 @@ impl Model for MemSource {
 impl Drop for MemSource {
     fn drop(self) {
         let MemSource {
-            bytes,
+            bytes: _,
             at: _,
             step: _,
-            fails,
+            fails: _,
             calls: _,
             faults: _,
         } = self;
-        drop(bytes);
-        drop(fails);
     }
 }
 

@@ -60,12 +60,10 @@ impl Drop for Node {
     fn drop(self) {
         let Node {
             alloc: _,
-            engine,
-            journal,
+            engine: _,
+            journal: _,
             stopped: _,
         } = self;
-        drop(engine);
-        drop(journal);
     }
 }
 
