@@ -14,7 +14,6 @@ use std::marker::Model;
 
 /// The names of blocks, transactions and locks, each in the order in which they were given. What
 /// has a name keeps it: a second one changes nothing. Contracts see the three lists of labels.
-#[derive(Drop)]
 pub struct Names {
     alloc: Global,
     blocks: Labels<BlockId>,
@@ -32,6 +31,21 @@ impl Model for Names {
 
     ghost view = { λ names.
         record { blocks = names.blocks; txs = names.txs; locks = names.locks } };
+}
+
+// Written out, so that where names are let go there is one call, and not one for each of their parts.
+impl Drop for Names {
+    fn drop(self) {
+        let Names {
+            alloc: _,
+            blocks,
+            txs,
+            locks,
+        } = self;
+        drop(blocks);
+        drop(txs);
+        drop(locks);
+    }
 }
 
 impl Names {

@@ -11,7 +11,6 @@ use std::collections::BTreeSet;
 use std::marker::Model;
 
 /// Inputs in the order in which they stand. Contracts see the list of them.
-#[derive(Drop)]
 pub(crate) struct Found {
     spent: BTreeSet<Outpoint>,
     list: Vec<Input>,
@@ -27,6 +26,15 @@ impl Model for Found {
     ghost view = { λ found. found.list.items };
 
     ghost invariant = { λ found. HasSpent found.spent found.list.items };
+}
+
+// Written out, so that where it is let go there is one call, and not one for each of its fields.
+impl Drop for Found {
+    fn drop(self) {
+        let Found { spent, list } = self;
+        drop(spent);
+        drop(list);
+    }
 }
 
 impl Found {
@@ -62,6 +70,8 @@ impl Found {
     pub(crate) fn into_inputs(self) -> Inputs
         ensures { result ≡ self }
     {
-        Inputs::of(self.list)
+        let Found { spent, list } = self;
+        drop(spent);
+        Inputs::of(list)
     }
 }

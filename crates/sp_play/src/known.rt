@@ -30,7 +30,6 @@ use std::collections::BTreeSet;
 use std::marker::Model;
 
 /// What the names name, and what was said.
-#[derive(Drop)]
 pub(crate) struct Known {
     alloc: Global,
     stage: Stage,
@@ -59,6 +58,26 @@ impl Model for Known {
     } };
 
     ghost invariant = { λ k. AreKept k.bits k.entries k.genesis k.txs };
+}
+
+// Written out, so that where it is let go there is one call, and not one for each of its fields.
+impl Drop for Known {
+    fn drop(self) {
+        let Known {
+            alloc: _,
+            stage: _,
+            bits: _,
+            entries,
+            genesis: _,
+            txs,
+            words,
+            sayings,
+        } = self;
+        drop(entries);
+        drop(txs);
+        drop(words);
+        drop(sayings);
+    }
 }
 
 impl Known {

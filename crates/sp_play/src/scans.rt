@@ -1,6 +1,7 @@
 //! What is gathered from all names, of which there are at most 4,096: the bytes of the grants.
 
-ghost use Rattle.std.specs.Prelude.{◌≡◌, ◌≤◌, ◌++◌, IfOk, OnOk, length};
+ghost use Rattle.std.specs.Prelude.{◌≡◌, ◌≤◌, ◌++◌, ◌∷◌, IfOk, OnOk, length};
+ghost use Rattle.std.specs.Int.{w16, w64, to_le_bytes};
 ghost use Rattle.std.specs.List.{flat_map};
 ghost use Rattle.sp_tx.specs.Spelling.{spelling};
 ghost use Rattle.sp_play.specs.Known as meant;
@@ -51,19 +52,25 @@ pub(crate) fn gather_grants(alloc: Global, entries: &Entries) -> Result<Grants, 
     Ok(Grants { bytes, count })
 }
 
+/// What stands before the transactions of a genesis block: the version, the salt 0, the nonce 0, no
+/// parents, and how many transactions there are (2 bytes, the lowest first).
+fn genesis_front(count: u16) -> [u8; 20]
+    ensures { result ≡ 1 ∷ (to_le_bytes w64 0 ++ (to_le_bytes w64 0 ++ (0 ∷ to_le_bytes w16 count))) }
+{
+    let mut front = [0u8; 20];
+    front[0] = 1;
+    front[18..].copy_from_slice(&count.to_le_bytes());
+    front
+}
+
 /// The bytes of the genesis block.
 pub(crate) fn genesis_text(alloc: Global, entries: &Entries) -> Result<Vec<u8>, Memory>
     requires { length entries.now ≤ 4096 }
     ensures { IfOk result (λ text. text.items ≡ meant.genesis_text (grants_of entries.now)) }
 {
     let grants = gather_grants(alloc, entries)?;
-    let count = grants.count as u16;
-    let mut out = Vec::new(alloc);
-    out.push(1)?;
-    out.extend_from_slice(&0u64.to_le_bytes())?;
-    out.extend_from_slice(&0u64.to_le_bytes())?;
-    out.push(0)?;
-    out.extend_from_slice(&count.to_le_bytes())?;
+    let front = genesis_front(grants.count as u16);
+    let mut out = Vec::from_slice(alloc, &front)?;
     out.extend_from_slice(&grants.bytes)?;
     Ok(out)
 }

@@ -3,6 +3,7 @@
 ghost use Rattle.std.specs.Prelude.{◌≡◌, ◌<◌, ◌≤◌, length};
 ghost use Rattle.std.specs.Bool.{OnFalse, OnTrue};
 ghost use Rattle.std.specs.List.{list_all};
+ghost use Rattle.sp_play.specs.Commands as commands;
 ghost use Rattle.sp_play.specs.Words as meant;
 ghost use Rattle.sp_play.specs.Words.{words_of};
 
@@ -29,16 +30,23 @@ pub(crate) fn has_line_bytes(line: &[u8]) -> bool
     line.iter().all(|byte| is_line_byte(*byte))
 }
 
+/// Whether a word is this text.
+pub(crate) fn is_word(text: &[u8], word: &[u8]) -> bool
+    ensures { result ≡ commands.is_word text.now word.now }
+{
+    word == text
+}
+
 /// Whether a word has a meaning of its own in the language, so that it names nothing.
 fn is_key_word(word: &[u8]) -> bool
     ensures { result ≡ meant.is_key_word word.now }
 {
-    word == b"on".as_slice()
-        || word == b"carries".as_slice()
-        || word == b"spends".as_slice()
-        || word == b"with".as_slice()
-        || word == b"pays".as_slice()
-        || word == b"to".as_slice()
+    is_word(b"on", word)
+        || is_word(b"carries", word)
+        || is_word(b"spends", word)
+        || is_word(b"with", word)
+        || is_word(b"pays", word)
+        || is_word(b"to", word)
 }
 
 /// Whether a word holds only bytes of names.

@@ -21,7 +21,6 @@ use std::marker::Model;
 
 /// The meaning of a scenario up to its first fault: the bits of work, the genesis block, the names,
 /// the messages, and that fault.
-#[derive(Drop)]
 pub struct Scene {
     reading: Reading,
     genesis: Vec<u8>,
@@ -45,6 +44,21 @@ impl Model for Scene {
     } };
 
     ghost invariant = { λ s. IsWhole s.reading.known s.genesis.items s.genesis_id };
+}
+
+// Written out, so that where a scene is let go there is one call, and not one for each of its fields.
+impl Drop for Scene {
+    fn drop(self) {
+        let Scene {
+            reading,
+            genesis,
+            genesis_id: _,
+            names,
+        } = self;
+        drop(reading);
+        drop(genesis);
+        drop(names);
+    }
 }
 
 impl Scene {

@@ -96,8 +96,26 @@ impl Known {
         Ok(())
     }
 
+    /// Adds the block that a draft makes, if it makes one and there is room for its name.
+    #[tactic(auto, unfolding(crate::specs::Making::with_block))]
+    fn add_drafted(&mut self, sends: bool, word: &[u8], draft: &Draft) -> Result<(), LineError>
+        requires named { is_name word.now ≡ true }
+        requires some { 1 ≤ length word.now }
+        requires short { length word.now ≤ 64 }
+        requires fresh { IsNone (place_of self.old.entries word.now) }
+        ensures { Steps self.old self.new result
+            (line.with_block sends (at_stage_body self.old) word.now draft.now) }
+    {
+        if MOST_NAMES <= self.entries.len() {
+            return Err(LineError::Fault(Why::Many));
+        }
+        let bytes = block_of(self.alloc, draft, self.bits)?;
+        self.add_block(sends, word, bytes)?;
+        Ok(())
+    }
+
     /// A line `make` or `block`.
-    #[tactic(auto, unfolding(crate::specs::Making::block_line, crate::specs::Making::with_block))]
+    #[tactic(auto, unfolding(crate::specs::Making::block_line))]
     pub(crate) fn block_line(&mut self, sends: bool, words: &Words) -> Result<(), LineError>
         ensures { Steps self.old self.new result (line.block_line sends self.old words.now) }
     {
@@ -106,11 +124,6 @@ impl Known {
         new_name(&self.entries, name)?;
         let genesis = self.genesis_id()?;
         let draft = self.draft(&genesis, &form)?;
-        if MOST_NAMES <= self.entries.len() {
-            return Err(LineError::Fault(Why::Many));
-        }
-        let bytes = block_of(self.alloc, &draft, self.bits)?;
-        self.add_block(sends, name, bytes)?;
-        Ok(())
+        self.add_drafted(sends, name, &draft)
     }
 }

@@ -1,8 +1,11 @@
 //! The lines that stand first: `bits` and `grant`.
 
-ghost use Rattle.std.specs.Prelude.{◌≡◌, ◌<◌, ◌≤◌, IfOk, length, true};
+ghost use Rattle.std.specs.Prelude.{◌≡◌, ◌<◌, ◌≤◌, ◌||◌, [], All, Err, if◌then◌else◌, IfOk, IsNone, length, nat_lt, true};
 ghost use Rattle.sp_play.specs.Making as line;
-ghost use Rattle.sp_play.specs.Known.{grants_of};
+ghost use Rattle.sp_play.specs.Making.{at_stage_head, is_full};
+ghost use Rattle.sp_play.specs.Known.{grants_of, place_of};
+ghost use Rattle.sp_play.specs.Words.{is_name};
+ghost use Rattle.sp_play.specs.declared.paid.Paid as paying;
 ghost use Rattle.sp_play.specs.Told.{Steps};
 
 use crate::forms::{grant_form, has_words};
@@ -51,6 +54,29 @@ impl Known {
         Ok(LONGEST < 22 + grants.bytes.len() + 40 * paid.as_slice().len())
     }
 
+    /// Adds a grant of judged amounts, unless there would be more of something than there may be.
+    fn add_grant(&mut self, word: &[u8], paid: &Paids) -> Result<(), LineError>
+        requires named { is_name word.now ≡ true }
+        requires some { 1 ≤ length word.now }
+        requires short { length word.now ≤ 64 }
+        requires fresh { IsNone (place_of self.old.entries word.now) }
+        requires pays { 1 ≤ length paid.now }
+        requires amounts { All (λ (one : paying.Paid). 1 ≤ one.amount) paid.now }
+        ensures { Steps self.old self.new result
+            (if nat_lt 16 (length paid.now) || is_full self.old
+            || line.is_past_grants (grants_of self.old.entries) paid.now
+            then Err Why.Many else line.with_tx (at_stage_head self.old) word.now [] paid.now) }
+    {
+        if MOST_PARTS < paid.as_slice().len() || MOST_NAMES <= self.entries.len() {
+            return Err(LineError::Fault(Why::Many));
+        }
+        if self.is_past_grants(paid)? {
+            return Err(LineError::Fault(Why::Many));
+        }
+        let none = Inputs::of(Vec::new(self.alloc));
+        self.add_tx(Stage::Head, word, none, paid.as_slice())
+    }
+
     /// A line `grant NAME PAY ..`.
     #[tactic(auto, unfolding(crate::specs::Making::grant_line))]
     pub(crate) fn grant_line(&mut self, words: &Words) -> Result<(), LineError>
@@ -60,13 +86,6 @@ impl Known {
         let name = words.at(1);
         new_name(&self.entries, name)?;
         let paid = paid_all(self.alloc, pays.as_slice())?;
-        if MOST_PARTS < paid.as_slice().len() || MOST_NAMES <= self.entries.len() {
-            return Err(LineError::Fault(Why::Many));
-        }
-        if self.is_past_grants(&paid)? {
-            return Err(LineError::Fault(Why::Many));
-        }
-        let none = Inputs::of(Vec::new(self.alloc));
-        self.add_tx(Stage::Head, name, none, paid.as_slice())
+        self.add_grant(name, &paid)
     }
 }

@@ -1,16 +1,17 @@
 //! The line `tx`, and the names of transactions.
 
-ghost use Rattle.std.specs.Prelude.{◌≡◌, ◌<◌, ◌≤◌, IsNone, length, OnOk, false, None, true, ◌==◌, if◌then◌else◌};
+ghost use Rattle.std.specs.Prelude.{◌≡◌, ◌<◌, ◌≤◌, ◌||◌, All, Err, IsNone, length, nat_lt, OnOk, false, None, true, ◌==◌, if◌then◌else◌};
 ghost use Rattle.sp_play.specs.Making as line;
-ghost use Rattle.sp_play.specs.Making.{with_thing};
+ghost use Rattle.sp_play.specs.Making.{at_stage_body, is_full, with_thing};
 ghost use Rattle.sp_play.specs.Known.{Entry, is_of_id, place_of};
 ghost use Rattle.std.specs.List.{list_any};
 ghost use Rattle.sp_tx.specs.Spelling.{IsTx};
 ghost use Rattle.sp_tx.specs.Spending.{id_of};
 ghost use Rattle.sp_play.specs.Judging.{tx_of};
 ghost use Rattle.sp_play.specs.Room.{HasRoom};
-ghost use Rattle.sp_play.specs.Spent.{AreAmounts, AreInputs};
+ghost use Rattle.sp_play.specs.Spent.{AreAmounts, AreApart, AreInputs, IsJudged};
 ghost use Rattle.sp_play.specs.Words.{is_name};
+ghost use Rattle.sp_play.specs.declared.paid.Paid as paying;
 ghost use Rattle.sp_play.specs.declared.thing.Thing.TheVariants as kinds;
 ghost use Rattle.sp_play.specs.Told.{Steps};
 
@@ -111,6 +112,31 @@ impl Known {
         Ok(())
     }
 
+    /// Adds a transaction of judged parts that spends, unless there would be more of something than
+    /// there may be.
+    fn add_spending(&mut self, word: &[u8], inputs: Inputs, paid: &[Paid]) -> Result<(), LineError>
+        requires named { is_name word.now ≡ true }
+        requires some { 1 ≤ length word.now }
+        requires short { length word.now ≤ 64 }
+        requires fresh { IsNone (place_of self.old.entries word.now) }
+        requires spends { 1 ≤ length inputs }
+        requires apart { AreApart inputs }
+        requires judged { All IsJudged inputs }
+        requires pays { 1 ≤ length paid.now }
+        requires amounts { All (λ (one : paying.Paid). 1 ≤ one.amount) paid.now }
+        ensures { Steps self.old self.new result
+            (if nat_lt 16 (length inputs) || nat_lt 16 (length paid.now) || is_full self.old
+            then Err Why.Many else line.with_tx (at_stage_body self.old) word.now inputs paid.now) }
+    {
+        if MOST_PARTS < inputs.as_slice().len()
+            || MOST_PARTS < paid.len()
+            || MOST_NAMES <= self.entries.len()
+        {
+            return Err(LineError::Fault(Why::Many));
+        }
+        self.add_tx(Stage::Body, word, inputs, paid)
+    }
+
     /// A line `tx NAME spends SPEND .. pays PAY ..`.
     #[tactic(auto, unfolding(crate::specs::Making::tx_line))]
     pub(crate) fn tx_line(&mut self, words: &Words) -> Result<(), LineError>
@@ -121,12 +147,6 @@ impl Known {
         new_name(&self.entries, name)?;
         let inputs = inputs_all(self.alloc, &self.entries, form.spends.as_slice())?;
         let paid = paid_all(self.alloc, form.pays.as_slice())?;
-        if MOST_PARTS < inputs.as_slice().len()
-            || MOST_PARTS < paid.as_slice().len()
-            || MOST_NAMES <= self.entries.len()
-        {
-            return Err(LineError::Fault(Why::Many));
-        }
-        self.add_tx(Stage::Body, name, inputs, paid.as_slice())
+        self.add_spending(name, inputs, paid.as_slice())
     }
 }
