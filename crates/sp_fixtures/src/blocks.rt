@@ -37,11 +37,24 @@ fn spelled(alloc: Global, salt: u64, parents: &[BlockId]) -> Result<Vec<u8>, Fai
 
 /// Blocks by number, each with its bytes and its id; genesis is number 0, and the salt of each is
 /// its number.
-#[derive(Drop)]
 pub struct Numbered {
     pub alloc: Global,
     pub texts: Vec<Vec<u8>>,
     pub ids: Vec<BlockId>,
+}
+
+// Written out, as are those of the tests' own values, so that where they are let go there is one call:
+// each such place is proved.
+impl Drop for Numbered {
+    fn drop(self) {
+        let Numbered {
+            alloc: _,
+            texts,
+            ids,
+        } = self;
+        drop(texts);
+        drop(ids);
+    }
 }
 
 impl Numbered {

@@ -130,7 +130,7 @@ fn words_after(blocks: &Numbered, start: usize, step: usize) -> Result<Vec<Word>
     if ran.counts != (13, 0, 13) {
         return Err("not present".into());
     }
-    Ok(ran.words)
+    Ok(ran.into_words())
 }
 
 /// Whether the same is said after each of so many other orders.

@@ -1,7 +1,7 @@
 //! What an engine says is left under each lock, in two orders of arrival.
 
 use crate::balance_rows::{ROWS, Row, SUMS};
-use crate::blocks::Blocks;
+use crate::blocks::{Blocks, offer_each};
 use crate::engine::engine_of;
 use crate::left::{Left, OWNERS, Said, wrong};
 use crate::rows::right;
@@ -9,24 +9,6 @@ use sp_engine::Engine;
 use sp_ids::Lock;
 use std::alloc::Global;
 use std::test::Fail;
-
-fn offer(engine: &mut Engine, bytes: &[u8]) -> Result<(), Fail> {
-    if engine.broken() {
-        return Err("broken".into());
-    }
-    engine.offer(bytes)?;
-    Ok(())
-}
-
-/// The blocks come by their numbers, or the last of them first.
-fn offer_each(engine: &mut Engine, blocks: &Blocks, backward: bool) -> Result<(), Fail> {
-    let count = blocks.count();
-    for turn in 1..count {
-        let number = if backward { count - turn } else { turn };
-        offer(engine, blocks.text(number))?;
-    }
-    Ok(())
-}
 
 fn lock_count(engine: &Engine) -> Result<u32, Fail> {
     if engine.broken() {

@@ -1,16 +1,18 @@
-//! Blocks that carry transactions, made from drafts: what the tests of balances, of drawn feeds and of
-//! long chains offer to an engine.
+//! Blocks that carry transactions, made from drafts: what the tests of acceptance, of balances, of drawn
+//! feeds and of long chains offer to an engine.
 
 use crate::acceptance_rows::Laid;
+use crate::engine::offer;
 use crate::payments::{chosen, tx_ids};
 use sp_block::{Draft, Parents, draft_bytes};
+use sp_engine::Engine;
 use sp_ids::{BlockId, TxId};
 use sp_tx::Txs;
 use std::alloc::Global;
 use std::test::Fail;
 
 /// The bytes of a draft, of nonce 0.
-pub fn text_of(alloc: Global, draft: &Draft) -> Result<Vec<u8>, Fail> {
+fn text_of(alloc: Global, draft: &Draft) -> Result<Vec<u8>, Fail> {
     if draft.parents.as_slice().len() > 64 || draft.txs.as_slice().len() > 256 {
         return Err("too long".into());
     }
@@ -18,12 +20,26 @@ pub fn text_of(alloc: Global, draft: &Draft) -> Result<Vec<u8>, Fail> {
 }
 
 /// Blocks by number, genesis first; the salt of each is its number.
-#[derive(Drop)]
 pub struct Blocks {
     pub alloc: Global,
     txs: Vec<TxId>,
     ids: Vec<BlockId>,
     texts: Vec<Vec<u8>>,
+}
+
+// Written out, so that where they are let go there is one call.
+impl Drop for Blocks {
+    fn drop(self) {
+        let Blocks {
+            alloc: _,
+            txs,
+            ids,
+            texts,
+        } = self;
+        drop(txs);
+        drop(ids);
+        drop(texts);
+    }
 }
 
 impl Blocks {
@@ -77,6 +93,11 @@ impl Blocks {
         self.put(parents, txs)
     }
 
+    /// The ids of all payments.
+    pub fn txs(&self) -> &[TxId] {
+        &self.txs
+    }
+
     /// How many there are, with genesis.
     pub fn count(&self) -> usize {
         self.texts.len()
@@ -89,4 +110,14 @@ impl Blocks {
             None => &[],
         }
     }
+}
+
+/// They come to an engine by their numbers, or the last of them first.
+pub fn offer_each(engine: &mut Engine, blocks: &Blocks, backward: bool) -> Result<(), Fail> {
+    let count = blocks.count();
+    for turn in 1..count {
+        let number = if backward { count - turn } else { turn };
+        let _told = offer(engine, blocks.text(number))?;
+    }
+    Ok(())
 }

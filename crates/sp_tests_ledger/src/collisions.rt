@@ -1,6 +1,7 @@
 //! Outpoints that a stranger chose so that a table by the library's hasher finds them all in one
 //! crowd: carriers that spend them cost no more than those that spend others.
 
+use crate::purse::carry as carry_next;
 use crate::rows::holds;
 use sp_carry::Carriers;
 use sp_dag::Dag;
@@ -114,11 +115,7 @@ fn extend(alloc: Global, dag: &mut Dag) -> Result<(), Fail> {
 /// Adds the carriers of each block.
 fn carry(carriers: &mut Carriers, dag: &Dag, blocks: &[Txs]) -> Result<(), Fail> {
     for txs in blocks {
-        let number = carriers.block_count();
-        if number >= dag.len() || txs.as_slice().len() > 256 {
-            return Err("no such block".into());
-        }
-        carriers.add(dag, number, txs)?;
+        carry_next(dag, carriers, txs)?;
     }
     Ok(())
 }

@@ -57,7 +57,6 @@ pub type Counts = (u16, u16, u16);
 
 /// What an engine told of all that came, and what it says then of some ids: the salt of the block
 /// that is kept of each, and the word on each two, row by row.
-#[derive(Drop)]
 pub struct Ran {
     pub told: Vec<Told>,
     pub bits: u8,
@@ -66,6 +65,31 @@ pub struct Ran {
     pub order: Vec<BlockId>,
     pub salts: Vec<Option<u64>>,
     pub words: Vec<Word>,
+}
+
+impl Drop for Ran {
+    fn drop(self) {
+        let _words = self.into_words();
+    }
+}
+
+impl Ran {
+    /// The words alone.
+    pub fn into_words(self) -> Vec<Word> {
+        let Ran {
+            told,
+            bits: _,
+            genesis: _,
+            counts: _,
+            order,
+            salts,
+            words,
+        } = self;
+        drop(told);
+        drop(order);
+        drop(salts);
+        words
+    }
 }
 
 /// Bytes come to an engine.

@@ -45,15 +45,22 @@ fn stand(dag: &mut Dag, new: BlockId, parents: &[BlockId]) -> Result<(), Fail>
 }
 
 /// What is accepted by one decision on all carriers, and what that leaves.
-#[derive(Drop)]
 pub struct Anew {
     pub accepted: Accepted,
     pub purse: Purse,
 }
 
+// Written out, as that of a ledger, so that where it is let go there is one call.
+impl Drop for Anew {
+    fn drop(self) {
+        let Anew { accepted, purse } = self;
+        drop(accepted);
+        drop(purse);
+    }
+}
+
 /// Blocks by number with their carriers, and which of these are accepted, as of the last decision:
 /// then there were so many blocks. Contracts see how many blocks there are.
-#[derive(Drop)]
 pub struct Ledger {
     alloc: Global,
     dag: Dag,
@@ -71,6 +78,21 @@ impl Model for Ledger {
     ghost view = { λ l. length l.dag.parents };
 
     ghost invariant = { λ l. IsDecided l.dag.parents l.carriers l.accepted l.decided };
+}
+
+impl Drop for Ledger {
+    fn drop(self) {
+        let Ledger {
+            alloc: _,
+            dag,
+            carriers,
+            accepted,
+            decided: _,
+        } = self;
+        drop(dag);
+        drop(carriers);
+        drop(accepted);
+    }
 }
 
 impl Ledger {

@@ -12,10 +12,17 @@ pub type Left = (u8, u128);
 
 /// Each lock with what is left under it, in the order in which they were listed, and what is left
 /// under each owner's lock, as one asks for it by the lock.
-#[derive(Drop)]
 pub struct Said {
     pub listed: Vec<(Lock, u128)>,
     pub asked: Vec<u128>,
+}
+
+impl Drop for Said {
+    fn drop(self) {
+        let Said { listed, asked } = self;
+        drop(listed);
+        drop(asked);
+    }
 }
 
 fn are_listed(listed: &[(Lock, u128)], left: &[Left]) -> bool {

@@ -30,7 +30,7 @@ fn graph_of_four(alloc: Global) -> Result<Dag, Fail> {
 }
 
 /// Adds the carriers of the next block.
-fn carry(dag: &Dag, carriers: &mut Carriers, txs: &Txs) -> Result<(), Fail>
+pub fn carry(dag: &Dag, carriers: &mut Carriers, txs: &Txs) -> Result<(), Fail>
     ensures { OnOk result (GoesOn carriers.old.txs carriers.new.txs) }
 {
     let number = carriers.block_count();
@@ -135,13 +135,29 @@ fn are_unspent(ids: &[TxId], purse: &Purse, held: &[Held]) -> Result<bool, Fail>
 }
 
 /// The payments by their ids, the carriers of some blocks, and a purse of their transactions.
-#[derive(Drop)]
 struct Ledger {
     alloc: Global,
     ids: Vec<TxId>,
     dag: Dag,
     carriers: Carriers,
     purse: Purse,
+}
+
+// Written out, so that where it is let go there is one call.
+impl Drop for Ledger {
+    fn drop(self) {
+        let Ledger {
+            alloc: _,
+            ids,
+            dag,
+            carriers,
+            purse,
+        } = self;
+        drop(ids);
+        drop(dag);
+        drop(carriers);
+        drop(purse);
+    }
 }
 
 impl Ledger {

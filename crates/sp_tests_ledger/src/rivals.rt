@@ -1,11 +1,11 @@
 //! Which sound carriers conflict with each carrier, worked out by hand from the rules.
 
 use crate::payments::{chosen, tx_ids};
+use crate::purse::carry;
 use crate::rows::holds;
 use sp_carry::Carriers;
 use sp_dag::Dag;
 use sp_fixtures::graph;
-use sp_tx::Txs;
 use std::alloc::Global;
 use std::test::Fail;
 
@@ -26,15 +26,6 @@ const RIVALS: &[Rivals] = &[
     (&[(&[0], &[1]), (&[0], &[2]), (&[1, 2], &[2])], &[&[], &[2, 3], &[1], &[1]]),
 ];
 
-/// Adds the carriers of the next block.
-fn carry(carriers: &mut Carriers, dag: &Dag, txs: &Txs) -> Result<(), Fail> {
-    let number = carriers.block_count();
-    if number >= dag.len() || txs.as_slice().len() > 256 {
-        return Err("no such block".into());
-    }
-    Ok(carriers.add(dag, number, txs)?)
-}
-
 /// Adds a block with the transactions of these numbers.
 fn add(
     alloc: Global,
@@ -44,7 +35,7 @@ fn add(
 ) -> Result<(), Fail> {
     let [new, _] = dag.len().to_le_bytes();
     graph::add(alloc, dag, new, parents)?;
-    carry(carriers, dag, &chosen(alloc, &tx_ids(alloc)?, numbers)?)
+    carry(dag, carriers, &chosen(alloc, &tx_ids(alloc)?, numbers)?)
 }
 
 fn rivals(carriers: &Carriers, c: u32) -> Result<Vec<u32>, Fail> {
@@ -72,7 +63,7 @@ fn add_each(
     carriers: &mut Carriers,
     blocks: &[(&[u8], &[usize])],
 ) -> Result<(), Fail> {
-    carry(carriers, dag, &chosen(alloc, &tx_ids(alloc)?, &[0])?)?;
+    carry(dag, carriers, &chosen(alloc, &tx_ids(alloc)?, &[0])?)?;
     for block in blocks {
         add(alloc, dag, carriers, *block)?;
     }

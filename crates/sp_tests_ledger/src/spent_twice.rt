@@ -126,13 +126,19 @@ fn comes_to(alloc: Global, engine: &mut Engine, scene: &Scene) -> Result<u16, Fa
     came
 }
 
+fn comes_anew(alloc: Global, scene: &Scene) -> Result<u16, Fail> {
+    let mut engine = engine_of_scene(alloc, scene)?;
+    let came = comes_to(alloc, &mut engine, scene);
+    drop(engine);
+    came
+}
+
 #[test]
 fn a_made_scenario(rt: HostRuntime) -> Result<(), Fail> {
     let text = make(rt.alloc(), 40, 3, 3)?;
     let scene = Scene::read(rt.alloc(), &text)?;
-    let mut engine = engine_of_scene(rt.alloc(), &scene)?;
-    let came = comes_to(rt.alloc(), &mut engine, &scene);
-    drop(engine);
+    let came = comes_anew(rt.alloc(), &scene);
+    drop(scene);
     holds(&rt, 0, came? == 40);
     Ok(())
 }

@@ -95,13 +95,19 @@ fn scene_comes(alloc: Global, engine: &mut Engine, scene: &Scene) -> Result<u16,
     Ok(came)
 }
 
+fn scene_comes_anew(alloc: Global, scene: &Scene) -> Result<u16, Fail> {
+    let mut engine = engine_of_scene(alloc, scene)?;
+    let came = scene_comes(alloc, &mut engine, scene);
+    drop(engine);
+    came
+}
+
 #[test]
 fn blocks_of_a_made_scenario(rt: HostRuntime) -> Result<(), Fail> {
     let text = make(rt.alloc(), 24, 5, 3)?;
     let scene = Scene::read(rt.alloc(), &text)?;
-    let mut engine = engine_of_scene(rt.alloc(), &scene)?;
-    let came = scene_comes(rt.alloc(), &mut engine, &scene);
-    drop(engine);
+    let came = scene_comes_anew(rt.alloc(), &scene);
+    drop(scene);
     holds(&rt, 0, came? == 24);
     Ok(())
 }
