@@ -64,12 +64,8 @@ fn come(engine: &mut Engine, blocks: &Numbered, numbers: &[usize]) -> Result<(),
     Ok(())
 }
 
-/// What is wrong with the views before and after block 3, by number; 0 where nothing is.
-fn wrong(engine: &mut Engine, blocks: &Numbered) -> Result<u8, Fail> {
-    come(engine, blocks, &[1, 2])?;
-    let Some(before) = rows_of_all(engine)? else {
-        return Ok(1);
-    };
+/// What is wrong with the views before block 3, by number; 0 where nothing is.
+fn wrong_before(engine: &Engine, before: (RowId, RowId)) -> Result<u8, Fail> {
     // Rows of their own in the view of all, and none in those of blocks 1 and 2.
     if rows(engine, before)? != (2, (true, 1), (true, 1)) || before.0 == before.1 {
         return Ok(2);
@@ -77,7 +73,11 @@ fn wrong(engine: &mut Engine, blocks: &Numbered) -> Result<u8, Fail> {
     if !(has_view(engine, 1)? && has_view(engine, 2)?) || has_view(engine, 0)? {
         return Ok(3);
     }
-    come(engine, blocks, &[3])?;
+    Ok(0)
+}
+
+/// What is wrong with them after it, where the view of all had these rows before.
+fn wrong_after(engine: &Engine, before: (RowId, RowId)) -> Result<u8, Fail> {
     if rows_of_all(engine)? != Some(before) || rows_of_tip(engine)? != Some(before) {
         return Ok(4);
     }
@@ -88,6 +88,19 @@ fn wrong(engine: &mut Engine, blocks: &Numbered) -> Result<u8, Fail> {
         return Ok(6);
     }
     Ok(0)
+}
+
+fn wrong(engine: &mut Engine, blocks: &Numbered) -> Result<u8, Fail> {
+    come(engine, blocks, &[1, 2])?;
+    let Some(before) = rows_of_all(engine)? else {
+        return Ok(1);
+    };
+    let first = wrong_before(engine, before)?;
+    if first != 0 {
+        return Ok(first);
+    }
+    come(engine, blocks, &[3])?;
+    wrong_after(engine, before)
 }
 
 #[test]
