@@ -47,6 +47,26 @@ grown_long flags m le =
     (let a : length (flags ++ replicate (m - length flags) false) ≡ length flags + length (replicate (m - length flags) false) = length-append flags (replicate (m - length flags) false) in
     let b : length (replicate (m - length flags) false) ≡ m - length flags = length-replicate (m - length flags) false in omega (arith, a, b, le))
 
+-- ---- transactions
+
+-- one none of whose carriers turned
+pub untouched : (k : Carried) (start flags : List Bool) (turned : List ℕ) (tx : ℕ) → flags ≡ all_turned start turned → list_any (λ c. eqb (row_at k.rows c).tx tx) turned ≡ false
+    → is_carried_flag k flags tx ≡ is_carried_flag k start tx
+untouched k start flags turned tx e off =
+    any_agrees (is_set flags) (is_set start) (carriers_in k.rows tx)
+    (λ c in_c. ap (λ (l : List Bool). is_set l c) e ∙ still start turned c (carrier_of k.rows tx c in_c).1 off)
+  where
+    still : (start : List Bool) (turned : List ℕ) (c : ℕ) → (row_at k.rows c).tx ≡ tx → list_any (λ c. eqb (row_at k.rows c).tx tx) turned ≡ false
+        → is_set (all_turned start turned) c ≡ is_set start c
+    still start [] c own off = refl
+    still start (d ∷ turned) c own off =
+        let p : (eqb (row_at k.rows d).tx tx ≡ false) × (list_any (λ c. eqb (row_at k.rows c).tx tx) turned ≡ false) = split (eqb (row_at k.rows d).tx tx) _ off in
+        still _ turned c own p.1 ∙ turned_other start d c (λ same. false≢true (sym p.0 ∙ eq-eqb (row_at k.rows d).tx tx (ap (λ (n : ℕ). (row_at k.rows n).tx) same ∙ own)))
+      where
+        split : (a b : Bool) → (a || b) ≡ false → (a ≡ false) × (b ≡ false)
+        split true b h = absurd (false≢true (sym h))
+        split false b h = (refl, h)
+
 -- ---- settled flags are those of the definition
 
 module _ (table : List (List ℕ)) (k : Carried) (carried : IsCarried k) (of : AreOf table k) where
@@ -61,35 +81,11 @@ module _ (table : List (List ℕ)) (k : Carried) (carried : IsCarried k) (of : A
           settled c lc refl
           ∙ decision_is table k (rows_are k carried) of.long of.order of.sound flags c (λ d less. upto n d (omega (arith, less, lt)) (omega (arith, less, lc))) lc
 
-  -- ---- transactions
-
-  -- one none of whose carriers turned
-  untouched : (start flags : List Bool) (turned : List ℕ) (tx : ℕ) → flags ≡ all_turned start turned → list_any (λ c. eqb (row_at k.rows c).tx tx) turned ≡ false
-      → is_carried_flag k flags tx ≡ is_carried_flag k start tx
-  untouched start flags turned tx e off =
-      any_agrees (is_set flags) (is_set start) (carriers_in k.rows tx)
-      (λ c in_c. ap (λ (l : List Bool). is_set l c) e ∙ still start turned c (carrier_of k.rows tx c in_c).1 off)
-    where
-      still : (start : List Bool) (turned : List ℕ) (c : ℕ) → (row_at k.rows c).tx ≡ tx → list_any (λ c. eqb (row_at k.rows c).tx tx) turned ≡ false
-          → is_set (all_turned start turned) c ≡ is_set start c
-      still start [] c own off = refl
-      still start (d ∷ turned) c own off =
-          let p : (eqb (row_at k.rows d).tx tx ≡ false) × (list_any (λ c. eqb (row_at k.rows c).tx tx) turned ≡ false) = split (eqb (row_at k.rows d).tx tx) _ off in
-          still _ turned c own p.1 ∙ turned_other start d c (λ same. false≢true (sym p.0 ∙ eq-eqb (row_at k.rows d).tx tx (ap (λ (n : ℕ). (row_at k.rows n).tx) same ∙ own)))
-        where
-          split : (a b : Bool) → (a || b) ≡ false → (a ≡ false) × (b ≡ false)
-          split true b h = absurd (false≢true (sym h))
-          split false b h = (refl, h)
-
-  -- the flag of a transaction that wasn't touched is what it was
-  pub same_flag : (a : Acceptance) → IsRight table k a → (start flags : List Bool) (turned : List ℕ) → ((c : ℕ) → is_set start c ≡ is_set a.carriers c) → flags ≡ all_turned start turned
-      → (tx : ℕ) → tx < length k.txs → list_any (λ c. eqb (row_at k.rows c).tx tx) turned ≡ false → is_set a.txs tx ≡ is_carried_flag k flags tx
-  same_flag a right start flags turned same e tx lt off =
-      right.txs tx lt
-      ∙ sym (tx_is table k (rows_are k carried) of.long of.order of.sound start a.blocks tx (λ c lc. same c ∙ right.carriers c lc) lt)
-      ∙ sym (untouched start flags turned tx e off)
-
   -- ---- flags that are right
+
+  -- the flag of a transaction is that of its carriers
+  pub right_carried : (a : Acceptance) → IsRight table k a → (tx : ℕ) → tx < length k.txs → is_set a.txs tx ≡ is_carried_flag k a.carriers tx
+  right_carried a right tx lt = right.txs tx lt ∙ sym (tx_is table k (rows_are k carried) of.long of.order of.sound a.carriers a.blocks tx right.carriers lt)
 
   pub updated : (a : Acceptance) → a.blocks ≡ k.blocks → length a.carriers ≡ length k.rows → AreSettledBut table k a.carriers (λ _. false) → length a.txs ≡ length k.txs
       → ((t : ℕ) → t < length k.txs → is_set a.txs t ≡ is_carried_flag k a.carriers t) → IsRight table k a

@@ -1,5 +1,5 @@
 -- Which carriers are to be decided on again, by number.
-use Rattle.std.specs.Prelude.{ℕ, suc, ◌≡◌, ◌<◌, ◌==◌, ◌&&◌, ◌||◌, ◌≤◌, ◌-◌, All, not, nat_le, Bool, false, List, [], ◌∷◌, length, slice_get, slice_set, Some, IsTrue}
+use Rattle.std.specs.Prelude.{ℕ, suc, ◌≡◌, ◌<◌, ◌==◌, ◌&&◌, ◌||◌, ◌≤◌, ◌-◌, ◌++◌, All, not, nat_le, Bool, false, List, [], ◌∷◌, length, replicate, slice_get, slice_set, Some, IsTrue}
 use Rattle.std.specs.List.{list_any, range_with_len}
 use Rattle.sp_ids.specs.declared.outpoint.Outpoint.{Outpoint}
 use Rattle.sp_tx.specs.Spending.{id_of}
@@ -122,6 +122,10 @@ pub record IsReached (k : Carried) (n : ℕ) (changed : List (ℕ × ℕ)) (set 
   pub noted : AreNoted k n changed (length changed) set
 
 -- ---- flags that turn
+
+-- the flags with more behind them that aren't set, up to a length
+abbrev pub grown : List Bool → ℕ → List Bool
+grown flags long = flags ++ replicate (long - length flags) false
 
 -- the flags with that of carrier c turned
 abbrev pub turned_at : List Bool → ℕ → List Bool

@@ -6,13 +6,12 @@ ghost use Rattle.sp_accept.specs.Acceptance.{is_set, IsRight};
 ghost use Rattle.sp_accept.specs.Changes.{carriers_below, TellsChanges};
 ghost use Rattle.sp_accept.specs.Flips.{flips_of};
 
-use crate::flags::{grow, is_set};
+use crate::flags::is_set;
 use crate::flips::flips_between;
 use crate::order::Order;
 use crate::pass::{carrier_flags, tx_flags};
-use crate::settle::turn_back;
 use crate::touched::set_flips;
-use crate::update::{flips_by, pending_of};
+use crate::update::decide_on_changes;
 use sp_carry::{Carriers, Flip};
 use sp_ids::Memory;
 use std::alloc::Global;
@@ -128,38 +127,19 @@ impl Accepted {
             All (λ flip. flip.tx < length carriers.now.txs) flips.items) }
         ensures err { OnErr result (self.new ≡ self.old) }
     {
-        // Tell the proof what carriers are, and how many there are of them.
-        let blocks = carriers.block_count();
-        let count = carriers.carrier_count() as usize;
-        let txs = carriers.tx_count() as usize;
-        let long = self.carriers.len();
-        let mut pending = pending_of(self.alloc, carriers, changed, self.blocks, from)?;
-        let mut turned = Vec::new(self.alloc);
-        self.carriers.reserve(count.saturating_sub(long))?;
-        self.txs.reserve(txs.saturating_sub(self.txs.len()))?;
-        grow(&mut self.carriers, count);
-        let found = flips_by(
+        let flips = decide_on_changes(
             self.alloc,
             order,
             carriers,
-            &mut pending,
+            changed,
+            self.blocks,
+            from,
             &mut self.carriers,
-            &mut turned,
-            &self.txs,
-        );
-        match found {
-            Ok(flips) => {
-                grow(&mut self.txs, txs);
-                set_flips(&mut self.txs, &flips);
-                self.blocks = blocks;
-                Ok(flips)
-            }
-            Err(Memory) => {
-                turn_back(&mut self.carriers, &mut turned);
-                self.carriers.truncate(long);
-                Err(Memory)
-            }
-        }
+            &mut self.txs,
+        )?;
+        set_flips(&mut self.txs, carriers.tx_count() as usize, &flips);
+        self.blocks = carriers.block_count();
+        Ok(flips)
     }
 
     /// Whether the transaction is accepted, at once. One that isn't known is not.

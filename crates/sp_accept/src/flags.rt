@@ -1,8 +1,9 @@
 //! A flag for each number.
 
-ghost use Rattle.std.specs.Prelude.{◌≡◌, ◌≤◌, ◌-◌, ◌++◌, false, length, replicate, vec_capacity};
+ghost use Rattle.std.specs.Prelude.{◌≡◌, ◌≤◌, length, vec_capacity};
 ghost use Rattle.sp_accept.specs.Acceptance.{is_set};
 ghost use Rattle.sp_accept.specs.Flips.{differ};
+ghost use Rattle.sp_accept.specs.Pending.{grown};
 
 /// Whether the flag of a number is set. One that isn't there is not.
 pub(crate) fn is_set(flags: &[bool], number: u32) -> bool
@@ -23,7 +24,7 @@ pub(crate) fn differ(was: bool, now: bool) -> bool
 pub(crate) fn grow(flags: &mut Vec<bool>, long: usize)
     requires short { length flags.old.items ≤ long }
     requires room { long ≤ vec_capacity flags.old }
-    ensures { flags.new.items ≡ flags.old.items ++ replicate (long - length flags.old.items) false }
+    ensures { flags.new.items ≡ grown flags.old.items long }
 {
     'flags: for _ in flags.len()..long {
         flags.push_reserved(false);

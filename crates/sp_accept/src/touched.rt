@@ -1,6 +1,6 @@
 //! Which transactions turn where some carriers did, and their new flags.
 
-ghost use Rattle.std.specs.Prelude.{◌≡◌, ◌<◌, ◌==◌, ℕ, All, length, IfOk, OnOk, filter};
+ghost use Rattle.std.specs.Prelude.{◌≡◌, ◌<◌, ◌≤◌, ◌==◌, ℕ, All, length, vec_capacity, IfOk, OnOk, filter};
 ghost use Rattle.std.specs.List.{list_any, range_with_len};
 ghost use Rattle.std.specs.BTreeSet.{keys, IsOrdered};
 ghost use Rattle.std.specs.Ordering.{nat_cmp};
@@ -8,9 +8,10 @@ ghost use Rattle.sp_carry.specs.Rivals.{has_number};
 ghost use Rattle.sp_carry.specs.declared.carrier.Flip.{Flip};
 ghost use Rattle.sp_accept.specs.Flips.{flips_among, with_flips};
 ghost use Rattle.sp_accept.specs.Pass.{is_carried_flag};
+ghost use Rattle.sp_accept.specs.Pending.{grown};
 ghost use Rattle.sp_accept.specs.Rows.{row_at};
 
-use crate::flags::is_set;
+use crate::flags::{grow, is_set};
 use crate::flips::note;
 use crate::lookups::carrier_at;
 use crate::pass::is_any_accepted;
@@ -86,11 +87,14 @@ pub(crate) fn turned_txs(
     Ok(flips)
 }
 
-/// Sets the new flags.
-pub(crate) fn set_flips(txs: &mut Vec<bool>, flips: &[Flip])
-    requires { All (λ (flip : Flip). flip.tx < length txs.old.items) flips.now }
-    ensures { txs.new.items ≡ with_flips txs.old.items flips.now }
+/// Adds flags up to a length, for which there is room, and sets the new ones.
+pub(crate) fn set_flips(txs: &mut Vec<bool>, long: usize, flips: &[Flip])
+    requires short { length txs.old.items ≤ long }
+    requires room { long ≤ vec_capacity txs.old }
+    requires known { All (λ (flip : Flip). flip.tx < long) flips.now }
+    ensures { txs.new.items ≡ with_flips (grown txs.old.items long) flips.now }
 {
+    grow(txs, long);
     'flips: for flip in flips {
         txs[flip.tx as usize] = flip.now;
     }
