@@ -11,3 +11,4 @@ pub mod Opening
 pub mod Prefixes
 pub mod Laws
 pub mod Examples
+pub mod Stepping

@@ -20,6 +20,7 @@ mod reading;
 mod record;
 mod recovery;
 mod row;
+mod step;
 
 pub use fault::{AppendFault, CreateFault, JournalFault};
 pub use gate_kind::Gate;

@@ -1,19 +1,19 @@
 //! Recovery: what a disk holds as a journal, read head by record.
 
-ghost use Rattle.std.specs.Prelude.{◌≡◌, ◌+◌, ◌≤◌, ◌∷◌, ◌++◌, Ok, OnOk, [], ℕ, List, drop, length, map, IfErr, IfOk, IfSome, IsErrOf};
+ghost use Rattle.std.specs.Prelude.{◌≡◌, ◌+◌, ◌≤◌, ◌∷◌, Ok, [], ℕ, List, drop, length, map, IfErr, IfOk, IfSome, IsErrOf};
 ghost use Rattle.sp_io.specs.Causes.{Rose};
 ghost use Rattle.sp_disk.specs.Moments.{Looks};
 ghost use Rattle.sp_block.specs.Block.{IsGenesis};
 ghost use Rattle.sp_journal.specs.Opening.{IsPlain, Judges};
 ghost use Rattle.sp_journal.specs.Records.{rows};
 ghost use Rattle.sp_journal.specs.declared.fault.JournalFault.TheVariants.{DiskFault};
-ghost use Rattle.sp_journal.specs.Recovery.{bytes_in, EndsAt, IsHeadOf, AreGood, IsGoodRow, IsRowOf, SaysRows};
+ghost use Rattle.sp_journal.specs.Recovery.{bytes_in, EndsAt, IsHeadOf, AreGood, SaysRows};
 
 use crate::fault::JournalFault;
 use crate::gate_kind::Gate;
 use crate::journal::{Journal, Opened};
-use crate::reading::{head_in, row_in};
-use crate::row::Row;
+use crate::reading::head_in;
+use crate::step::read_all;
 use sp_block::{Block, Blocks};
 use sp_disk::Disk;
 use sp_ids::{BlockId, Memory};
@@ -40,31 +40,6 @@ fn head_on<D: Disk>(
     head_in(alloc, &buffer[..count])
 }
 
-/// What stands behind a place of a disk.
-fn row_on<D: Disk>(
-    alloc: Global,
-    disk: &mut D,
-    at: u64,
-    buffer: &mut [u8],
-    bits: u8,
-    ids: &[BlockId],
-) -> Result<Row, JournalFault>
-    requires room { length buffer.old ≡ 65550 }
-    requires bits { bits ≤ 64 }
-    ensures room { length buffer.new ≡ 65550 }
-    ensures row { IfOk result (λ row. IfSome (D.now disk.old).reads (λ bytes.
-        IsRowOf bits ids.now (drop at bytes) row)) }
-    ensures good { IfOk result (λ row. IsGoodRow bits ids.now row) }
-    ensures plain { IfErr result IsPlain }
-    ensures looks { Looks (D.now disk.old) (D.now disk.new) }
-    ensures fault { IsErrOf result DiskFault → Rose (D.now disk.old).faults (D.now disk.new).faults }
-    ensures later { (D.now disk.old).faults ≤ (D.now disk.new).faults }
-    ensures quiet { (IsErrOf result DiskFault → ⊥) → (D.now disk.new).faults ≡ (D.now disk.old).faults }
-{
-    let count = disk.read_at(at, buffer)?;
-    row_in(alloc, &buffer[..count], bits, ids)
-}
-
 /// A list of one id.
 fn one_id(alloc: Global, id: BlockId) -> Result<Vec<BlockId>, Memory>
     ensures { IfOk result (λ ids. ids.items ≡ id ∷ []) }
@@ -72,16 +47,6 @@ fn one_id(alloc: Global, id: BlockId) -> Result<Vec<BlockId>, Memory>
     let mut ids = Vec::new(alloc);
     ids.push(id)?;
     Ok(ids)
-}
-
-/// Notes a block and its id.
-fn note(blocks: &mut Vec<Block>, ids: &mut Vec<BlockId>, block: Block) -> Result<(), Memory>
-    ensures blocks { OnOk result (blocks.new.items ≡ blocks.old.items ++ block ∷ []) }
-    ensures ids { OnOk result (ids.new.items ≡ ids.old.items ++ block.id ∷ []) }
-{
-    ids.push(block.id)?;
-    blocks.push(block)?;
-    Ok(())
 }
 
 /// The records up to the first closed gate, or the place of the gate where they are damaged. Nothing
@@ -109,19 +74,9 @@ fn records<D: Disk>(
 {
     let mut blocks = Vec::new(alloc);
     let mut ids = one_id(alloc, genesis)?;
-    let mut place = start;
-    'each: loop {
-        let row = row_on(alloc, disk, place, buffer, bits, &ids)?;
-        let block = match row {
-            Row::End => return Ok(Ok((blocks, place))),
-            Row::Faulty => return Ok(Err(place)),
-            Row::Next(block) => block,
-        };
-        if blocks.len() == 511 {
-            return Ok(Err(place));
-        }
-        place += 5 + block.bytes.as_slice().len() as u64;
-        note(&mut blocks, &mut ids, block)?;
+    match read_all(alloc, disk, buffer, bits, start, &mut blocks, &mut ids)? {
+        Ok(place) => Ok(Ok((blocks, place))),
+        Err(place) => Ok(Err(place)),
     }
 }
 
@@ -158,6 +113,53 @@ fn opened_by(
     }
 }
 
+/// The journal of a head, and of what stands behind it on a disk.
+fn behind<D: Disk>(
+    alloc: Global,
+    disk: &mut D,
+    buffer: &mut [u8],
+    bits: u8,
+    genesis: Block,
+) -> Result<Opened, JournalFault>
+    requires room { length buffer.old ≡ 65550 }
+    requires bits { bits ≤ 64 }
+    requires genesis { IsGenesis genesis }
+    ensures judged { IfSome (D.now disk.old).reads (λ bytes. IsHeadOf bytes (Ok (bits, genesis)) → Judges bytes result) }
+    ensures looks { Looks (D.now disk.old) (D.now disk.new) }
+    ensures fault { IsErrOf result DiskFault → Rose (D.now disk.old).faults (D.now disk.new).faults }
+    ensures later { (D.now disk.old).faults ≤ (D.now disk.new).faults }
+    ensures quiet { (IsErrOf result DiskFault → ⊥) → (D.now disk.new).faults ≡ (D.now disk.old).faults }
+{
+    let start = 14 + genesis.bytes.as_slice().len() as u64;
+    match records(alloc, disk, buffer, bits, genesis.id, start) {
+        Ok(found) => opened_by(alloc, bits, genesis, found),
+        Err(fault) => Err(fault),
+    }
+}
+
+/// The journal that a disk holds, each part of it read into the same room.
+fn read_into<D: Disk>(
+    alloc: Global,
+    disk: &mut D,
+    buffer: &mut [u8],
+) -> Result<Opened, JournalFault>
+    requires room { length buffer.old ≡ 65550 }
+    ensures judged { IfSome (D.now disk.old).reads (λ bytes. Judges bytes result) }
+    ensures looks { Looks (D.now disk.old) (D.now disk.new) }
+    ensures fault { IsErrOf result DiskFault → Rose (D.now disk.old).faults (D.now disk.new).faults }
+    ensures later { (D.now disk.old).faults ≤ (D.now disk.new).faults }
+    ensures quiet { (IsErrOf result DiskFault → ⊥) → (D.now disk.new).faults ≡ (D.now disk.old).faults }
+{
+    let head = match head_on(alloc, disk, buffer) {
+        Ok(head) => head,
+        Err(fault) => return Err(fault),
+    };
+    match head {
+        Ok((bits, genesis)) => behind(alloc, disk, buffer, bits, genesis),
+        Err(gate) => Err(JournalFault::NotJournal { gate }),
+    }
+}
+
 /// What a disk holds as a journal. It is read head by record, each into the same room.
 pub(crate) fn recover<D: Disk>(alloc: Global, disk: &mut D) -> Result<Opened, JournalFault>
     ensures judged { IfSome (D.now disk.old).reads (λ bytes. Judges bytes result) }
@@ -169,17 +171,5 @@ pub(crate) fn recover<D: Disk>(alloc: Global, disk: &mut D) -> Result<Opened, Jo
     let Ok(mut buffer) = vec![in alloc; 0u8; 65_550] else {
         return Err(JournalFault::Memory);
     };
-    let head = match head_on(alloc, disk, &mut buffer) {
-        Ok(head) => head,
-        Err(fault) => return Err(fault),
-    };
-    let (bits, genesis) = match head {
-        Ok(head) => head,
-        Err(gate) => return Err(JournalFault::NotJournal { gate }),
-    };
-    let start = 14 + genesis.bytes.as_slice().len() as u64;
-    match records(alloc, disk, &mut buffer, bits, genesis.id, start) {
-        Ok(found) => opened_by(alloc, bits, genesis, found),
-        Err(fault) => Err(fault),
-    }
+    read_into(alloc, disk, &mut buffer)
 }

@@ -1,7 +1,7 @@
 use Rattle.std.proofs.Common.{refl}
 use Rattle.sp_journal.specs.Recovery.{IsRowOf}
 use Rattle.sp_journal.proofs.Looking.{on_disk, told_bytes}
-use Rattle.sp_journal.proofs.recovery.row_on.Goals as goal
+use Rattle.sp_journal.proofs.step.row_on.Goals as goal
 
 pub returns-clause-row : goal.returns-clause-row
 returns-clause-row g c =
