@@ -1,5 +1,5 @@
 -- A valid block of a new id is kept: the engine stands for the longer list, and the answer is the one that is defined.
-use Rattle.std.proofs.Common.{◌≡◌, ℕ, ◌-◌, ◌≤◌, Bool, false, List, [], ◌∷◌, ◌++◌, length, refl, sym, ap, subst, ◌∙◌, Some, arith, length-append}
+use Rattle.std.proofs.Common.{◌≡◌, ℕ, ◌-◌, ◌≤◌, Bool, false, Fits, w16, List, [], ◌∷◌, ◌++◌, length, refl, sym, ap, subst, ◌∙◌, Some, arith, length-append}
 use Rattle.std.specs.Prelude.{slice_get}
 use Rattle.std.specs.Option.{option_map}
 use Rattle.std.proofs.Math.ListN.{length-map}
@@ -59,9 +59,13 @@ module _ {bits genesis : ℕ} {kept : List ReadBlock} {blocks : Numbered} {votes
   pub comes_numbered : (new : List ReadBlock) → new ≡ keep kept b → Comes bits genesis kept blocks votes b → AreNumbered new blocks
   comes_numbered new e h = subst (λ (k : List ReadBlock). AreNumbered k blocks) (sym (kept_is new e h)) (numbered_more h)
 
-  pub comes_carried : {k : Carried} → (new : List ReadBlock) → new ≡ keep kept b → Comes bits genesis kept blocks votes b → AreCarried kept blocks k → AreCarried new blocks k
+  comes_carried : {k : Carried} → (new : List ReadBlock) → new ≡ keep kept b → Comes bits genesis kept blocks votes b → AreCarried kept blocks k → AreCarried new blocks k
   comes_carried {k} new e h c =
       subst (λ (l : List ReadBlock). AreCarried l blocks k) (sym (kept_is new e h)) (AreCarried-kept kept b blocks k h.engine.numbered c)
+
+  pub comes_accepting : {k : Carried} {a : Acceptance} → (new : List ReadBlock) → new ≡ keep kept b → Comes bits genesis kept blocks votes b → IsAccepting kept blocks k a
+      → IsAccepting new blocks k a
+  comes_accepting new e h i = record { carriers = comes_carried new e h i.carriers; right = i.right; all = i.all }
 
   releases : (ids : List ℕ) → Comes bits genesis kept blocks votes b → Joins kept b ids → Releases (kept ++ b ∷ []) blocks.ids ids
   releases ids h j = Releases-same (kept ++ b ∷ []) (present kept) blocks.ids ids (λ z. sym (h.engine.same z)) j.order
@@ -82,8 +86,11 @@ module _ {bits genesis : ℕ} {kept : List ReadBlock} {blocks : Numbered} {votes
       let same : length (ids_of (kept ++ b ∷ [])) ≡ length (kept ++ b ∷ []) = length-map (kept ++ b ∷ []) (λ (x : ReadBlock). x.id) in
       omega (arith, below, same)
 
-  pub comes_few : (ids : List ℕ) → Comes bits genesis kept blocks votes b → Joins kept b ids → length ids ≤ 512
+  comes_few : (ids : List ℕ) → Comes bits genesis kept blocks votes b → Joins kept b ids → length ids ≤ 512
   comes_few ids h j = omega (arith, few ids h j, (kept_more h).few, length-append blocks.ids ids)
+
+  pub comes_fitting : (ids lent : List ℕ) → lent ≡ ids → Comes bits genesis kept blocks votes b → Joins kept b ids → Fits w16 (length lent)
+  comes_fitting ids lent is h j = omega (arith, comes_few ids h j, ap length is)
 
   pub comes_engine : (new : List ReadBlock) (ids : List ℕ) (after : Numbered) (tallied : Tallied) → new ≡ keep kept b → Comes bits genesis kept blocks votes b → Joins kept b ids
       → IsNumbered after → AreNumbered new after → after.ids ≡ blocks.ids ++ ids → AreVoted after.parents tallied
@@ -126,10 +133,6 @@ module _ {bits genesis : ℕ} {kept : List ReadBlock} {blocks : Numbered} {votes
         voted = h.engine.voted;
       })
 
-  pub waits_accepting : {k : Carried} {a : Acceptance} → (new : List ReadBlock) → new ≡ keep kept b → Comes bits genesis kept blocks votes b → IsAccepting kept blocks k a
-      → IsAccepting new blocks k a
-  waits_accepting new e h i = record { carriers = comes_carried new e h i.carriers; right = i.right; all = i.all }
-
   pub waits_answer : Comes bits genesis kept blocks votes b → Waits kept b → Held b.id ≡ joined kept b
   unfolding joined
   waits_answer h w = sym (rw w.absent refl)
@@ -152,3 +155,11 @@ comes_of {b = b} view inv whole is block other fresh = record {
   other = other;
   fresh = ap (λ (l : Ledger). standing_of l.kept b.id) view ∙ fresh;
 }
+
+-- ---- what an answer says by its kind
+
+pub count_one : (id other n : ℕ) → Kept id n ≡ Kept other 1 → n ≡ 1
+count_one id other n e = cc
+
+pub held_is_no_growth : {P : Type 0} (id other : ℕ) → Held id ≡ Kept other 1 → P
+held_is_no_growth id other e = cc

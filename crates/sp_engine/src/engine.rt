@@ -1,30 +1,27 @@
 //! The engine: the kept blocks, the graph of the present ones, the votes of all of them, which of
-//! their transactions are accepted, and what these leave under each lock. The calls on transactions
-//! and on what they leave stand apart, in `money`.
+//! their transactions are accepted, and what these leave under each lock. The calls on valid blocks
+//! that arrive stand apart, in `arrivals`, and those on transactions and on what they leave in `money`.
 
-ghost use Rattle.std.specs.Prelude.{◌≡◌, ◌≤◌, ◌<◌, ◌+◌, ◌++◌, ◌∷◌, [], ◌==◌, ℕ, false, find, length, slice_get, Some, IfNone, IfOk, IfSome, OnOk, is_err, IsFalse, IsTrue};
+ghost use Rattle.std.specs.Prelude.{◌≡◌, ◌≤◌, ◌<◌, ◌+◌, ◌∷◌, [], ◌==◌, ℕ, false, find, length, slice_get, Some, IfNone, IfOk, IfSome, OnOk, is_err, IsFalse, IsTrue};
 ghost use Rattle.std.specs.List.{range_with_len};
 ghost use Rattle.std.specs.Option.{option_copied};
-ghost use Rattle.sp_ids.specs.Bits.{BeginsWithZeros};
-ghost use Rattle.sp_block.specs.Block.{IsGenesis, IsOther};
+ghost use Rattle.sp_block.specs.Block.{IsGenesis};
 ghost use Rattle.sp_model.specs.Graph.{has};
 ghost use Rattle.sp_model.specs.Votes.{word};
-ghost use Rattle.sp_pool.specs.Kept.{AreKept, graph_of, present, standing_of};
-ghost use Rattle.sp_pool.specs.declared.answers.Standing.{Standing};
+ghost use Rattle.sp_pool.specs.Kept.{AreKept, graph_of, present};
 ghost use Rattle.sp_dag.specs.Numbered.{IsNumbered};
 ghost use Rattle.sp_frozen.specs.Voters.{HoldsFrozen};
 ghost use Rattle.sp_view.specs.Stored.{count_of};
 ghost use Rattle.sp_view.specs.Views.{IsView};
-ghost use Rattle.sp_engine.specs.Arrivals.{answer_of, joined, kept_after};
+ghost use Rattle.sp_engine.specs.Arrivals.{answer_of, kept_after};
 ghost use Rattle.sp_engine.specs.Presence.{order_of};
 ghost use Rattle.sp_engine.specs.declared.answer.Answer.TheVariants.{Kept};
 
+mod arrivals;
 mod money;
 
-use crate::acceptance::accept_all;
 use crate::answer::{Answer, Refusal};
-use crate::first::first_of;
-use crate::numbering::join_all;
+use crate::first::{Decided, First, first_of};
 use crate::valid::valid_block;
 use crate::votes::Votes;
 use sp_accept::Accepted;
@@ -35,7 +32,7 @@ use sp_frozen::Frozen;
 use sp_ids::{BlockId, Memory};
 use sp_model::Word;
 use sp_money::Purse;
-use sp_pool::{Offer, Pool, Standing};
+use sp_pool::Pool;
 use sp_rows::RowPool;
 use sp_view::View;
 use std::alloc::Global;
@@ -102,7 +99,7 @@ impl Drop for Engine {
 }
 
 impl Engine {
-    ghost use Rattle.sp_engine.specs.Engine.{AreNumbered, GrewByOne, is_growth, IsLedger, Stays};
+    ghost use Rattle.sp_engine.specs.Engine.{AreNumbered, GrewByOne, IsAccepting, IsEngine, is_growth, IsLedger, IsPaying, Stays};
     ghost use Rattle.sp_engine.specs.Votes.{AreOfTips, held_by, is_tip, IsOfAll, IsOfTip};
 
     /// An engine of genesis alone, which is present.
@@ -120,18 +117,33 @@ impl Engine {
         let pool = Pool::new(alloc, genesis)?;
         // Tells the proof what kept blocks are.
         let _kept = pool.kept();
-        Ok(Engine {
+        Ok(Engine::of(alloc, bits, id, pool, first))
+    }
+
+    // The engine of a pool of genesis, and of what genesis says.
+    fn of(alloc: Global, bits: u8, genesis: BlockId, pool: Pool, first: First) -> Engine
+        requires engine { IsEngine bits pool genesis first.dag first.decided.votes }
+        requires accepting { IsAccepting pool first.dag first.decided.money.carriers
+            first.decided.money.accepted }
+        requires paying { IsPaying first.decided.money.carriers first.decided.money.accepted
+            first.decided.money.purse }
+        ensures { IsLedger bits pool result }
+    {
+        let First { dag, decided } = first;
+        let Decided { votes, money } = decided;
+        let (carriers, accepted, purse) = money.parts();
+        Engine {
             alloc,
             bits,
-            genesis: id,
+            genesis,
             pool,
-            dag: first.dag,
-            votes: first.decided.votes,
-            carriers: first.decided.carriers,
-            accepted: first.decided.accepted,
-            purse: first.decided.purse,
+            dag,
+            votes,
+            carriers,
+            accepted,
+            purse,
             broken: false,
-        })
+        }
     }
 
     /// Judges bytes that arrive, and keeps the block that they spell where it is valid, new, and
@@ -163,71 +175,9 @@ impl Engine {
             self.broken = true;
             return Err(Memory);
         };
-        let block = match found {
-            Ok(block) => block,
-            Err(refusal) => return Ok(Answer::Refused(refusal)),
-        };
-        let id = block.id;
-        match self.pool.standing(&id) {
-            Standing::Known => Ok(Answer::Known { id }),
-            Standing::Full => Ok(Answer::Full),
-            Standing::Fresh => self.take(block),
-        }
-    }
-
-    /// Keeps a valid block of a new id, for which there is room.
-    ///
-    /// # Errors
-    ///
-    /// `Memory` where there was none. The engine is broken from then on.
-    pub fn take(&mut self, block: Block) -> Result<Answer, Memory>
-        requires whole { self.old.broken ≡ false }
-        requires other { IsOther block }
-        requires work { BeginsWithZeros block.id self.old.bits }
-        requires fresh { standing_of self.old.kept block.id ≡ Standing.Fresh }
-        ensures answer { IfOk result (λ answer. answer ≡ joined self.old.kept block) }
-        ensures kept { OnOk result (self.new.kept ≡ self.old.kept ++ block ∷ []) }
-        ensures bits { self.new.bits ≡ self.old.bits }
-        ensures broken { self.new.broken ≡ is_err result }
-        ensures idle { IfOk result (λ answer. IsFalse (is_growth answer) →
-            Stays self.old self.new) }
-        ensures one { IfOk result (λ answer. (id : ℕ) → answer ≡ Kept id 1 →
-            GrewByOne self.old self.new) }
-    {
-        let id = block.id;
-        self.broken = true;
-        match self.pool.offer(block)? {
-            Offer::Present(ids) => {
-                let ids = ids.as_slice();
-                let from = self.carriers.carrier_count();
-                let changed = join_all(
-                    &self.pool,
-                    &mut self.dag,
-                    &mut self.votes,
-                    &mut self.carriers,
-                    ids,
-                )?;
-                // Tells the proof what numbered blocks are.
-                let _blocks = self.dag.len();
-                accept_all(
-                    &self.dag,
-                    &self.votes,
-                    &self.carriers,
-                    changed.as_slice(),
-                    from,
-                    &mut self.accepted,
-                    &mut self.purse,
-                )?;
-                self.broken = false;
-                let present = ids.len() as u16;
-                Ok(Answer::Kept { id, present })
-            }
-            Offer::Waiting => {
-                self.broken = false;
-                Ok(Answer::Held { id })
-            }
-            // Its id is fresh.
-            Offer::Known | Offer::Full => unreachable!(),
+        match found {
+            Ok(block) => self.keep(block),
+            Err(refusal) => Ok(Answer::Refused(refusal)),
         }
     }
 

@@ -28,13 +28,43 @@ pub(crate) struct First {
     pub(crate) decided: Decided,
 }
 
-/// The votes of genesis, its carriers, which of these are accepted, and what they leave.
+/// The votes of genesis, and what stands of its transactions.
 #[derive(Drop)]
 pub(crate) struct Decided {
     pub(crate) votes: Votes,
+    pub(crate) money: Money,
+}
+
+/// The carriers of genesis, which of these are accepted, and what they leave.
+pub(crate) struct Money {
     pub(crate) carriers: Carriers,
     pub(crate) accepted: Accepted,
     pub(crate) purse: Purse,
+}
+
+// Written out, so that where it is let go there is one call.
+impl Drop for Money {
+    fn drop(self) {
+        let Money {
+            carriers: _,
+            accepted: _,
+            purse: _,
+        } = self;
+    }
+}
+
+impl Money {
+    /// Its three parts.
+    pub(crate) fn parts(self) -> (Carriers, Accepted, Purse)
+        ensures { result ≡ (self.carriers, self.accepted, self.purse) }
+    {
+        let Money {
+            carriers,
+            accepted,
+            purse,
+        } = self;
+        (carriers, accepted, purse)
+    }
 }
 
 /// What genesis alone says, which has this id and these transactions.
@@ -48,15 +78,15 @@ pub(crate) fn first_of(alloc: Global, id: BlockId, txs: &Txs) -> Result<First, M
         first.dag ≡ record { ids = id ∷ []; parents = [] ∷ [] }) }
     ensures numbered { IfOk result (λ first. IsNumbered first.dag) }
     ensures voted { IfOk result (λ first. AreVoted first.dag.parents first.decided.votes) }
-    ensures carriers { IfOk result (λ first. first.decided.carriers
+    ensures carriers { IfOk result (λ first. first.decided.money.carriers
         ≡ with_block first.dag.parents nothing txs.now) }
-    ensures carried { IfOk result (λ first. IsCarried first.decided.carriers) }
+    ensures carried { IfOk result (λ first. IsCarried first.decided.money.carriers) }
     ensures right { IfOk result (λ first. IsRight first.dag.parents
-        first.decided.carriers first.decided.accepted) }
+        first.decided.money.carriers first.decided.money.accepted) }
     ensures all { IfOk result (λ first.
-        first.decided.accepted.blocks ≡ first.decided.carriers.blocks) }
+        first.decided.money.accepted.blocks ≡ first.decided.money.carriers.blocks) }
     ensures paying { IfOk result (λ first.
-        IsPaying first.decided.carriers first.decided.accepted first.decided.purse) }
+        IsPaying first.decided.money.carriers first.decided.money.accepted first.decided.money.purse) }
 {
     let dag = Dag::new(alloc, id)?;
     // Tells the proof what numbered blocks are.
@@ -71,22 +101,39 @@ fn first_decided(alloc: Global, dag: &Dag, txs: &Txs) -> Result<Decided, Memory>
     requires few { length txs.now ≤ 256 }
     ensures voted { IfOk result (λ decided. AreVoted dag.now.parents decided.votes) }
     ensures carriers { IfOk result (λ decided.
-        decided.carriers ≡ with_block dag.now.parents nothing txs.now) }
-    ensures carried { IfOk result (λ decided. IsCarried decided.carriers) }
+        decided.money.carriers ≡ with_block dag.now.parents nothing txs.now) }
+    ensures carried { IfOk result (λ decided. IsCarried decided.money.carriers) }
     ensures right { IfOk result (λ decided.
-        IsRight dag.now.parents decided.carriers decided.accepted) }
+        IsRight dag.now.parents decided.money.carriers decided.money.accepted) }
     ensures all { IfOk result (λ decided.
-        decided.accepted.blocks ≡ decided.carriers.blocks) }
-    ensures paying { IfOk result (λ decided.
-        IsPaying decided.carriers decided.accepted decided.purse) }
+        decided.money.accepted.blocks ≡ decided.money.carriers.blocks) }
+    ensures paying { IfOk result (λ decided. IsPaying decided.money.carriers
+        decided.money.accepted decided.money.purse) }
+{
+    let votes = first_votes(alloc, dag)?;
+    let money = first_money(alloc, dag, &votes, txs)?;
+    Ok(Decided { votes, money })
+}
+
+// What stands of the transactions of genesis, which is the only numbered block.
+fn first_money(alloc: Global, dag: &Dag, votes: &Votes, txs: &Txs) -> Result<Money, Memory>
+    requires alone { dag.now.parents ≡ [] ∷ [] }
+    requires few { length txs.now ≤ 256 }
+    requires voted { AreVoted dag.now.parents votes.now }
+    ensures carriers { IfOk result (λ money.
+        money.carriers ≡ with_block dag.now.parents nothing txs.now) }
+    ensures carried { IfOk result (λ money. IsCarried money.carriers) }
+    ensures right { IfOk result (λ money.
+        IsRight dag.now.parents money.carriers money.accepted) }
+    ensures all { IfOk result (λ money. money.accepted.blocks ≡ money.carriers.blocks) }
+    ensures paying { IfOk result (λ money.
+        IsPaying money.carriers money.accepted money.purse) }
 {
     // Tells the proof what numbered blocks are.
     let _blocks = dag.len();
-    let votes = first_votes(alloc, dag)?;
     let carriers = first_carriers(alloc, dag, txs)?;
-    let (accepted, purse) = first_accepted(alloc, dag, &votes, &carriers)?;
-    Ok(Decided {
-        votes,
+    let (accepted, purse) = first_accepted(alloc, dag, votes, &carriers)?;
+    Ok(Money {
         carriers,
         accepted,
         purse,

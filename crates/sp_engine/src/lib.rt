@@ -13,6 +13,7 @@ mod answer;
 mod changes;
 mod engine;
 mod first;
+mod growth;
 mod joining;
 pub mod laws;
 mod numbering;

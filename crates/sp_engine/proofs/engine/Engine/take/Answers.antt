@@ -1,53 +1,31 @@
-use Rattle.std.proofs.Common.{◌∙◌, ◌++◌, ap, sym, subst, length}
+use Rattle.std.proofs.Common.{◌≡◌, ◌∙◌, ◌+◌, ◌++◌, ◌∷◌, [], ap, sym, subst, length}
 use Rattle.sp_block.specs.Block.{ReadBlock}
 use Rattle.sp_pool.specs.Kept.{Releases}
 use Rattle.sp_engine.specs.Arrivals.{joined}
 use Rattle.sp_engine.specs.Engine.{Ledger}
+use Rattle.sp_engine.specs.Votes.{Grew}
 use Rattle.sp_engine.specs.declared.answer.Answer.TheVariants.{Kept, Held}
-use Rattle.sp_engine.proofs.CarriedBlocks.{are_of, carried_count}
-use Rattle.sp_engine.proofs.Decided.{first_new, told_of}
-use Rattle.sp_engine.proofs.Arriving.{comes_answer, comes_carried, comes_engine, comes_numbered, comes_order, comes_of, joins_of, waits_accepting, waits_answer, waits_engine, waits_of}
-use Rattle.sp_engine.proofs.Paying.{was_paying}
+use Rattle.sp_engine.proofs.Arriving.{comes_accepting, comes_answer, comes_engine, comes_fitting, comes_numbered, comes_order, comes_of, count_one, held_is_no_growth, joins_of, kept_is, waits_answer, waits_engine, waits_of}
 use Rattle.sp_engine.proofs.engine.Engine.take.Goals as goal
 
-pub join_all-requires-clause-numbered : goal.join_all-requires-clause-numbered
-join_all-requires-clause-numbered c =
+pub grow-requires-clause-numbered : goal.grow-requires-clause-numbered
+grow-requires-clause-numbered c =
     let came = comes_of c.self.view_is c.self.invariant c.requires.whole c.block.view_is c.block.invariant c.requires.other c.requires.fresh in
     comes_numbered c.offer.new.self c.in_ok-ids.ensures.kept came
 
-pub join_all-requires-clause-carried : goal.join_all-requires-clause-carried
-join_all-requires-clause-carried c =
+pub grow-requires-clause-voted : goal.grow-requires-clause-voted
+grow-requires-clause-voted c = (c.self.invariant (ap (λ (l : Ledger). l.broken) c.self.view_is ∙ c.requires.whole)).0.voted
+
+pub grow-requires-clause-accepting : goal.grow-requires-clause-accepting
+grow-requires-clause-accepting c =
     let came = comes_of c.self.view_is c.self.invariant c.requires.whole c.block.view_is c.block.invariant c.requires.other c.requires.fresh in
-    let accepting = (c.self.invariant (ap (λ (l : Ledger). l.broken) c.self.view_is ∙ c.requires.whole)).1 in
-    comes_carried c.offer.new.self c.in_ok-ids.ensures.kept came accepting.carriers
+    comes_accepting c.offer.new.self c.in_ok-ids.ensures.kept came (c.self.invariant (ap (λ (l : Ledger). l.broken) c.self.view_is ∙ c.requires.whole)).1
 
-pub accept_all-requires-clause-of : goal.accept_all-requires-clause-of
-accept_all-requires-clause-of c =
-    are_of c.offer.new.self c.join_all.new.dag c.join_all.new.carriers c.len-blocks.ensures.numbered c.in_ok-changed-in-Present.ensures.carried
+pub grow-requires-clause-paying : goal.grow-requires-clause-paying
+grow-requires-clause-paying c = (c.self.invariant (ap (λ (l : Ledger). l.broken) c.self.view_is ∙ c.requires.whole)).2
 
-pub accept_all-requires-clause-right : goal.accept_all-requires-clause-right
-accept_all-requires-clause-right c =
-    let held = c.self.invariant (ap (λ (l : Ledger). l.broken) c.self.view_is ∙ c.requires.whole) in
-    c.in_ok-changed-in-Present.ensures.right c.self.inside.accepted held.1.right
-
-pub accept_all-requires-clause-first : goal.accept_all-requires-clause-first
-accept_all-requires-clause-first c =
-    let held = c.self.invariant (ap (λ (l : Ledger). l.broken) c.self.view_is ∙ c.requires.whole) in
-    first_new c.self.inside.carriers c.join_all.new.carriers c.carrier_count-from.result c.self.inside.accepted.blocks c.carrier_count-from.ensures.value held.1.all held.1.carriers.carried c.in_ok-changed-in-Present.ensures.below
-
-pub accept_all-requires-clause-told : goal.accept_all-requires-clause-told
-accept_all-requires-clause-told c =
-    let held = c.self.invariant (ap (λ (l : Ledger). l.broken) c.self.view_is ∙ c.requires.whole) in
-    told_of c.join_all.new.dag.parents c.in_ok-changed-in-Present.changed.items c.as_slice.result.now (length c.self.inside.dag.parents) c.self.inside.accepted.blocks c.as_slice.ensures.value
-    (held.1.all ∙ carried_count c.self.inside.pool c.self.inside.dag c.self.inside.carriers held.0.in_order held.1.carriers) c.in_ok-changed-in-Present.ensures.told
-
-pub accept_all-requires-clause-paying : goal.accept_all-requires-clause-paying
-accept_all-requires-clause-paying c =
-    let held = c.self.invariant (ap (λ (l : Ledger). l.broken) c.self.view_is ∙ c.requires.whole) in
-    was_paying c.self.inside.carriers c.join_all.new.carriers c.self.inside.accepted c.self.inside.purse c.in_ok-changed-in-Present.ensures.more held.1.right.no_more_txs held.2
-
-pub join_all-requires-clause-order : goal.join_all-requires-clause-order
-join_all-requires-clause-order c =
+pub grow-requires-clause-order : goal.grow-requires-clause-order
+grow-requires-clause-order c =
     let came = comes_of c.self.view_is c.self.invariant c.requires.whole c.block.view_is c.block.invariant c.requires.other c.requires.fresh in
     subst (λ ids. Releases c.offer.new.self c.self.inside.dag.ids ids) (sym c.as_slice-ids.ensures)
     (comes_order c.offer.new.self c.in-Present.ids c.in_ok-ids.ensures.kept came (joins_of c.in_ok-ids.field-0 c.in-Present.ids c.in-Present.is c.in_ok-ids.ensures.answer))
@@ -55,11 +33,11 @@ join_all-requires-clause-order c =
 pub invariant_of-self-in-Present : goal.invariant_of-self-in-Present
 invariant_of-self-in-Present c = λ _.
     let came = comes_of c.self.view_is c.self.invariant c.requires.whole c.block.view_is c.block.invariant c.requires.other c.requires.fresh in (
-      comes_engine c.offer.new.self c.in-Present.ids c.join_all.new.dag c.join_all.new.votes c.in_ok-ids.ensures.kept came
-          (joins_of c.in_ok-ids.field-0 c.in-Present.ids c.in-Present.is c.in_ok-ids.ensures.answer) c.len-blocks.ensures.numbered c.in_ok-changed-in-Present.ensures.numbered
-          (c.in_ok-changed-in-Present.ensures.ids ∙ ap (λ ids. c.self.inside.dag.ids ++ ids) c.as_slice-ids.ensures) c.in_ok-changed-in-Present.ensures.voted,
-      record { carriers = c.in_ok-changed-in-Present.ensures.carried; right = c.in_ok-accept_all-in-Present.ensures.right; all = c.in_ok-accept_all-in-Present.ensures.all },
-      c.in_ok-accept_all-in-Present.ensures.paying,
+      comes_engine c.offer.new.self c.in-Present.ids c.grow.new.dag c.grow.new.votes c.in_ok-ids.ensures.kept came
+          (joins_of c.in_ok-ids.field-0 c.in-Present.ids c.in-Present.is c.in_ok-ids.ensures.answer) c.in_ok-grow-in-Present.ensures.in_order c.in_ok-grow-in-Present.ensures.numbered
+          (c.in_ok-grow-in-Present.ensures.ids ∙ ap (λ ids. c.self.inside.dag.ids ++ ids) c.as_slice-ids.ensures) c.in_ok-grow-in-Present.ensures.voted,
+      c.in_ok-grow-in-Present.ensures.accepting,
+      c.in_ok-grow-in-Present.ensures.paying,
     )
 
 pub invariant_of-self-in-Waiting : goal.invariant_of-self-in-Waiting
@@ -67,12 +45,12 @@ invariant_of-self-in-Waiting c = λ _.
     let came = comes_of c.self.view_is c.self.invariant c.requires.whole c.block.view_is c.block.invariant c.requires.other c.requires.fresh in
     let held = c.self.invariant (ap (λ (l : Ledger). l.broken) c.self.view_is ∙ c.requires.whole) in (
       waits_engine c.offer.new.self c.in_ok-ids.ensures.kept came (waits_of c.in_ok-ids.field-0 c.in-Waiting.is c.in_ok-ids.ensures.answer),
-      waits_accepting c.offer.new.self c.in_ok-ids.ensures.kept came held.1,
+      comes_accepting c.offer.new.self c.in_ok-ids.ensures.kept came held.1,
       held.2,
     )
 
-pub returns-in_ok-accept_all-in-Present-clause-answer : goal.returns-in_ok-accept_all-in-Present-clause-answer
-returns-in_ok-accept_all-in-Present-clause-answer c =
+pub returns-in_ok-grow-in-Present-clause-answer : goal.returns-in_ok-grow-in-Present-clause-answer
+returns-in_ok-grow-in-Present-clause-answer c =
     let came = comes_of c.self.view_is c.self.invariant c.requires.whole c.block.view_is c.block.invariant c.requires.other c.requires.fresh in
     ap (Kept c.block.inside.id) (ap length c.as_slice-ids.ensures) ∙ ap (λ (b : ReadBlock). Kept b.id (length c.in-Present.ids)) c.block.view_is
     ∙ comes_answer c.in-Present.ids came (joins_of c.in_ok-ids.field-0 c.in-Present.ids c.in-Present.is c.in_ok-ids.ensures.answer)
@@ -83,3 +61,41 @@ returns-in-Waiting-clause-answer c =
     let came = comes_of c.self.view_is c.self.invariant c.requires.whole c.block.view_is c.block.invariant c.requires.other c.requires.fresh in
     ap (λ (b : ReadBlock). Held b.id) c.block.view_is ∙ waits_answer came (waits_of c.in_ok-ids.field-0 c.in-Waiting.is c.in_ok-ids.ensures.answer)
     ∙ ap (λ (l : Ledger). joined l.kept c.args.block) c.self.view_is
+
+pub overflow_cast-present : goal.overflow_cast-present
+overflow_cast-present c =
+    let came = comes_of c.self.view_is c.self.invariant c.requires.whole c.block.view_is c.block.invariant c.requires.other c.requires.fresh in
+    comes_fitting c.in-Present.ids c.as_slice-ids.result.now c.as_slice-ids.ensures came (joins_of c.in_ok-ids.field-0 c.in-Present.ids c.in-Present.is c.in_ok-ids.ensures.answer)
+
+pub returns-in_ok-grow-in-Present-clause-kept : goal.returns-in_ok-grow-in-Present-clause-kept
+returns-in_ok-grow-in-Present-clause-kept c =
+    let came = comes_of c.self.view_is c.self.invariant c.requires.whole c.block.view_is c.block.invariant c.requires.other c.requires.fresh in
+    kept_is c.offer.new.self c.in_ok-ids.ensures.kept came ∙ ap (λ (l : Ledger). l.kept ++ c.args.block ∷ []) c.self.view_is
+
+pub returns-in_ok-grow-in-Present-clause-bits : goal.returns-in_ok-grow-in-Present-clause-bits
+returns-in_ok-grow-in-Present-clause-bits c = ap (λ (l : Ledger). l.bits) c.self.view_is
+
+pub returns-in_ok-grow-in-Present-clause-one : goal.returns-in_ok-grow-in-Present-clause-one
+returns-in_ok-grow-in-Present-clause-one c = λ id kept.
+    subst (λ (l : Ledger). (length c.grow.new.dag.parents ≡ length l.numbered.parents + 1) × Grew c.grow.new.dag.parents (length l.numbered.parents) l.votes c.grow.new.votes) c.self.view_is
+    (c.in_ok-grow-in-Present.ensures.one (count_one c.block.inside.id id (length c.as_slice-ids.result.now) kept))
+
+pub returns-in-Waiting-clause-kept : goal.returns-in-Waiting-clause-kept
+returns-in-Waiting-clause-kept c =
+    let came = comes_of c.self.view_is c.self.invariant c.requires.whole c.block.view_is c.block.invariant c.requires.other c.requires.fresh in
+    kept_is c.offer.new.self c.in_ok-ids.ensures.kept came ∙ ap (λ (l : Ledger). l.kept ++ c.args.block ∷ []) c.self.view_is
+
+pub returns-in-Waiting-clause-bits : goal.returns-in-Waiting-clause-bits
+returns-in-Waiting-clause-bits c = ap (λ (l : Ledger). l.bits) c.self.view_is
+
+pub returns-in-Waiting-clause-idle : goal.returns-in-Waiting-clause-idle
+returns-in-Waiting-clause-idle c = λ _. (ap (λ (l : Ledger). l.numbered) c.self.view_is, ap (λ (l : Ledger). l.votes) c.self.view_is)
+
+pub returns-in-Waiting-clause-one : goal.returns-in-Waiting-clause-one
+returns-in-Waiting-clause-one c = λ id kept. held_is_no_growth c.block.inside.id id kept
+
+pub returns-in_err-ids-clause-bits : goal.returns-in_err-ids-clause-bits
+returns-in_err-ids-clause-bits c = ap (λ (l : Ledger). l.bits) c.self.view_is
+
+pub returns-in_err-grow-in-Present-clause-bits : goal.returns-in_err-grow-in-Present-clause-bits
+returns-in_err-grow-in-Present-clause-bits c = ap (λ (l : Ledger). l.bits) c.self.view_is

@@ -1,5 +1,5 @@
 use Rattle.sp_engine.proofs.Alone.{are_of_alone}
-use Rattle.sp_engine.proofs.first.first_decided.Goals as goal
+use Rattle.sp_engine.proofs.first.first_money.Goals as goal
 
 pub first_accepted-requires-clause-of : goal.first_accepted-requires-clause-of
 first_accepted-requires-clause-of c =

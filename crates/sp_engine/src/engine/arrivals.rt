@@ -1,0 +1,88 @@
+//! What becomes of a valid block that arrives: it is known, there is no room for it, or it is kept.
+
+ghost use Rattle.std.specs.Prelude.{◌≡◌, ◌++◌, ◌∷◌, [], ℕ, false, IfOk, OnOk, is_err, IsFalse};
+ghost use Rattle.sp_ids.specs.Bits.{BeginsWithZeros};
+ghost use Rattle.sp_block.specs.Block.{IsOther};
+ghost use Rattle.sp_pool.specs.Kept.{keep, standing_of};
+ghost use Rattle.sp_pool.specs.declared.answers.Standing.{Standing};
+ghost use Rattle.sp_engine.specs.Arrivals.{answer_by, joined};
+ghost use Rattle.sp_engine.specs.Engine.{GrewByOne, is_growth, Stays};
+ghost use Rattle.sp_engine.specs.declared.answer.Answer.TheVariants.{Kept};
+
+use crate::answer::Answer;
+use crate::engine::Engine;
+use crate::growth::grow;
+use sp_block::Block;
+use sp_ids::Memory;
+use sp_pool::{Offer, Standing};
+
+impl Engine {
+    /// Keeps a valid block where its id is new and there is room for it, and answers what became of it.
+    pub(super) fn keep(&mut self, block: Block) -> Result<Answer, Memory>
+        requires whole { self.old.broken ≡ false }
+        requires other { IsOther block }
+        requires work { BeginsWithZeros block.id self.old.bits }
+        ensures answer { IfOk result (λ answer. answer ≡
+            answer_by (standing_of self.old.kept block.id) self.old.kept block) }
+        ensures kept { OnOk result (self.new.kept ≡ keep self.old.kept block) }
+        ensures bits { self.new.bits ≡ self.old.bits }
+        ensures broken { self.new.broken ≡ is_err result }
+        ensures idle { IfOk result (λ answer. IsFalse (is_growth answer) →
+            Stays self.old self.new) }
+        ensures one { IfOk result (λ answer. (id : ℕ) → answer ≡ Kept id 1 →
+            GrewByOne self.old self.new) }
+    {
+        let id = block.id;
+        match self.pool.standing(&id) {
+            Standing::Known => Ok(Answer::Known { id }),
+            Standing::Full => Ok(Answer::Full),
+            Standing::Fresh => self.take(block),
+        }
+    }
+
+    /// Keeps a valid block of a new id, for which there is room.
+    ///
+    /// # Errors
+    ///
+    /// `Memory` where there was none. The engine is broken from then on.
+    pub fn take(&mut self, block: Block) -> Result<Answer, Memory>
+        requires whole { self.old.broken ≡ false }
+        requires other { IsOther block }
+        requires work { BeginsWithZeros block.id self.old.bits }
+        requires fresh { standing_of self.old.kept block.id ≡ Standing.Fresh }
+        ensures answer { IfOk result (λ answer. answer ≡ joined self.old.kept block) }
+        ensures kept { OnOk result (self.new.kept ≡ self.old.kept ++ block ∷ []) }
+        ensures bits { self.new.bits ≡ self.old.bits }
+        ensures broken { self.new.broken ≡ is_err result }
+        ensures idle { IfOk result (λ answer. IsFalse (is_growth answer) →
+            Stays self.old self.new) }
+        ensures one { IfOk result (λ answer. (id : ℕ) → answer ≡ Kept id 1 →
+            GrewByOne self.old self.new) }
+    {
+        let id = block.id;
+        self.broken = true;
+        match self.pool.offer(block)? {
+            Offer::Present(ids) => {
+                let ids = ids.as_slice();
+                grow(
+                    &self.pool,
+                    &mut self.dag,
+                    &mut self.votes,
+                    &mut self.carriers,
+                    &mut self.accepted,
+                    &mut self.purse,
+                    ids,
+                )?;
+                self.broken = false;
+                let present = ids.len() as u16;
+                Ok(Answer::Kept { id, present })
+            }
+            Offer::Waiting => {
+                self.broken = false;
+                Ok(Answer::Held { id })
+            }
+            // Its id is fresh.
+            Offer::Known | Offer::Full => unreachable!(),
+        }
+    }
+}
