@@ -1,6 +1,9 @@
 pub mod AnswerLengths
 pub mod AnswerLists
+pub mod Arrived
 pub mod Changes
 pub mod Opened
+pub mod Questions
 pub mod Restarted
 pub mod SameReplies
+pub mod Started

@@ -1,5 +1,5 @@
 -- What answers each message of a feed, over the blocks that arrived before it.
-use Rattle.std.specs.Prelude.{ℕ, List, [], ◌∷◌, ◌++◌}
+use Rattle.std.specs.Prelude.{ℕ, List, [], ◌∷◌, ◌++◌, Option, Some, None}
 use Rattle.sp_block.specs.Block.{ReadBlock}
 use Rattle.sp_model.specs.Votes.{word}
 use Rattle.sp_pool.specs.Kept.{graph_of, present}
@@ -58,3 +58,13 @@ IsQuestion (SaysTx id) = Unit {0}
 IsQuestion (SaysBalance lock) = Unit {0}
 IsQuestion SaysPairs = Unit {0}
 IsQuestion SaysReport = Unit {0}
+
+-- a message that many lines answer, put in order first
+abbrev pub IsTextOf : Option Said → Type 0
+IsTextOf None = ⊥
+IsTextOf (Some (SaysBlock bytes)) = ⊥
+IsTextOf (Some (SaysVote x y)) = ⊥
+IsTextOf (Some (SaysTx id)) = ⊥
+IsTextOf (Some (SaysBalance lock)) = ⊥
+IsTextOf (Some SaysPairs) = Unit {0}
+IsTextOf (Some SaysReport) = Unit {0}

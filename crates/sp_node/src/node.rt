@@ -13,12 +13,13 @@ ghost use Rattle.sp_engine.specs.Arrivals.{kept_by_all};
 ghost use Rattle.sp_journal.specs.Recovery.{bytes_in};
 ghost use Rattle.sp_journal.specs.Settled.{SameTold};
 ghost use Rattle.sp_node.specs.Answers.{IsQuestion, kept_then, reply_of};
-ghost use Rattle.sp_node.specs.Journalled.{HoldsThen, IsKeptOn, LeavesOn};
+ghost use Rattle.sp_node.specs.Journalled.{FitsKept, HoldsThen, IsKeptOn, LeavesOn};
 ghost use Rattle.sp_node.specs.Node.{HasNodeCause};
 ghost use Rattle.sp_node.specs.Stored.{IsFound, IsOfSame, IsReady, LeavesStarted, NamesBoth, stored_blocks};
 ghost use Rattle.sp_node.specs.declared.start.StartFault.TheVariants as starts;
 
-use crate::arrival::keep_on;
+mod replies;
+
 use crate::fault::NodeFault;
 use crate::start::{StartFault, start_found, start_new};
 use crate::stored::Stored;
@@ -28,7 +29,7 @@ use sp_feed::{FeedHead, Message};
 use sp_ids::Memory;
 use sp_io::Sink;
 use sp_journal::Journal;
-use sp_report::{Ask, Naming, Text, answer_line, ask_line, write_text};
+use sp_report::Naming;
 use std::alloc::Global;
 use std::marker::Model;
 
@@ -128,18 +129,29 @@ impl Node {
         ensures later { (D.now disk.old).faults ≤ (D.now disk.new).faults }
         ensures quiet { (IsErrOf result starts.DiskFault → ⊥) → (D.now disk.new).faults ≡ (D.now disk.old).faults }
     {
-        let started = match stored {
-            Stored::Empty { gate } => start_new(alloc, disk, gate, head),
-            Stored::Found(opened) => start_found(alloc, opened, head),
-        };
-        match started {
-            Ok((engine, journal)) => Ok(Node {
-                alloc,
-                engine,
-                journal: Some(journal),
-                stopped: false,
-            }),
-            Err(fault) => Err(fault),
+        match stored {
+            Stored::Empty { gate } => match start_new(alloc, disk, gate, head) {
+                Ok((engine, journal)) => Ok(Node::with_journal(alloc, engine, journal)),
+                Err(fault) => Err(fault),
+            },
+            Stored::Found(opened) => match start_found(alloc, opened, head) {
+                Ok((engine, journal)) => Ok(Node::with_journal(alloc, engine, journal)),
+                Err(fault) => Err(fault),
+            },
+        }
+    }
+
+    // A node of an engine and the journal of its kept blocks.
+    fn with_journal(alloc: Global, engine: Engine, journal: Journal) -> Node
+        requires whole { engine.broken ≡ false }
+        requires fits { FitsKept engine.bits engine.kept journal }
+        ensures { result ≡ record { bits = engine.bits; kept = engine.kept; stopped = false; journal = Some journal } }
+    {
+        Node {
+            alloc,
+            engine,
+            journal: Some(journal),
+            stopped: false,
         }
     }
 
@@ -156,7 +168,6 @@ impl Node {
     /// where the disk refused a call: it may hold the block or not, and nothing was written. `Memory`
     /// where there was none for a block, or for the order in which a text lists; neither sink nor disk
     /// was called. The node is stopped from then on.
-    #[tactic(auto, unfolding(crate::specs::Answers::reply_of))]
     pub fn message<K: Sink, D: Disk>(
         &mut self,
         message: &Message<'_>,
@@ -226,12 +237,7 @@ impl Node {
     {
         match message {
             Message::Block(bytes) => self.arrive(bytes, naming, sink, disk),
-            Message::Vote(x, y) => self.ask(&Ask::Vote(*x, *y), naming, sink),
-            Message::Tx(id) => self.ask(&Ask::Tx(*id), naming, sink),
-            Message::Balance(lock) => self.ask(&Ask::Balance(*lock), naming, sink),
-            Message::Pairs => self.tell(&Text::Pairs, naming, sink),
-            Message::Report => self.tell(&Text::Report, naming, sink),
-            Message::End => unreachable!(),
+            _ => self.answer(message, naming, sink),
         }
     }
 
@@ -249,115 +255,5 @@ impl Node {
         ensures whole { self.now.stopped ≡ false → result.now.broken ≡ false }
     {
         &self.engine
-    }
-
-    // Offers a block's bytes to the engine, records the block where it is kept, and writes what became
-    // of them.
-    #[tactic(auto, using(sp_io::proofs::Stops::stops_at_start), unfolding(crate::specs::Answers::reply_of))]
-    fn arrive<K: Sink, D: Disk>(
-        &mut self,
-        bytes: &[u8],
-        naming: &Naming<'_>,
-        sink: &mut K,
-        disk: &mut D,
-    ) -> Result<(), NodeFault>
-        requires live { self.old.stopped ≡ false }
-        requires stands { IsKeptOn self.old.bits self.old.kept self.old.journal (D.now disk.old) }
-        ensures ok { OnOk result (Appends (K.taken sink.old) (K.taken sink.new)
-            (reply_of (labels_of naming.now) self.old.bits self.old.kept (SaysBlock bytes.now))) }
-        ensures kept { OnOk result (self.new.kept
-            ≡ kept_then self.old.bits self.old.kept (SaysBlock bytes.now)) }
-        ensures kept_unwritten { result ≡ Err NodeFault.WriteFault →
-            self.new.kept ≡ kept_then self.old.bits self.old.kept (SaysBlock bytes.now) }
-        ensures kept_unsure { result ≡ Err NodeFault.DiskFault →
-            self.new.kept ≡ kept_then self.old.bits self.old.kept (SaysBlock bytes.now) }
-        ensures bits { self.new.bits ≡ self.old.bits }
-        ensures acknowledged { OnOk result
-            (IsKeptOn self.new.bits self.new.kept self.new.journal (D.now disk.new)) }
-        ensures acknowledged_unwritten { result ≡ Err NodeFault.WriteFault
-            → IsKeptOn self.new.bits self.new.kept self.new.journal (D.now disk.new) }
-        ensures any_moment { LeavesOn self.old.journal (D.now disk.old) (D.now disk.new)
-            (HoldsThen self.old.bits self.old.kept (SaysBlock bytes.now)) }
-        ensures uncalled { self.old.journal ≡ None → (disk.new ≡ disk.old) × (result ≢ Err NodeFault.DiskFault) }
-        ensures has { is_some self.new.journal ≡ is_some self.old.journal }
-        ensures err { OnErr result (AppendsFront (K.taken sink.old) (K.taken sink.new)
-            (reply_of (labels_of naming.now) self.old.bits self.old.kept (SaysBlock bytes.now))) }
-        ensures silent { result ≡ Err NodeFault.DiskFault → sink.new ≡ sink.old }
-        ensures memory { result ≡ Err NodeFault.Memory → sink.new ≡ sink.old }
-        ensures memory_disk { result ≡ Err NodeFault.Memory → disk.new ≡ disk.old }
-        ensures cause { IfErr result (HasNodeCause (K.faults sink.old) (K.faults sink.new)
-            (D.now disk.old).faults (D.now disk.new).faults) }
-        ensures quiet { result ≢ Err NodeFault.WriteFault → K.faults sink.new ≡ K.faults sink.old }
-        ensures disk_quiet { result ≢ Err NodeFault.DiskFault
-            → (D.now disk.new).faults ≡ (D.now disk.old).faults }
-        ensures told { SameTold (D.now disk.old) (D.now disk.new) }
-        ensures disk_later { (D.now disk.old).faults ≤ (D.now disk.new).faults }
-        ensures later { K.faults sink.old ≤ K.faults sink.new }
-        ensures stopped { self.new.stopped ≡ is_err result }
-    {
-        self.stopped = true;
-        let answer = keep_on(&mut self.engine, &mut self.journal, disk, bytes)?;
-        answer_line(&answer, naming, sink)?;
-        self.stopped = false;
-        Ok(())
-    }
-
-    // Writes what the present blocks say of what is asked.
-    fn ask<K: Sink>(
-        &mut self,
-        ask: &Ask,
-        naming: &Naming<'_>,
-        sink: &mut K,
-    ) -> Result<(), NodeFault>
-        requires { self.old.stopped ≡ false }
-        ensures ok { OnOk result
-            (Appends (K.taken sink.old) (K.taken sink.new) (ask_text (labels_of naming.now) self.old.kept ask.now)) }
-        ensures kept { self.new.kept ≡ self.old.kept }
-        ensures bits { self.new.bits ≡ self.old.bits }
-        ensures err { OnErr result
-            (AppendsFront (K.taken sink.old) (K.taken sink.new) (ask_text (labels_of naming.now) self.old.kept ask.now)) }
-        ensures journal { self.new.journal ≡ self.old.journal }
-        ensures never { IfErr result (λ fault. fault ≡ NodeFault.WriteFault) }
-        ensures cause { OnErr result (Rose (K.faults sink.old) (K.faults sink.new)) }
-        ensures quiet { result ≢ Err NodeFault.WriteFault → K.faults sink.new ≡ K.faults sink.old }
-        ensures later { K.faults sink.old ≤ K.faults sink.new }
-        ensures stopped { self.new.stopped ≡ is_err result }
-    {
-        match ask_line(&self.engine, ask, naming, sink) {
-            Ok(()) => Ok(()),
-            Err(_) => {
-                self.stopped = true;
-                Err(NodeFault::WriteFault)
-            }
-        }
-    }
-
-    // Writes a text over the present blocks.
-    #[tactic(auto, using(sp_io::proofs::Stops::stops_at_start))]
-    fn tell<K: Sink>(
-        &mut self,
-        text: &Text,
-        naming: &Naming<'_>,
-        sink: &mut K,
-    ) -> Result<(), NodeFault>
-        requires { self.old.stopped ≡ false }
-        ensures ok { OnOk result
-            (Appends (K.taken sink.old) (K.taken sink.new) (text_of (labels_of naming.now) self.old.kept text.now)) }
-        ensures kept { self.new.kept ≡ self.old.kept }
-        ensures bits { self.new.bits ≡ self.old.bits }
-        ensures err { OnErr result
-            (AppendsFront (K.taken sink.old) (K.taken sink.new) (text_of (labels_of naming.now) self.old.kept text.now)) }
-        ensures journal { self.new.journal ≡ self.old.journal }
-        ensures memory { result ≡ Err NodeFault.Memory → sink.new ≡ sink.old }
-        ensures never { result ≢ Err NodeFault.DiskFault }
-        ensures cause { result ≡ Err NodeFault.WriteFault → Rose (K.faults sink.old) (K.faults sink.new) }
-        ensures quiet { result ≢ Err NodeFault.WriteFault → K.faults sink.new ≡ K.faults sink.old }
-        ensures later { K.faults sink.old ≤ K.faults sink.new }
-        ensures stopped { self.new.stopped ≡ is_err result }
-    {
-        self.stopped = true;
-        write_text(self.alloc, &self.engine, text, naming, sink)?;
-        self.stopped = false;
-        Ok(())
     }
 }

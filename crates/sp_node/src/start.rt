@@ -155,6 +155,36 @@ fn other_chain(opened: &Opened, head: &FeedHead) -> Option<StartFault>
     })
 }
 
+/// An engine of an opened journal's blocks, which are offered to it in their order, where they are of
+/// the head's chain.
+fn engine_on(alloc: Global, opened: &Opened, head: FeedHead) -> Result<Engine, StartFault>
+    ensures engine { IfOk result (IsLedger head.bits (head.genesis ∷ opened.now.blocks)) }
+    ensures sent { IfOk result (λ engine. engine.kept
+        ≡ kept_by_all head.bits head.genesis (map bytes_in opened.now.blocks)) }
+    ensures same { OnOk result (IsSameChain opened.now head) }
+    ensures other { IfErr result (λ fault. (fault ≡ faults.Memory)
+        ⊎ ((IsSameChain opened.now head → ⊥)
+        × (fault ≡ faults.OtherChain opened.now.bits (sha256_number opened.now.genesis.bytes)
+        head.bits (sha256_number head.genesis.bytes)))) }
+{
+    if let Some(fault) = other_chain(opened, &head) {
+        return Err(fault);
+    }
+    // Tells the proof what the id of each genesis block is.
+    let _found = opened.genesis.id;
+    let FeedHead { bits, genesis } = head;
+    let _fed = genesis.id;
+    let engine = engine_of(alloc, genesis, bits, opened.blocks.as_slice())?;
+    Ok(engine)
+}
+
+/// The journal alone, without what it was found to hold.
+fn journal_of(opened: Opened) -> Journal
+    ensures { result ≡ opened.journal }
+{
+    opened.journal
+}
+
 /// An engine of a found journal's blocks, which are offered to it in their order, and that journal.
 /// The disk isn't called.
 pub(crate) fn start_found(
@@ -170,12 +200,13 @@ pub(crate) fn start_found(
         ⊎ ((IsSameChain opened head → ⊥)
         × (fault ≡ faults.OtherChain opened.bits (sha256_number opened.genesis.bytes) head.bits (sha256_number head.genesis.bytes)))) }
 {
-    if let Some(fault) = other_chain(&opened, &head) {
-        return Err(fault);
+    match engine_on(alloc, &opened, head) {
+        Ok(engine) => Ok((engine, journal_of(opened))),
+        Err(fault) => {
+            drop(opened);
+            Err(fault)
+        }
     }
-    let FeedHead { bits, genesis } = head;
-    let engine = engine_of(alloc, genesis, bits, opened.blocks.as_slice())?;
-    Ok((engine, opened.journal))
 }
 
 /// The engine of the blocks that an opened journal holds, which are offered to it in their order. Where

@@ -1,5 +1,4 @@
-use Rattle.std.proofs.Common.{inl, inr, ⊎_elim, eqb, List, ℕ, sym, ap, subst, ◌∙◌, arith}
-use Rattle.std.specs.Prelude.{find}
+use Rattle.std.proofs.Common.{inl, inr, ⊎_elim, List, ℕ, sym, ap, subst, ◌∙◌, arith}
 use Rattle.sp_ids.specs.Bits.{BeginsWithZeros}
 use Rattle.sp_block.specs.Block.{IsOther, ReadBlock}
 use Rattle.sp_disk.proofs.Runs.{weaker}
@@ -10,7 +9,7 @@ use Rattle.sp_journal.specs.Writer.{HoldsOrAdded, Stands}
 use Rattle.sp_journal.proofs.Appended.{by_test}
 use Rattle.sp_pool.specs.Kept.{ids_of}
 use Rattle.sp_engine.specs.Arrivals.{kept_after}
-use Rattle.sp_node.specs.Journalled.{HoldsBeforeOrAfter, journal_in, kept_id}
+use Rattle.sp_node.specs.Journalled.{HoldsBeforeOrAfter, journal_in}
 use Rattle.sp_node.proofs.Changes.{Changes, fits_more, fits_same, found_now, has_room, ids_known, is_new, is_other, looked_up, not_missing, now_holds, one_contents, told_changes, told_joins, work}
 use Rattle.sp_node.proofs.arrival.keep.Goals as goal
 

@@ -1,15 +1,112 @@
-use Rattle.std.proofs.Common.{sym, subst}
-use Rattle.sp_node.specs.Stored.{LeavesStarted}
+use Rattle.std.proofs.Common.{◌∙◌, ◌∷◌, [], inl, inr, ⊎_elim, refl, sym, ap, subst, arith}
+use Rattle.sp_node.specs.Journalled.{IsKeptOn}
+use Rattle.sp_node.specs.Node.{State}
+use Rattle.sp_node.specs.Stored.{IsReady}
 use Rattle.sp_node.specs.declared.stored.Stored.{Stored}
-use Rattle.sp_node.specs.declared.stored.Stored.TheVariants.{Empty}
-use Rattle.sp_node.proofs.node.Node.start.Goals.{in-Empty, in-Found}
+use Rattle.sp_node.proofs.Started.{found_stands, kept_on}
 use Rattle.sp_node.proofs.node.Node.start.Goals as goal
 
-pub returns-in-Ok-clause-any_moment : goal.returns-in-Ok-clause-any_moment
-returns-in-Ok-clause-any_moment g c =
-    let old = g.D.Disk.now c.args.disk.now in
-    elim c.match-stored.branch [
-      | in-Empty w ↦ subst (λ (s : Stored). LeavesStarted s c.args.head old (g.D.Disk.now c.match-stored.disk)) (sym w.in-Empty.is)
-          (subst (λ d. LeavesStarted (Empty w.in-Empty.gate) c.args.head old (g.D.Disk.now d)) (sym w.disk-is) w.start_new-started.ensures.any_moment)
-      | in-Found w ↦ subst (λ (s : Stored). LeavesStarted s c.args.head old (g.D.Disk.now c.match-stored.disk)) (sym w.in-Found.is) tt
-    ]
+pub returns-in-Ok : goal.returns-in-Ok
+returns-in-Ok g c =
+    let new = g.D.Disk.now c.start_new.new.disk in
+    let head = c.args.head in
+    let is = c.in-Empty.is in
+    let engine = c.in-Ok.engine in
+    let made = c.with_journal.ensures in
+    let done = c.in-Ok.ensures in
+    record {
+      kept = rw is (ap (λ (n : State). n.kept) made ∙ done.engine.kept_are);
+      sent = rw is (ap (λ (n : State). n.kept) made ∙ done.engine.kept_are);
+      bits = ap (λ (n : State). n.bits) made ∙ done.engine.bits_are;
+      live = ap (λ (n : State). n.stopped) made;
+      has = rw (ap (λ (n : State). n.journal) made) refl;
+      stands = subst (λ (n : State). IsKeptOn n.bits n.kept n.journal new) (sym made)
+          (kept_on head.bits engine.bits (head.genesis ∷ []) engine.kept c.in-Ok.journal new done.engine.bits_are done.engine.kept_are (λ told. done.stands (done.told.1 told)));
+      any_moment = rw is done.any_moment;
+      untouched = rw is (λ found. absurd found);
+      told = done.told;
+      same = rw is tt;
+      other = tt;
+      created = λ fault. absurd (cc fault);
+      fault = λ fault. absurd (cc fault);
+      memory = λ fault. absurd (cc fault);
+      later = done.later;
+      quiet = λ _. done.quiet (λ fault. cc fault);
+    }
+
+pub returns-in-Err : goal.returns-in-Err
+returns-in-Err g c =
+    let is = c.in-Empty.is in
+    let done = c.in-Err.ensures in
+    record {
+      kept = tt;
+      sent = tt;
+      bits = tt;
+      live = tt;
+      has = tt;
+      stands = tt;
+      any_moment = rw is done.any_moment;
+      untouched = rw is (λ found. absurd found);
+      told = done.told;
+      same = tt;
+      other = ⊎_elim (λ disk. inl disk) (λ memory. inr (inl memory)) done.own;
+      created = λ _. rw is (λ found. found);
+      fault = λ fault. done.fault (cc fault);
+      memory = λ fault. done.memory (cc fault);
+      later = done.later;
+      quiet = λ none. done.quiet (λ fault. none (cc fault));
+    }
+
+pub returns-in-Ok-start_found : goal.returns-in-Ok-start_found
+returns-in-Ok-start_found g c =
+    let now = g.D.Disk.now c.args.disk.now in
+    let head = c.args.head in
+    let is = c.in-Found.is in
+    let opened = c.in-Found.opened in
+    let engine = c.in-Ok-start_found.engine in
+    let journal = c.in-Ok-start_found.journal in
+    let made = c.with_journal-in-Ok-start_found.ensures in
+    let done = c.in-Ok-start_found.ensures in
+    record {
+      kept = rw is (ap (λ (n : State). n.kept) made ∙ done.engine.kept_are);
+      sent = rw is (ap (λ (n : State). n.kept) made ∙ done.sent);
+      bits = ap (λ (n : State). n.bits) made ∙ done.engine.bits_are;
+      live = ap (λ (n : State). n.stopped) made;
+      has = rw (ap (λ (n : State). n.journal) made) refl;
+      stands = subst (λ (n : State). IsKeptOn n.bits n.kept n.journal now) (sym made)
+          (kept_on head.bits engine.bits (head.genesis ∷ opened.blocks) engine.kept journal now done.engine.bits_are done.engine.kept_are
+          (found_stands opened head journal now done.same done.journal (subst (λ (s : Stored). IsReady s now) is c.requires.ready)));
+      any_moment = rw is tt;
+      untouched = λ _. refl;
+      told = (λ told. told, λ told. told);
+      same = rw is done.same;
+      other = tt;
+      created = λ fault. absurd (cc fault);
+      fault = λ fault. absurd (cc fault);
+      memory = λ fault. absurd (cc fault);
+      later = omega arith;
+      quiet = λ _. refl;
+    }
+
+pub returns-in-Err-start_found : goal.returns-in-Err-start_found
+returns-in-Err-start_found g c =
+    let is = c.in-Found.is in
+    let done = c.in-Err-start_found.ensures in
+    record {
+      kept = tt;
+      sent = tt;
+      bits = tt;
+      live = tt;
+      has = tt;
+      stands = tt;
+      any_moment = rw is tt;
+      untouched = λ _. refl;
+      told = (λ told. told, λ told. told);
+      same = tt;
+      other = ⊎_elim (λ memory. inr (inl memory)) (λ other. inr (inr (rw is other))) done.other;
+      created = λ fault. absurd (⊎_elim (λ memory. cc (fault, memory)) (λ other. cc (fault, other.1)) done.other);
+      fault = λ fault. absurd (⊎_elim (λ memory. cc (fault, memory)) (λ other. cc (fault, other.1)) done.other);
+      memory = λ _. refl;
+      later = omega arith;
+      quiet = λ _. refl;
+    }
