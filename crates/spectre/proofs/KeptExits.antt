@@ -58,6 +58,17 @@ is_write status.Memory = inr (λ e. cc)
 is_write status.Damaged = inr (λ e. cc)
 is_write status.TooLong = inr (λ e. cc)
 
+-- a run that ends with a line ends by its status, where no write failed
+pub line_ends : (P : Status → Type 0) (result ended : Status) → (result ≢ status.WriteFault → result ≡ ended) → P status.WriteFault → P ended → P result
+line_ends P result ended same write other = elim (is_write result) [
+  | inl is ↦ subst P (sym is) write
+  | inr no_write ↦ subst P (sym (same no_write)) other
+]
+
+-- and by no other
+pub line_not : {X : Type 0} (t result ended : Status) → (result ≢ status.WriteFault → result ≡ ended) → (status.WriteFault ≡ t → ⊥) → (ended ≡ t → ⊥) → result ≡ t → X
+line_not t result ended same write other e = absurd (line_ends (λ s. s ≡ t → ⊥) result ended same write other e)
+
 pub on_map : (left reads : Option (List ℕ)) (P Q : List ℕ → List ℕ → Type 0) → ((disk input : List ℕ) → left ≡ Some input → reads ≡ Some disk → P disk input → Q disk input) → OnBoth left reads P → OnBoth left reads Q
 on_map None reads P Q f h = tt
 on_map (Some input) None P Q f h = tt
@@ -237,6 +248,13 @@ module _ (fresh : Bool) (stored : Stored) {start now : Moment} (old : Option (Li
 
   feed_taken_now : IfSome first.reads (λ disk. TakesFeed (found_blocks disk) start.left now.left old new)
   feed_taken_now = feed_taken fresh stored start.left first.reads tells now.left old new (takes_then (bytes_of stored) start.left now.left old mid new (feed_fault_text e) (takes r) front)
+
+-- by each status that a feed's fault gives
+pub feed_status : (P : Status → Type 0) (e : FeedFault) → P status.Malformed → P status.Truncated → P status.ReadFault → P status.TooLong → P (status_of e)
+feed_status P (faults.Malformed at) malformed truncated read long = malformed
+feed_status P (faults.Truncated at) malformed truncated read long = truncated
+feed_status P faults.ReadFault malformed truncated read long = read
+feed_status P (faults.TooLong taken) malformed truncated read long = long
 
 -- by the fault
 by_fault : (fresh : Bool) (stored : Stored) {start now : Moment} (old : Option (List ℕ)) (first last : DiskMoment) → IsMoment first → IsMoment last → (tells : IfSome first.reads (λ disk. Tells fresh disk (Ok stored)))

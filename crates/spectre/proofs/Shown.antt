@@ -1,6 +1,9 @@
 -- What `show` writes, from what was found on the disk.
-use Rattle.std.proofs.Common.{◌≡◌, ℕ, ◌-◌, true, List, ◌∷◌, ◌++◌, length, map, Option, Some, None, IfSome, Ok, ap, sym, subst, ◌∙◌, arith}
+use Rattle.std.proofs.Common.{◌≡◌, ℕ, ◌-◌, true, List, ◌∷◌, ◌++◌, length, map, Option, Some, None, IfSome, Ok, ap, sym, subst, ◌∙◌, append_assoc, arith}
 use Rattle.std.proofs.lemmas.List.{length-map}
+use Rattle.std.specs.Io.KnownBytes.{Appends}
+use Rattle.sp_io.specs.Whole.{AppendsFront}
+use Rattle.sp_io.proofs.Writing.{appends_then}
 use Rattle.sp_block.specs.Block.{ReadBlock}
 use Rattle.sp_engine.specs.Arrivals.{kept_by_all}
 use Rattle.sp_engine.specs.Blocks.{block_in}
@@ -33,3 +36,14 @@ shown_text (Some bytes) r P e h = subst (λ (x : Records). P (shown_by x)) (sym 
 pub if_more : (reads : Option (List ℕ)) (P Q : List ℕ → Type 0) → ((bytes : List ℕ) → P bytes → Q bytes) → IfSome reads P → IfSome reads Q
 if_more None P Q f h = tt
 if_more (Some bytes) P Q f h = f bytes h
+
+-- a line is written, and then a front of the rest
+pub front_then : (a b c : Option (List ℕ)) (xs ys : List ℕ) → Appends a b xs → AppendsFront b c ys → AppendsFront a c (xs ++ ys)
+front_then a b c xs ys p q = (
+  q.0,
+  record {
+    front = xs ++ q.1.front;
+    appended = appends_then a b c xs q.1.front p q.1.appended;
+    split = ap (λ t. xs ++ t) q.1.split ∙ sym (append_assoc xs q.1.front q.0);
+  },
+)

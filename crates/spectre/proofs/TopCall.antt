@@ -1,9 +1,10 @@
 -- What the top call says of a run with a journal, and of one that wasn't begun for want of memory.
-use Rattle.std.proofs.Common.{◌≡◌, ℕ, Bool, List, [], Option, Some, None, IfSome, subst}
+use Rattle.std.proofs.Common.{◌≡◌, ℕ, Bool, List, [], Option, Some, None, IfSome, refl, sym, subst}
 use Rattle.sp_disk.specs.Moments.{IsMoment, Moment}
 use Rattle.sp_io.specs.Whole.{AppendsFront}
 use Rattle.sp_io.proofs.Writing.{wrote_none}
 use Rattle.spectre.specs.Crashes.{Recovery}
+use Rattle.spectre.specs.JobEnds.{JobEnds, WritesBy}
 use Rattle.spectre.specs.Kept.{EndsBy, KeptEnds}
 use Rattle.spectre.specs.Output.{blocks_before, OnDisk, OnKeep, output_by}
 use Rattle.spectre.specs.Taken.{TakesFeed}
@@ -15,8 +16,57 @@ use Rattle.spectre.proofs.Keeping.{looks_same}
 use Rattle.spectre.proofs.KeptExits.{exit_early, nothing_taken, silent_memory}
 
 -- what holds by a status
-pub ends_by : {fresh : Bool} {reads before after old new : Option (List ℕ)} {first last : Moment} {s : Status} (t : Status) → s ≡ t → KeptEnds fresh reads before after old new first last s → EndsBy fresh reads before after old new t
-ends_by {fresh = fresh} {reads = reads} {before = before} {after = after} {old = old} {new = new} t e k = subst (EndsBy fresh reads before after old new) e k.by
+pub ends_at : {job : Option Job} {reads before after old new : Option (List ℕ)} {first last : Moment} {s : Status} (t : Status) → s ≡ t → JobEnds job reads before after old new first last s → WritesBy job reads before after old new t
+ends_at {job = job} {reads = reads} {before = before} {after = after} {old = old} {new = new} t e k = subst (WritesBy job reads before after old new) e k.by
+
+-- what holds of a job is said of the words that ask for it
+pub asked_ends : {job asked : Option Job} {reads before after old new : Option (List ℕ)} {first last : Moment} {s : Status} → asked ≡ job → JobEnds job reads before after old new first last s → JobEnds asked reads before after old new first last s
+asked_ends {reads = reads} {before = before} {after = after} {old = old} {new = new} {first = first} {last = last} {s = s} e k =
+    subst (λ (j : Option Job). JobEnds j reads before after old new first last s) (sym e) k
+
+-- by each status that there is
+pub on_status : (P : Status → Type 0) (s : Status) → (s ≡ status.Done → P status.Done) → (s ≡ status.Usage → P status.Usage) → (s ≡ status.Malformed → P status.Malformed) → (s ≡ status.Truncated → P status.Truncated) → (s ≡ status.ReadFault → P status.ReadFault) → (s ≡ status.WriteFault → P status.WriteFault)
+    → (s ≡ status.DiskFault → P status.DiskFault) → (s ≡ status.NotJournal → P status.NotJournal) → (s ≡ status.OtherChain → P status.OtherChain) → (s ≡ status.Memory → P status.Memory) → (s ≡ status.Damaged → P status.Damaged) → (s ≡ status.TooLong → P status.TooLong) → P s
+on_status P status.Done done usage malformed truncated read write disk no_journal other memory damaged long = done refl
+on_status P status.Usage done usage malformed truncated read write disk no_journal other memory damaged long = usage refl
+on_status P status.Malformed done usage malformed truncated read write disk no_journal other memory damaged long = malformed refl
+on_status P status.Truncated done usage malformed truncated read write disk no_journal other memory damaged long = truncated refl
+on_status P status.ReadFault done usage malformed truncated read write disk no_journal other memory damaged long = read refl
+on_status P status.WriteFault done usage malformed truncated read write disk no_journal other memory damaged long = write refl
+on_status P status.DiskFault done usage malformed truncated read write disk no_journal other memory damaged long = disk refl
+on_status P status.NotJournal done usage malformed truncated read write disk no_journal other memory damaged long = no_journal refl
+on_status P status.OtherChain done usage malformed truncated read write disk no_journal other memory damaged long = other refl
+on_status P status.Memory done usage malformed truncated read write disk no_journal other memory damaged long = memory refl
+on_status P status.Damaged done usage malformed truncated read write disk no_journal other memory damaged long = damaged refl
+on_status P status.TooLong done usage malformed truncated read write disk no_journal other memory damaged long = long refl
+
+-- a run with a journal
+kept_by : (path : List ℕ) (fresh : Bool) (reads before after old new : Option (List ℕ)) (s : Status) → EndsBy fresh reads before after old new s → WritesBy (Some (jobs.Keep path fresh)) reads before after old new s
+kept_by path fresh reads before after old new status.Done k = k
+kept_by path fresh reads before after old new status.Usage k = k
+kept_by path fresh reads before after old new status.Malformed k = (k, λ takes. absurd takes)
+kept_by path fresh reads before after old new status.Truncated k = k
+kept_by path fresh reads before after old new status.ReadFault k = λ _. k
+kept_by path fresh reads before after old new status.WriteFault k = k
+kept_by path fresh reads before after old new status.DiskFault k = λ _. k
+kept_by path fresh reads before after old new status.NotJournal k = k
+kept_by path fresh reads before after old new status.OtherChain k = k
+kept_by path fresh reads before after old new status.Memory k = k
+kept_by path fresh reads before after old new status.Damaged k = k
+kept_by path fresh reads before after old new status.TooLong k = k
+
+pub kept_ends : (path : List ℕ) (fresh : Bool) (reads before after old new : Option (List ℕ)) (first last : Moment) (s : Status) → KeptEnds fresh reads before after old new first last s → JobEnds (Some (jobs.Keep path fresh)) reads before after old new first last s
+kept_ends path fresh reads before after old new first last s k = record {
+  by = kept_by path fresh reads before after old new s k.by;
+  taken = λ takes. absurd takes;
+  taken_fed = λ _. k.taken;
+  crash = k.recovery;
+}
+
+-- a run that takes nothing leaves all of it
+pub left_whole : (o : Option (List ℕ)) → IfSome o (λ input. o ≡ Some input)
+left_whole None = tt
+left_whole (Some input) = refl
 
 if_all : (o : Option (List ℕ)) (P : List ℕ → Type 0) → ((x : List ℕ) → P x) → IfSome o P
 if_all None P f = tt

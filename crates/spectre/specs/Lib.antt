@@ -15,6 +15,7 @@ pub mod Replaying
 pub mod Running
 pub mod Keeping
 pub mod Kept
+pub mod JobEnds
 pub mod Ends
 pub mod Codes
 pub mod Rests

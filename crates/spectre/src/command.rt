@@ -15,14 +15,9 @@ ghost use Rattle.spectre.specs.Replay.{replied, replied_but_last};
 ghost use Rattle.spectre.specs.Rests.{AnswersAgree, OrderIsNoMatter};
 ghost use Rattle.spectre.specs.Taken.{TakesFeed};
 
+use crate::doing::do_job;
 use crate::job::{Job, JobFault, read_job};
-use crate::keep::keep;
 use crate::laws::answers_agree;
-use crate::made::{drill_text, make_text};
-use crate::play::from_source;
-use crate::purpose::Purpose;
-use crate::replay::replay;
-use crate::show::show;
 use crate::status::Status;
 use sp_disk::Disk;
 use sp_io::{Sink, Source};
@@ -176,13 +171,7 @@ pub fn run<S: Source, K: Sink, D: Disk>(
     // Tells the proof what every answer to a feed rests on.
     answers_agree();
     match read_job(alloc, words) {
-        Ok(Job::Replay) => replay(alloc, source, sink),
-        Ok(Job::Keep { fresh, .. }) => keep(alloc, fresh, source, sink, disk),
-        Ok(Job::Show { .. }) => show(alloc, sink, disk),
-        Ok(Job::Play) => from_source(alloc, Purpose::Play, source, sink),
-        Ok(Job::Build) => from_source(alloc, Purpose::Build, source, sink),
-        Ok(Job::Make { n, seed, width }) => make_text(alloc, n, seed, width, sink),
-        Ok(Job::Drill { n, seed, width }) => drill_text(alloc, n, seed, width, sink),
+        Ok(job) => do_job(alloc, &job, source, sink, disk),
         Err(JobFault::Usage) => Status::Usage,
         Err(JobFault::Memory) => Status::Memory,
     }

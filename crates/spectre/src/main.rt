@@ -7,6 +7,7 @@ mod command;
 mod commands;
 mod counting;
 mod counts;
+mod doing;
 mod drill;
 mod ending;
 mod file_name;

@@ -1,13 +1,13 @@
 //! The taking of a scenario from a source: it is read whole, and then done with as it is asked.
 
-ghost use Rattle.std.specs.Prelude.{◌≡◌, ◌≢◌, ◌<◌, ◌≤◌, [], drop, length, Err, IfErr, IfOk, IfSome, OnErr, OnOk, Some};
+ghost use Rattle.std.specs.Prelude.{◌≡◌, ◌≢◌, ◌<◌, ◌≤◌, [], drop, length, Err, IfErr, IfOk, IfSome, IsNone, IsSome, OnErr, OnOk, Some};
 ghost use Rattle.std.specs.Io.KnownBytes.{Appends};
 ghost use Rattle.sp_io.specs.Causes.{Rose};
 ghost use Rattle.sp_io.specs.Whole.{AppendsFront, ConsumesUpTo};
 ghost use Rattle.sp_play.specs.Scene as meant;
 ghost use Rattle.sp_play.specs.Source.{scenario_limit};
 ghost use Rattle.sp_report.specs.Lines.{too_long_text};
-ghost use Rattle.spectre.specs.Ends.{EndsAs, HasStopCause, Plays, status_by};
+ghost use Rattle.spectre.specs.Ends.{EndsAs, HasStopCause, Makes, Plays, status_by};
 ghost use Rattle.spectre.specs.Faults.{IsFaultyScene, IsWholeScene};
 ghost use Rattle.spectre.specs.Output.{source_output};
 ghost use Rattle.spectre.specs.Scenes.{scene_output};
@@ -93,6 +93,24 @@ pub fn status_of(ended: Result<Ending, Stop>) -> Status
     }
 }
 
+/// Reads a scenario, does with it what is asked, and answers how that ended.
+fn run_text<K: Sink>(alloc: Global, purpose: Purpose, text: &[u8], sink: &mut K) -> Status
+    requires { length text.now < scenario_limit }
+    ensures done { result ≡ Status.Done → Appends (K.taken sink.old) (K.taken sink.new)
+        (scene_output purpose (meant.scene text.now)) × IsNone (meant.scene text.now).fault }
+    ensures malformed { result ≡ Status.Malformed → Appends (K.taken sink.old) (K.taken sink.new)
+        (scene_output purpose (meant.scene text.now)) × IsSome (meant.scene text.now).fault }
+    ensures write_fault { result ≡ Status.WriteFault → AppendsFront (K.taken sink.old) (K.taken sink.new)
+        (scene_output purpose (meant.scene text.now)) }
+    ensures memory { result ≡ Status.Memory → AppendsFront (K.taken sink.old) (K.taken sink.new)
+        (scene_output purpose (meant.scene text.now)) }
+    ensures write_cause { result ≡ Status.WriteFault → Rose (K.faults sink.old) (K.faults sink.new) }
+    ensures write_quiet { result ≢ Status.WriteFault → K.faults sink.new ≡ K.faults sink.old }
+    ensures among { Makes result }
+{
+    status_of(on_text(alloc, purpose, text, sink))
+}
+
 /// Reads a scenario from a source to its end, and then does with it what is asked.
 pub fn from_source<S: Source, K: Sink>(
     alloc: Global,
@@ -130,16 +148,10 @@ pub fn from_source<S: Source, K: Sink>(
 
     ensures among { Plays result }
 {
-    let text = match read_scenario(alloc, source) {
-        Ok(text) => text,
-        Err(ScenarioFault::ReadFault) => return Status::ReadFault,
-        Err(ScenarioFault::TooLong { .. }) => return write_too_long(sink),
-        Err(ScenarioFault::Memory) => return Status::Memory,
-    };
-    match on_text(alloc, purpose, &text, sink) {
-        Ok(Ending::Whole) => Status::Done,
-        Ok(Ending::Faulty) => Status::Malformed,
-        Err(Stop::WriteFault) => Status::WriteFault,
-        Err(Stop::Memory) => Status::Memory,
+    match read_scenario(alloc, source) {
+        Ok(text) => run_text(alloc, purpose, &text, sink),
+        Err(ScenarioFault::ReadFault) => Status::ReadFault,
+        Err(ScenarioFault::TooLong { .. }) => write_too_long(sink),
+        Err(ScenarioFault::Memory) => Status::Memory,
     }
 }

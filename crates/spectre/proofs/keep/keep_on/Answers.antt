@@ -1,8 +1,11 @@
-use Rattle.std.proofs.Common.{◌∙◌, List, ℕ, ap, subst}
+use Rattle.std.proofs.Common.{◌≡◌, ◌∙◌, List, ℕ, ap, subst}
 use Rattle.std.specs.Io.KnownBytes.{Appends}
 use Rattle.sp_io.specs.Whole.{AppendsFront}
+use Rattle.spectre.specs.Ends.{KeepsTo}
+use Rattle.spectre.specs.Faults.{status_of}
 use Rattle.spectre.specs.Keeping.{other_text}
-use Rattle.spectre.proofs.KeptExits.{exit_disk, exit_done, exit_feed, exit_memory, exit_other, exit_write}
+use Rattle.spectre.specs.declared.status.Status.TheVariants as status
+use Rattle.spectre.proofs.KeptExits.{exit_disk, exit_done, exit_feed, exit_memory, exit_other, exit_write, feed_status, line_ends, line_not}
 use Rattle.spectre.proofs.keep.keep_on.Goals as goal
 
 pub returns-in-Ok-clause-ends : goal.returns-in-Ok-clause-ends
@@ -44,3 +47,19 @@ returns-in-OtherChain-clause-ends g c = λ fresh tells.
     (taken c.end_with.new.sink) o.stored_bits o.stored o.fed_bits o.fed (rw o.is at c.in-Err.ensures.answers).1 c.end_with.result c.end_with.ensures.status
     (λ h. subst (λ (t : List ℕ). Appends (taken c.answer_stored.new.sink) (taken c.end_with.new.sink) t) line (c.end_with.ensures.text h))
     (subst (λ (t : List ℕ). AppendsFront (taken c.answer_stored.new.sink) (taken c.end_with.new.sink) t) line c.end_with.ensures.front)
+
+pub returns-in-OtherChain-clause-among : goal.returns-in-OtherChain-clause-among
+returns-in-OtherChain-clause-among g c = line_ends KeepsTo c.end_with.result status.OtherChain c.end_with.ensures.status tt tt
+
+pub returns-in-OtherChain-clause-read_cause : goal.returns-in-OtherChain-clause-read_cause
+returns-in-OtherChain-clause-read_cause g c = line_not status.ReadFault c.end_with.result status.OtherChain c.end_with.ensures.status (λ h. cc) (λ h. cc)
+
+pub returns-in-OtherChain-clause-disk_cause : goal.returns-in-OtherChain-clause-disk_cause
+returns-in-OtherChain-clause-disk_cause g c = line_not status.DiskFault c.end_with.result status.OtherChain c.end_with.ensures.status (λ h. cc) (λ h. cc)
+
+pub returns-in-Feed-clause-among : goal.returns-in-Feed-clause-among
+returns-in-Feed-clause-among g c = line_ends KeepsTo c.write_fault.result (status_of c.in-Feed.fault) c.write_fault.ensures.status tt (feed_status KeepsTo c.in-Feed.fault tt tt tt tt)
+
+pub returns-in-Feed-clause-disk_cause : goal.returns-in-Feed-clause-disk_cause
+returns-in-Feed-clause-disk_cause g c =
+    line_not status.DiskFault c.write_fault.result (status_of c.in-Feed.fault) c.write_fault.ensures.status (λ h. cc) (feed_status (λ s. s ≡ status.DiskFault → ⊥) c.in-Feed.fault (λ h. cc) (λ h. cc) (λ h. cc) (λ h. cc))

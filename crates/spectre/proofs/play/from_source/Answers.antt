@@ -9,6 +9,49 @@ use Rattle.spectre.specs.Scenes.{scene_output}
 use Rattle.spectre.proofs.Outputs.{is_short, on_input, on_limit, on_nothing, on_played, on_too_long, output_short}
 use Rattle.spectre.proofs.play.from_source.Goals as goal
 
+pub run_text-requires : goal.run_text-requires
+run_text-requires g c = omega (arith, c.deref.ensures.len, c.in-Ok.ensures.short)
+
+pub returns-in-Ok-clause-done : goal.returns-in-Ok-clause-done
+returns-in-Ok-clause-done g c = λ e.
+    let a = g.K.Sink.taken c.args.sink.now in
+    let b = g.K.Sink.taken c.run_text.new.sink in
+    let text = c.in-Ok.text.items in
+    let short : length text < scenario_limit = omega (arith, ap length c.deref.ensures.value, c.deref.ensures.len, c.in-Ok.ensures.short) in
+    let did = subst (λ (t : List ℕ). Appends a b (scene_output c.args.purpose (scene t)) × IsNone (scene t).fault) c.deref.ensures.value (c.run_text.ensures.done e) in
+    on_input (λ (input : List ℕ). Appends a b (source_output c.args.purpose input) × IsWholeScene input) (g.S.Source.left c.args.source.now) (g.S.Source.left c.read_scenario.new.source) text c.in-Ok.ensures.bytes c.in-Ok.ensures.end (
+      subst (λ (t : List ℕ). Appends a b t) (sym (output_short c.args.purpose text (is_short (length text) short))) did.0,
+      record { right = did.1; short = short },
+    )
+
+pub returns-in-Ok-clause-malformed : goal.returns-in-Ok-clause-malformed
+returns-in-Ok-clause-malformed g c = λ e.
+    let a = g.K.Sink.taken c.args.sink.now in
+    let b = g.K.Sink.taken c.run_text.new.sink in
+    let text = c.in-Ok.text.items in
+    let short : length text < scenario_limit = omega (arith, ap length c.deref.ensures.value, c.deref.ensures.len, c.in-Ok.ensures.short) in
+    let did = subst (λ (t : List ℕ). Appends a b (scene_output c.args.purpose (scene t)) × IsSome (scene t).fault) c.deref.ensures.value (c.run_text.ensures.malformed e) in
+    on_input (λ (input : List ℕ). Appends a b (source_output c.args.purpose input) × IsFaultyScene input) (g.S.Source.left c.args.source.now) (g.S.Source.left c.read_scenario.new.source) text c.in-Ok.ensures.bytes c.in-Ok.ensures.end (
+      subst (λ (t : List ℕ). Appends a b t) (sym (output_short c.args.purpose text (is_short (length text) short))) did.0,
+      record { wrong = did.1; short = short },
+    )
+
+pub returns-in-Ok-clause-write_fault : goal.returns-in-Ok-clause-write_fault
+returns-in-Ok-clause-write_fault g c = λ e.
+    let a = g.K.Sink.taken c.args.sink.now in
+    let b = g.K.Sink.taken c.run_text.new.sink in
+    let short : length c.in-Ok.text.items < scenario_limit = omega (arith, ap length c.deref.ensures.value, c.deref.ensures.len, c.in-Ok.ensures.short) in
+    let front = subst (λ (t : List ℕ). AppendsFront a b (scene_output c.args.purpose (scene t))) c.deref.ensures.value (c.run_text.ensures.write_fault e) in
+    on_played c.args.purpose (AppendsFront a b) (g.S.Source.left c.args.source.now) (g.S.Source.left c.read_scenario.new.source) c.in-Ok.text.items c.in-Ok.ensures.bytes c.in-Ok.ensures.end short front
+
+pub returns-in-Ok-clause-memory : goal.returns-in-Ok-clause-memory
+returns-in-Ok-clause-memory g c = λ e.
+    let a = g.K.Sink.taken c.args.sink.now in
+    let b = g.K.Sink.taken c.run_text.new.sink in
+    let short : length c.in-Ok.text.items < scenario_limit = omega (arith, ap length c.deref.ensures.value, c.deref.ensures.len, c.in-Ok.ensures.short) in
+    let front = subst (λ (t : List ℕ). AppendsFront a b (scene_output c.args.purpose (scene t))) c.deref.ensures.value (c.run_text.ensures.memory e) in
+    on_played c.args.purpose (AppendsFront a b) (g.S.Source.left c.args.source.now) (g.S.Source.left c.read_scenario.new.source) c.in-Ok.text.items c.in-Ok.ensures.bytes c.in-Ok.ensures.end short front
+
 pub returns-in-Err-TooLong-clause-write_fault : goal.returns-in-Err-TooLong-clause-write_fault
 returns-in-Err-TooLong-clause-write_fault g c = λ e.
     let a = g.K.Sink.taken c.args.sink.now in
@@ -23,45 +66,3 @@ returns-in-Err-TooLong-clause-too_long_end g c = λ _.
 
 pub returns-in-Err-Memory-clause-memory : goal.returns-in-Err-Memory-clause-memory
 returns-in-Err-Memory-clause-memory g c = λ _. on_nothing c.args.purpose (g.K.Sink.taken c.args.sink.now) (g.S.Source.left c.args.source.now)
-
-pub returns-in-Err-WriteFault-clause-write_fault : goal.returns-in-Err-WriteFault-clause-write_fault
-returns-in-Err-WriteFault-clause-write_fault g c = λ _.
-    let a = g.K.Sink.taken c.args.sink.now in
-    let b = g.K.Sink.taken c.on_text.new.sink in
-    let short : length c.in-Ok.text.items < scenario_limit = omega (arith, ap length c.deref.ensures.value, c.deref.ensures.len, c.in-Ok.ensures.short) in
-    let P : List ℕ → Type 0 = λ text. AppendsFront a b (scene_output c.args.purpose (scene text)) in
-    on_played c.args.purpose (AppendsFront a b) (g.S.Source.left c.args.source.now) (g.S.Source.left c.read_scenario.new.source) c.in-Ok.text.items c.in-Ok.ensures.bytes c.in-Ok.ensures.end short (subst P c.deref.ensures.value c.in-Err-WriteFault.ensures.err)
-
-pub returns-clause-memory : goal.returns-clause-memory
-returns-clause-memory g c = λ _.
-    let a = g.K.Sink.taken c.args.sink.now in
-    let b = g.K.Sink.taken c.on_text.new.sink in
-    let short : length c.in-Ok.text.items < scenario_limit = omega (arith, ap length c.deref.ensures.value, c.deref.ensures.len, c.in-Ok.ensures.short) in
-    let P : List ℕ → Type 0 = λ text. AppendsFront a b (scene_output c.args.purpose (scene text)) in
-    on_played c.args.purpose (AppendsFront a b) (g.S.Source.left c.args.source.now) (g.S.Source.left c.read_scenario.new.source) c.in-Ok.text.items c.in-Ok.ensures.bytes c.in-Ok.ensures.end short (subst P c.deref.ensures.value c.in-Err-Memory-on_text.ensures.err)
-
-pub returns-in-Ok-Whole-clause-done : goal.returns-in-Ok-Whole-clause-done
-returns-in-Ok-Whole-clause-done g c = λ _.
-    let a = g.K.Sink.taken c.args.sink.now in
-    let b = g.K.Sink.taken c.on_text.new.sink in
-    let text = c.in-Ok.text.items in
-    let short : length text < scenario_limit = omega (arith, ap length c.deref.ensures.value, c.deref.ensures.len, c.in-Ok.ensures.short) in
-    let wrote = subst (λ (t : List ℕ). Appends a b (scene_output c.args.purpose (scene t))) c.deref.ensures.value c.in-Ok-Whole.ensures.ok in
-    let ends = rw c.in-Ok-Whole.field-0-is at c.in-Ok-Whole.ensures.ending in
-    on_input (λ (input : List ℕ). Appends a b (source_output c.args.purpose input) × IsWholeScene input) (g.S.Source.left c.args.source.now) (g.S.Source.left c.read_scenario.new.source) text c.in-Ok.ensures.bytes c.in-Ok.ensures.end (
-      subst (λ (t : List ℕ). Appends a b t) (sym (output_short c.args.purpose text (is_short (length text) short))) wrote,
-      record { right = subst (λ (t : List ℕ). IsNone (scene t).fault) c.deref.ensures.value ends; short = short },
-    )
-
-pub returns-in-Ok-Faulty-clause-malformed : goal.returns-in-Ok-Faulty-clause-malformed
-returns-in-Ok-Faulty-clause-malformed g c = λ _.
-    let a = g.K.Sink.taken c.args.sink.now in
-    let b = g.K.Sink.taken c.on_text.new.sink in
-    let text = c.in-Ok.text.items in
-    let short : length text < scenario_limit = omega (arith, ap length c.deref.ensures.value, c.deref.ensures.len, c.in-Ok.ensures.short) in
-    let wrote = subst (λ (t : List ℕ). Appends a b (scene_output c.args.purpose (scene t))) c.deref.ensures.value c.in-Ok-Faulty.ensures.ok in
-    let ends = rw c.in-Ok-Faulty.field-0-is at c.in-Ok-Faulty.ensures.ending in
-    on_input (λ (input : List ℕ). Appends a b (source_output c.args.purpose input) × IsFaultyScene input) (g.S.Source.left c.args.source.now) (g.S.Source.left c.read_scenario.new.source) text c.in-Ok.ensures.bytes c.in-Ok.ensures.end (
-      subst (λ (t : List ℕ). Appends a b t) (sym (output_short c.args.purpose text (is_short (length text) short))) wrote,
-      record { wrong = subst (λ (t : List ℕ). IsSome (scene t).fault) c.deref.ensures.value ends; short = short },
-    )

@@ -1,9 +1,10 @@
-use Rattle.std.proofs.Common.{◌≡◌, ◌∙◌, None, Some, Err, IfSome, Option, refl, ap, sym, subst}
+use Rattle.std.proofs.Common.{◌≡◌, ◌∙◌, None, Some, Ok, Err, IfSome, Option, refl, ap, sym, subst}
 use Rattle.std.specs.Io.KnownBytes.{Appends}
 use Rattle.std.proofs.lemmas.Result.{err_from_is_err_and}
 use Rattle.sp_io.specs.Whole.{AppendsFront}
 use Rattle.sp_feed.specs.Kinds.{Said}
 use Rattle.sp_feed.specs.Reader.{last_of}
+use Rattle.sp_feed.specs.Reads.{moment}
 use Rattle.sp_feed.proofs.WholeFeeds.{behind_open, from_limit, tells}
 use Rattle.sp_names.specs.Labels.{no_labels}
 use Rattle.sp_node.specs.Answers.{kept_then, reply_of}
@@ -31,8 +32,10 @@ messages-init g c = record {
 
 pub returns-in_err-next-clause-replies : goal.returns-in_err-next-clause-replies
 returns-in_err-next-clause-replies g c =
+    let mid = moment (g.S.Source.left c.messages.source) (g.S.Source.faults c.messages.source) c.messages.reader.taken in
+    let now = moment (g.S.Source.left c.next.new.source) (g.S.Source.faults c.next.new.source) c.next.new.self.taken in
     let p = err_from_is_err_and c.from_residual.result c.from_residual.ensures.1 in
-    rw (p.1, p.2) (λ before start old h. secures_fault before (c.messages.invariant.answering before start old h) c.messages.invariant.run (from_limit c.messages.invariant.limit (c.in_err-next.ensures.gives c.messages.invariant.unended)))
+    rw (p.1, p.2) (λ before start old h. secures_fault before (c.messages.invariant.answering before start old h) c.messages.invariant.run (from_limit {old = mid} {now = now} {r = Err c.in_err-next.field-0.0} c.messages.invariant.limit (c.in_err-next.ensures.gives c.messages.invariant.unended)))
 
 pub returns-in_err-next-clause-read_quiet : goal.returns-in_err-next-clause-read_quiet
 returns-in_err-next-clause-read_quiet g c =
@@ -46,10 +49,14 @@ returns-in_err-next-clause-cause g c =
 
 pub returns-in-End-clause-replies : goal.returns-in-End-clause-replies
 returns-in-End-clause-replies g c =
-    λ before start old h. secures_end before (c.messages.invariant.answering before start old h) c.messages.invariant.run (from_limit c.messages.invariant.limit (c.in_ok-next.ensures.gives c.messages.invariant.unended)) (sym c.in-End.ensures)
+    let mid = moment (g.S.Source.left c.messages.source) (g.S.Source.faults c.messages.source) c.messages.reader.taken in
+    let now = moment (g.S.Source.left c.next.new.source) (g.S.Source.faults c.next.new.source) c.next.new.self.taken in
+    λ before start old h. secures_end before (c.messages.invariant.answering before start old h) c.messages.invariant.run (from_limit {old = mid} {now = now} {r = Ok tt} c.messages.invariant.limit (c.in_ok-next.ensures.gives c.messages.invariant.unended)) (sym c.in-End.ensures)
 
 pub messages-preserved : goal.messages-preserved
 messages-preserved g c =
+    let mid = moment (g.S.Source.left c.messages.source) (g.S.Source.faults c.messages.source) c.messages.reader.taken in
+    let now = moment (g.S.Source.left c.next.new.source) (g.S.Source.faults c.next.new.source) c.next.new.self.taken in
     let s = tells c.message-message.result c.in_default.not-End in
     let is : last_of c.next.new.self.stage ≡ Some s.0 = sym c.message-message.ensures ∙ s.1 in
     let bits = c.messages.node.bits in
@@ -68,7 +75,7 @@ messages-preserved g c =
           (subst (λ (o : Option Said). IfSome o (λ said. LeavesOn c.messages.node.journal (g.D.Disk.now c.messages.disk) (g.D.Disk.now c.message.new.disk) (HoldsThen bits kept said))) s.1 e.any_moment);
       uncalled = λ none. (e.uncalled (none_on c.messages.node.journal first.journal c.messages.invariant.run.has none)).0 ∙ c.messages.invariant.uncalled none;
       disk_quiet = e.disk_quiet (λ h. cc) ∙ c.messages.invariant.disk_quiet;
-      answering = λ before start old h. one_more before s.0 (c.messages.invariant.answering before start old h) (from_limit c.messages.invariant.limit (c.in_ok-next.ensures.gives c.messages.invariant.unended)) is
+      answering = λ before start old h. one_more before s.0 (c.messages.invariant.answering before start old h) (from_limit {old = mid} {now = now} {r = Ok tt} c.messages.invariant.limit (c.in_ok-next.ensures.gives c.messages.invariant.unended)) is
           (subst (λ (o : Option Said). IfSome o (λ said. Appends (g.K.Sink.taken c.messages.sink) (g.K.Sink.taken c.message.new.sink) (reply_of no_labels bits kept said))) s.1 e.ok)
           then e.bits;
       read_quiet = c.in_ok-next.ensures.quiet ∙ c.messages.invariant.read_quiet;
@@ -77,6 +84,8 @@ messages-preserved g c =
 
 pub returns-in_err-message-in_default : goal.returns-in_err-message-in_default
 returns-in_err-message-in_default g c =
+    let mid = moment (g.S.Source.left c.messages.source) (g.S.Source.faults c.messages.source) c.messages.reader.taken in
+    let now = moment (g.S.Source.left c.next.new.source) (g.S.Source.faults c.next.new.source) c.next.new.self.taken in
     let p = err_from_is_err_and c.from_residual-in_err-message-in_default.result c.from_residual-in_err-message-in_default.ensures.1 in
     let s = tells c.message-message.result c.in_default.not-End in
     let is : last_of c.next.new.self.stage ≡ Some s.0 = sym c.message-message.ensures ∙ s.1 in
@@ -91,7 +100,7 @@ returns-in_err-message-in_default g c =
     let taken = g.K.Sink.taken in
     rw (p.1, p.2) (record {
       replies = λ before start old h. secures_stop before (c.messages.invariant.answering before start old h) c.messages.invariant.run s.0 are (g.met.D.Disk.is_moment c.messages.disk) (g.met.D.Disk.is_moment c.message.new.disk) e.told then
-          c.message.new.self.bits c.message.new.self.kept c.message.new.self.journal f (from_limit c.messages.invariant.limit (c.in_ok-next.ensures.gives c.messages.invariant.unended)) is
+          c.message.new.self.bits c.message.new.self.kept c.message.new.self.journal f (from_limit {old = mid} {now = now} {r = Ok tt} c.messages.invariant.limit (c.in_ok-next.ensures.gives c.messages.invariant.unended)) is
           (λ d. ap taken (e.silent (ap (λ t. Err t) d))) (λ d. ap taken (e.memory (ap (λ t. Err t) d))) front e.bits
           (λ d. subst (λ (o : Option Said). IfSome o (λ said. c.message.new.self.kept ≡ kept_then bits kept said)) s.1 (e.kept_unwritten (ap (λ t. Err t) d))) e.has (λ d. e.acknowledged_unwritten (ap (λ t. Err t) d));
       uncalled = λ none.

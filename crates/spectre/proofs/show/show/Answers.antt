@@ -4,8 +4,10 @@ use Rattle.sp_io.specs.Whole.{AppendsFront}
 use Rattle.sp_io.proofs.Writing.{wrote_none}
 use Rattle.sp_journal.specs.Opening.{contents_in}
 use Rattle.sp_journal.specs.Records.{Damaged as damaged, Found as found, NoJournal, records}
+use Rattle.spectre.specs.Ends.{Shows}
 use Rattle.spectre.specs.Journals.{shown_output}
 use Rattle.spectre.specs.declared.status.Status.TheVariants as status
+use Rattle.spectre.proofs.KeptExits.{line_ends, line_not}
 use Rattle.spectre.proofs.KeptRuns.{on_one}
 use Rattle.spectre.proofs.Shown.{if_more, shown_at, shown_text}
 use Rattle.spectre.proofs.show.show.Goals as goal
@@ -89,3 +91,57 @@ pub returns-in-Memory-clause-memory : goal.returns-in-Memory-clause-memory
 returns-in-Memory-clause-memory g c = λ e.
     let a = g.K.Sink.taken c.args.sink.now in
     on_one (g.D.Disk.now c.args.disk.now).reads (λ bytes. AppendsFront a a (shown_output bytes)) (λ bytes r. (shown_output bytes, wrote_none a (shown_output bytes)))
+
+pub returns-in-Ok-Empty-clause-done : goal.returns-in-Ok-Empty-clause-done
+returns-in-Ok-Empty-clause-done g c = line_not status.Done c.end_with.result status.NotJournal c.end_with.ensures.status (λ h. cc) (λ h. cc)
+
+pub returns-in-Ok-Empty-clause-damaged : goal.returns-in-Ok-Empty-clause-damaged
+returns-in-Ok-Empty-clause-damaged g c = line_not status.Damaged c.end_with.result status.NotJournal c.end_with.ensures.status (λ h. cc) (λ h. cc)
+
+pub returns-in-Ok-Empty-clause-disk_fault : goal.returns-in-Ok-Empty-clause-disk_fault
+returns-in-Ok-Empty-clause-disk_fault g c = line_not status.DiskFault c.end_with.result status.NotJournal c.end_with.ensures.status (λ h. cc) (λ h. cc)
+
+pub returns-in-Ok-Empty-clause-disk_cause : goal.returns-in-Ok-Empty-clause-disk_cause
+returns-in-Ok-Empty-clause-disk_cause g c = line_not status.DiskFault c.end_with.result status.NotJournal c.end_with.ensures.status (λ h. cc) (λ h. cc)
+
+pub returns-in-Ok-Empty-clause-memory : goal.returns-in-Ok-Empty-clause-memory
+returns-in-Ok-Empty-clause-memory g c = line_not status.Memory c.end_with.result status.NotJournal c.end_with.ensures.status (λ h. cc) (λ h. cc)
+
+pub returns-in-Ok-Empty-clause-among : goal.returns-in-Ok-Empty-clause-among
+returns-in-Ok-Empty-clause-among g c = line_ends Shows c.end_with.result status.NotJournal c.end_with.ensures.status tt tt
+
+pub returns-in-NotJournal-clause-done : goal.returns-in-NotJournal-clause-done
+returns-in-NotJournal-clause-done g c = line_not status.Done c.end_with-in-NotJournal.result status.NotJournal c.end_with-in-NotJournal.ensures.status (λ h. cc) (λ h. cc)
+
+pub returns-in-NotJournal-clause-damaged : goal.returns-in-NotJournal-clause-damaged
+returns-in-NotJournal-clause-damaged g c = line_not status.Damaged c.end_with-in-NotJournal.result status.NotJournal c.end_with-in-NotJournal.ensures.status (λ h. cc) (λ h. cc)
+
+pub returns-in-NotJournal-clause-disk_fault : goal.returns-in-NotJournal-clause-disk_fault
+returns-in-NotJournal-clause-disk_fault g c = line_not status.DiskFault c.end_with-in-NotJournal.result status.NotJournal c.end_with-in-NotJournal.ensures.status (λ h. cc) (λ h. cc)
+
+pub returns-in-NotJournal-clause-disk_cause : goal.returns-in-NotJournal-clause-disk_cause
+returns-in-NotJournal-clause-disk_cause g c = line_not status.DiskFault c.end_with-in-NotJournal.result status.NotJournal c.end_with-in-NotJournal.ensures.status (λ h. cc) (λ h. cc)
+
+pub returns-in-NotJournal-clause-memory : goal.returns-in-NotJournal-clause-memory
+returns-in-NotJournal-clause-memory g c = line_not status.Memory c.end_with-in-NotJournal.result status.NotJournal c.end_with-in-NotJournal.ensures.status (λ h. cc) (λ h. cc)
+
+pub returns-in-NotJournal-clause-among : goal.returns-in-NotJournal-clause-among
+returns-in-NotJournal-clause-among g c = line_ends Shows c.end_with-in-NotJournal.result status.NotJournal c.end_with-in-NotJournal.ensures.status tt tt
+
+pub returns-in-Damaged-clause-done : goal.returns-in-Damaged-clause-done
+returns-in-Damaged-clause-done g c = line_not status.Done c.end_with-in-Damaged.result status.Damaged c.end_with-in-Damaged.ensures.status (λ h. cc) (λ h. cc)
+
+pub returns-in-Damaged-clause-not_journal : goal.returns-in-Damaged-clause-not_journal
+returns-in-Damaged-clause-not_journal g c = line_not status.NotJournal c.end_with-in-Damaged.result status.Damaged c.end_with-in-Damaged.ensures.status (λ h. cc) (λ h. cc)
+
+pub returns-in-Damaged-clause-disk_fault : goal.returns-in-Damaged-clause-disk_fault
+returns-in-Damaged-clause-disk_fault g c = line_not status.DiskFault c.end_with-in-Damaged.result status.Damaged c.end_with-in-Damaged.ensures.status (λ h. cc) (λ h. cc)
+
+pub returns-in-Damaged-clause-disk_cause : goal.returns-in-Damaged-clause-disk_cause
+returns-in-Damaged-clause-disk_cause g c = line_not status.DiskFault c.end_with-in-Damaged.result status.Damaged c.end_with-in-Damaged.ensures.status (λ h. cc) (λ h. cc)
+
+pub returns-in-Damaged-clause-memory : goal.returns-in-Damaged-clause-memory
+returns-in-Damaged-clause-memory g c = line_not status.Memory c.end_with-in-Damaged.result status.Damaged c.end_with-in-Damaged.ensures.status (λ h. cc) (λ h. cc)
+
+pub returns-in-Damaged-clause-among : goal.returns-in-Damaged-clause-among
+returns-in-Damaged-clause-among g c = line_ends Shows c.end_with-in-Damaged.result status.Damaged c.end_with-in-Damaged.ensures.status tt tt

@@ -1,0 +1,193 @@
+use Rattle.std.proofs.Common.{Some, sym, subst}
+use Rattle.spectre.specs.Ends.{Makes, Plays, Replays, Shows}
+use Rattle.spectre.specs.JobEnds.{JobEnds, WritesBy}
+use Rattle.spectre.specs.declared.job.Job.{Job}
+use Rattle.spectre.specs.declared.job.Job.TheVariants as jobs
+use Rattle.spectre.proofs.Resting.{if_some}
+use Rattle.spectre.proofs.TopCall.{kept_ends, left_whole, on_status}
+use Rattle.spectre.proofs.doing.do_job.Goals as goal
+
+pub returns-in-Replay-clause-ends : goal.returns-in-Replay-clause-ends
+returns-in-Replay-clause-ends g c =
+    let first = g.D.Disk.now c.args.disk.now in
+    let last = first in
+    let before = g.S.Source.left c.args.source.now in
+    let after = g.S.Source.left c.replay.new.source in
+    let old = g.K.Sink.taken c.args.sink.now in
+    let new = g.K.Sink.taken c.replay.new.sink in
+    let e = c.replay.ensures in
+    let job = jobs.Replay in
+    subst (λ (j : Job). JobEnds (Some j) first.reads before after old new first last c.replay.result) (sym c.in-Replay.is) record {
+      by = on_status (WritesBy (Some job) first.reads before after old new) c.replay.result
+          (λ s. (e.done s, e.done_end s))
+          (λ s. absurd (subst Replays s e.among))
+          (λ s. (e.malformed s, λ takes. absurd takes))
+          (λ s. (e.truncated s, e.truncated_end s))
+          (λ s. λ fed. e.read_fault s)
+          (λ s. e.write_fault s)
+          (λ s. absurd (subst Replays s e.among))
+          (λ s. absurd (subst Replays s e.among))
+          (λ s. absurd (subst Replays s e.among))
+          (λ s. e.memory s)
+          (λ s. absurd (subst Replays s e.among))
+          (λ s. (e.too_long s, e.too_long_end s));
+      taken = λ takes. absurd takes;
+      taken_fed = λ _. e.taken;
+      crash = tt;
+    }
+
+pub returns-in-Keep-clause-ends : goal.returns-in-Keep-clause-ends
+returns-in-Keep-clause-ends g c =
+    let first = g.D.Disk.now c.args.disk.now in
+    let last = g.D.Disk.now c.keep.new.disk in
+    let before = g.S.Source.left c.args.source.now in
+    let after = g.S.Source.left c.keep.new.source in
+    let old = g.K.Sink.taken c.args.sink.now in
+    let new = g.K.Sink.taken c.keep.new.sink in
+    subst (λ (j : Job). JobEnds (Some j) first.reads before after old new first last c.keep.result) (sym c.in-Keep.is)
+    (kept_ends c.in-Keep.path c.in-Keep.fresh first.reads before after old new first last c.keep.result c.keep.ensures.ends)
+
+pub returns-in-Show-clause-ends : goal.returns-in-Show-clause-ends
+returns-in-Show-clause-ends g c =
+    let first = g.D.Disk.now c.args.disk.now in
+    let last = g.D.Disk.now c.show.new.disk in
+    let before = g.S.Source.left c.args.source.now in
+    let after = before in
+    let old = g.K.Sink.taken c.args.sink.now in
+    let new = g.K.Sink.taken c.show.new.sink in
+    let e = c.show.ensures in
+    let job = jobs.Show c.in-Show.path in
+    subst (λ (j : Job). JobEnds (Some j) first.reads before after old new first last c.show.result) (sym c.in-Show.is) record {
+      by = on_status (WritesBy (Some job) first.reads before after old new) c.show.result
+          (λ s. (if_some _ before (λ input. e.done s), left_whole before))
+          (λ s. absurd (subst Shows s e.among))
+          (λ s. absurd (subst Shows s e.among))
+          (λ s. absurd (subst Shows s e.among))
+          (λ s. absurd (subst Shows s e.among))
+          (λ s. if_some _ before (λ input. e.write_fault s))
+          (λ s. λ fed. absurd fed)
+          (λ s. if_some _ before (λ input. e.not_journal s))
+          (λ s. absurd (subst Shows s e.among))
+          (λ s. if_some _ before (λ input. e.memory s))
+          (λ s. if_some _ before (λ input. e.damaged s))
+          (λ s. absurd (subst Shows s e.among));
+      taken = λ takes. absurd takes;
+      taken_fed = λ fed. absurd fed;
+      crash = tt;
+    }
+
+pub returns-in-Play-clause-ends : goal.returns-in-Play-clause-ends
+returns-in-Play-clause-ends g c =
+    let first = g.D.Disk.now c.args.disk.now in
+    let last = first in
+    let before = g.S.Source.left c.args.source.now in
+    let after = g.S.Source.left c.from_source.new.source in
+    let old = g.K.Sink.taken c.args.sink.now in
+    let new = g.K.Sink.taken c.from_source.new.sink in
+    let e = c.from_source.ensures in
+    let job = jobs.Play in
+    subst (λ (j : Job). JobEnds (Some j) first.reads before after old new first last c.from_source.result) (sym c.in-Play.is) record {
+      by = on_status (WritesBy (Some job) first.reads before after old new) c.from_source.result
+          (λ s. (e.done s, e.done_end s))
+          (λ s. absurd (subst Plays s e.among))
+          (λ s. (e.malformed s, λ _. e.malformed_end s))
+          (λ s. absurd (subst Plays s e.among))
+          (λ s. λ fed. absurd fed)
+          (λ s. e.write_fault s)
+          (λ s. absurd (subst Plays s e.among))
+          (λ s. absurd (subst Plays s e.among))
+          (λ s. absurd (subst Plays s e.among))
+          (λ s. e.memory s)
+          (λ s. absurd (subst Plays s e.among))
+          (λ s. (e.too_long s, e.too_long_end s));
+      taken = λ _. e.taken;
+      taken_fed = λ fed. absurd fed;
+      crash = tt;
+    }
+
+pub returns-in-Build-clause-ends : goal.returns-in-Build-clause-ends
+returns-in-Build-clause-ends g c =
+    let first = g.D.Disk.now c.args.disk.now in
+    let last = first in
+    let before = g.S.Source.left c.args.source.now in
+    let after = g.S.Source.left c.from_source-in-Build.new.source in
+    let old = g.K.Sink.taken c.args.sink.now in
+    let new = g.K.Sink.taken c.from_source-in-Build.new.sink in
+    let e = c.from_source-in-Build.ensures in
+    let job = jobs.Build in
+    subst (λ (j : Job). JobEnds (Some j) first.reads before after old new first last c.from_source-in-Build.result) (sym c.in-Build.is) record {
+      by = on_status (WritesBy (Some job) first.reads before after old new) c.from_source-in-Build.result
+          (λ s. (e.done s, e.done_end s))
+          (λ s. absurd (subst Plays s e.among))
+          (λ s. (e.malformed s, λ _. e.malformed_end s))
+          (λ s. absurd (subst Plays s e.among))
+          (λ s. λ fed. absurd fed)
+          (λ s. e.write_fault s)
+          (λ s. absurd (subst Plays s e.among))
+          (λ s. absurd (subst Plays s e.among))
+          (λ s. absurd (subst Plays s e.among))
+          (λ s. e.memory s)
+          (λ s. absurd (subst Plays s e.among))
+          (λ s. (e.too_long s, e.too_long_end s));
+      taken = λ _. e.taken;
+      taken_fed = λ fed. absurd fed;
+      crash = tt;
+    }
+
+pub returns-in-Make-clause-ends : goal.returns-in-Make-clause-ends
+returns-in-Make-clause-ends g c =
+    let first = g.D.Disk.now c.args.disk.now in
+    let last = first in
+    let before = g.S.Source.left c.args.source.now in
+    let after = before in
+    let old = g.K.Sink.taken c.args.sink.now in
+    let new = g.K.Sink.taken c.make_text.new.sink in
+    let e = c.make_text.ensures in
+    let job = jobs.Make c.in-Make.n c.in-Make.seed c.in-Make.width in
+    subst (λ (j : Job). JobEnds (Some j) first.reads before after old new first last c.make_text.result) (sym c.in-Make.is) record {
+      by = on_status (WritesBy (Some job) first.reads before after old new) c.make_text.result
+          (λ s. (if_some _ before (λ input. (e.done s, tt)), left_whole before))
+          (λ s. absurd (subst Makes s e.among))
+          (λ s. absurd (e.whole s))
+          (λ s. absurd (subst Makes s e.among))
+          (λ s. absurd (subst Makes s e.among))
+          (λ s. if_some _ before (λ input. e.write_fault s))
+          (λ s. absurd (subst Makes s e.among))
+          (λ s. absurd (subst Makes s e.among))
+          (λ s. absurd (subst Makes s e.among))
+          (λ s. if_some _ before (λ input. e.memory s))
+          (λ s. absurd (subst Makes s e.among))
+          (λ s. absurd (subst Makes s e.among));
+      taken = λ takes. absurd takes;
+      taken_fed = λ fed. absurd fed;
+      crash = tt;
+    }
+
+pub returns-in-Drill-clause-ends : goal.returns-in-Drill-clause-ends
+returns-in-Drill-clause-ends g c =
+    let first = g.D.Disk.now c.args.disk.now in
+    let last = first in
+    let before = g.S.Source.left c.args.source.now in
+    let after = before in
+    let old = g.K.Sink.taken c.args.sink.now in
+    let new = g.K.Sink.taken c.drill_text.new.sink in
+    let e = c.drill_text.ensures in
+    let job = jobs.Drill c.in-Drill.n c.in-Drill.seed c.in-Drill.width in
+    subst (λ (j : Job). JobEnds (Some j) first.reads before after old new first last c.drill_text.result) (sym c.in-Drill.is) record {
+      by = on_status (WritesBy (Some job) first.reads before after old new) c.drill_text.result
+          (λ s. (if_some _ before (λ input. e.done s), left_whole before))
+          (λ s. absurd (subst Makes s e.among))
+          (λ s. (if_some _ before (λ input. e.malformed s), λ takes. absurd takes))
+          (λ s. absurd (subst Makes s e.among))
+          (λ s. absurd (subst Makes s e.among))
+          (λ s. if_some _ before (λ input. e.write_fault s))
+          (λ s. absurd (subst Makes s e.among))
+          (λ s. absurd (subst Makes s e.among))
+          (λ s. absurd (subst Makes s e.among))
+          (λ s. if_some _ before (λ input. e.memory s))
+          (λ s. absurd (subst Makes s e.among))
+          (λ s. absurd (subst Makes s e.among));
+      taken = λ takes. absurd takes;
+      taken_fed = λ fed. absurd fed;
+      crash = tt;
+    }
