@@ -20,7 +20,7 @@ ghost use Rattle.sp_engine.specs.declared.answer.Answer.TheVariants.{Kept};
 mod arrivals;
 mod money;
 
-use crate::answer::{Answer, Refusal};
+use crate::answer::Answer;
 use crate::first::{Decided, First, first_of};
 use crate::valid::valid_block;
 use crate::votes::Votes;

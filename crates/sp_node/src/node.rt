@@ -4,11 +4,9 @@ ghost use Rattle.std.specs.Prelude.{◌⊎◌, ◌≡◌, ◌≢◌, ◌≤◌, 
 ghost use Rattle.std.specs.Io.KnownBytes.{Appends};
 ghost use Rattle.sp_io.specs.Causes.{Rose};
 ghost use Rattle.sp_io.specs.Whole.{AppendsFront};
-ghost use Rattle.sp_feed.specs.Kinds.{SaysBalance, SaysBlock, SaysVote, SaysTx};
+ghost use Rattle.sp_feed.specs.Kinds.{SaysBalance, SaysVote, SaysTx};
 ghost use Rattle.sp_feed.specs.Messages.{said_by};
-ghost use Rattle.sp_report.specs.Asks.{ask_text};
 ghost use Rattle.sp_report.specs.Naming.{labels_of};
-ghost use Rattle.sp_report.specs.Texts.{text_of};
 ghost use Rattle.sp_engine.specs.Arrivals.{kept_by_all};
 ghost use Rattle.sp_journal.specs.Recovery.{bytes_in};
 ghost use Rattle.sp_journal.specs.Settled.{SameTold};
