@@ -1,7 +1,9 @@
 -- How a run with a journal ends, by how its feed was answered and by what was written last.
-use Rattle.std.proofs.Common.{◌≡◌, ◌≢◌, ◌⊎◌, inl, inr, ⊎_elim, ℕ, Bool, List, [], ◌++◌, length, Option, Some, None, IfSome, Result, Ok, Err, refl, sym, ap, subst, ◌∙◌, arith, length-append}
+use Rattle.std.proofs.Common.{◌≡◌, ◌≢◌, ◌⊎◌, inl, inr, ⊎_elim, ℕ, Bool, false, List, [], ◌++◌, length, Option, Some, None, IfSome, Result, Ok, Err, refl, sym, ap, subst, ◌∙◌, arith, length-append}
 use Rattle.std.specs.Io.KnownBytes.{Appends, Consumes, IsAtEnd}
+use Rattle.std.proofs.lemmas.Bool.{eqb-false}
 use Rattle.std.proofs.lemmas.List.{append-nil}
+use Rattle.std.proofs.Math.Dec.{eqb}
 use Rattle.sp_disk.specs.Moments.{IsMoment, Leaves, Looks, Moment as DiskMoment}
 use Rattle.sp_disk.specs.Images.{EachIs}
 use Rattle.sp_disk.proofs.Runs.{ends, joined, weaker}
@@ -25,6 +27,7 @@ use Rattle.sp_node.specs.Answers.{answers}
 use Rattle.sp_node.specs.Stored.{Tells}
 use Rattle.sp_node.specs.declared.stored.Stored.{Stored}
 use Rattle.sp_node.specs.declared.stored.Stored.TheVariants.{Empty, Found}
+use Rattle.spectre.specs.Codes.{code_of}
 use Rattle.spectre.specs.Crashes.{all_of, contents_by, EndsEarly, contents_of, contents_under, HoldsAcknowledged, HoldsAtLeast, HoldsFoundOrMore, IsSure, Recovers, Recovery}
 use Rattle.spectre.specs.Faults.{EndsMalformed, EndsTooLong, EndsTruncated, EndsWhole, feed_fault_text, status_of}
 use Rattle.spectre.specs.Journals.{Fits, found_blocks, HasOtherChain, kept_output, other_chain_text}
@@ -65,9 +68,13 @@ line_ends P result ended same write other = elim (is_write result) [
   | inr no_write ↦ subst P (sym (same no_write)) other
 ]
 
--- and by no other
-pub line_not : {X : Type 0} (t result ended : Status) → (result ≢ status.WriteFault → result ≡ ended) → (status.WriteFault ≡ t → ⊥) → (ended ≡ t → ⊥) → result ≡ t → X
-line_not t result ended same write other e = absurd (line_ends (λ s. s ≡ t → ⊥) result ended same write other e)
+-- statuses of different codes are different
+pub differ : (s t : Status) → eqb (code_of s) (code_of t) ≡ false → s ≡ t → ⊥
+differ s t apart e = eqb-false (code_of s) (code_of t) apart (ap code_of e)
+
+-- and by no other: a code tells each of the two from it
+pub line_not : {X : Type 0} (t result ended : Status) → (result ≢ status.WriteFault → result ≡ ended) → eqb (code_of status.WriteFault) (code_of t) ≡ false → eqb (code_of ended) (code_of t) ≡ false → result ≡ t → X
+line_not t result ended same write other e = absurd (line_ends (λ s. s ≡ t → ⊥) result ended same (differ status.WriteFault t write) (differ ended t other) e)
 
 pub on_map : (left reads : Option (List ℕ)) (P Q : List ℕ → List ℕ → Type 0) → ((disk input : List ℕ) → left ≡ Some input → reads ≡ Some disk → P disk input → Q disk input) → OnBoth left reads P → OnBoth left reads Q
 on_map None reads P Q f h = tt

@@ -1,6 +1,8 @@
-use Rattle.std.proofs.Common.{◌≡◌, ◌∙◌, List, ℕ, ap, subst}
+use Rattle.std.proofs.Common.{◌≡◌, ◌∙◌, false, List, ℕ, ap, refl, subst}
 use Rattle.std.specs.Io.KnownBytes.{Appends}
+use Rattle.std.proofs.Math.Dec.{eqb}
 use Rattle.sp_io.specs.Whole.{AppendsFront}
+use Rattle.spectre.specs.Codes.{code_of}
 use Rattle.spectre.specs.Ends.{KeepsTo}
 use Rattle.spectre.specs.Faults.{status_of}
 use Rattle.spectre.specs.Keeping.{other_text}
@@ -52,14 +54,14 @@ pub returns-in-OtherChain-clause-among : goal.returns-in-OtherChain-clause-among
 returns-in-OtherChain-clause-among g c = line_ends KeepsTo c.end_with.result status.OtherChain c.end_with.ensures.status tt tt
 
 pub returns-in-OtherChain-clause-read_cause : goal.returns-in-OtherChain-clause-read_cause
-returns-in-OtherChain-clause-read_cause g c = line_not status.ReadFault c.end_with.result status.OtherChain c.end_with.ensures.status (λ h. cc) (λ h. cc)
+returns-in-OtherChain-clause-read_cause g c = line_not status.ReadFault c.end_with.result status.OtherChain c.end_with.ensures.status refl refl
 
 pub returns-in-OtherChain-clause-disk_cause : goal.returns-in-OtherChain-clause-disk_cause
-returns-in-OtherChain-clause-disk_cause g c = line_not status.DiskFault c.end_with.result status.OtherChain c.end_with.ensures.status (λ h. cc) (λ h. cc)
+returns-in-OtherChain-clause-disk_cause g c = line_not status.DiskFault c.end_with.result status.OtherChain c.end_with.ensures.status refl refl
 
 pub returns-in-Feed-clause-among : goal.returns-in-Feed-clause-among
 returns-in-Feed-clause-among g c = line_ends KeepsTo c.write_fault.result (status_of c.in-Feed.fault) c.write_fault.ensures.status tt (feed_status KeepsTo c.in-Feed.fault tt tt tt tt)
 
 pub returns-in-Feed-clause-disk_cause : goal.returns-in-Feed-clause-disk_cause
 returns-in-Feed-clause-disk_cause g c =
-    line_not status.DiskFault c.write_fault.result (status_of c.in-Feed.fault) c.write_fault.ensures.status (λ h. cc) (feed_status (λ s. s ≡ status.DiskFault → ⊥) c.in-Feed.fault (λ h. cc) (λ h. cc) (λ h. cc) (λ h. cc))
+    line_not status.DiskFault c.write_fault.result (status_of c.in-Feed.fault) c.write_fault.ensures.status refl (feed_status (λ s. eqb (code_of s) (code_of status.DiskFault) ≡ false) c.in-Feed.fault refl refl refl refl)
