@@ -109,7 +109,7 @@ struct Row {
 }
 
 #[rattlefmt::skip]
-const ROWS: [Row; 6] = [
+const ROWS: &[Row] = &[
     // A child before its parent, and its parent twice.
     Row {
         parents: &[&[0], &[1]],

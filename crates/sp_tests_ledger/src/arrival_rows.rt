@@ -51,7 +51,7 @@ pub struct Row {
 }
 
 /// Each block in its order, and present at once.
-const ONE_BY_ONE: [Came; 9] = [
+const ONE_BY_ONE: &[Came] = &[
     (1, Told::Kept(1)),
     (2, Told::Kept(1)),
     (3, Told::Kept(1)),
@@ -115,7 +115,7 @@ pub const ROWS: &[Row] = &[
     // No order of the three agrees with all the words.
     Row {
         blocks: CYCLE,
-        came: &ONE_BY_ONE,
+        came: ONE_BY_ONE,
         order: &[0, 1, 2, 3, 4, 5, 6, 7, 8, 9],
         waiting: 0,
         said: &[(1, 2, Word::Before), (2, 3, Word::Before), (3, 1, Word::Before)],

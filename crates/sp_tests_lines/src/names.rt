@@ -17,7 +17,7 @@ use std::test::Fail;
 /// A genesis block whose two transactions give 100 to the lock of `abc` and 7 to the lock of `d`.
 /// Its ids and those of its children are SHA-256 by another program.
 #[rattlefmt::skip]
-const GRANTING: [u8; 104] = [
+const GRANTING: &[u8] = &[
     1, 0, 0, 0, 0, 0, 0, 0, 0, 0, 0, 0, 0, 0, 0, 0, 0, 0, 2, 0,
     0, 1, 100, 0, 0, 0, 0, 0, 0, 0,
     0xba, 0x78, 0x16, 0xbf, 0x8f, 0x01, 0xcf, 0xea, 0x41, 0x41, 0x40, 0xde, 0x5d, 0xae, 0x22, 0x23,
@@ -88,7 +88,7 @@ enum Row {
     Report,
 }
 
-const ROWS: [(Row, &str); 14] = [
+const ROWS: &[(Row, &str)] = &[
     (Row::Kept(SECOND), "kept late present 1\n"),
     (
         Row::Kept(FIRST),
@@ -232,7 +232,7 @@ fn is_told_after(alloc: Global, engine: &mut Engine, row: Row, text: &str) -> Re
 }
 
 fn engine_of(alloc: Global) -> Result<Engine, Fail> {
-    Ok(Engine::new(alloc, genesis_of(alloc, &GRANTING)?, 0)?)
+    Ok(Engine::new(alloc, genesis_of(alloc, GRANTING)?, 0)?)
 }
 
 fn is_told_anew(alloc: Global, row: Row, text: &str) -> Result<bool, Fail> {
@@ -360,7 +360,7 @@ fn is_answered(alloc: Global, node: &mut PlainNode) -> Result<bool, Fail> {
 }
 
 fn is_answered_anew(alloc: Global) -> Result<bool, Fail> {
-    let genesis = genesis_of(alloc, &GRANTING)?;
+    let genesis = genesis_of(alloc, GRANTING)?;
     let mut node = PlainNode::of(alloc, FeedHead { bits: 0, genesis })?;
     let is_so = is_answered(alloc, &mut node);
     drop(node);

@@ -33,7 +33,7 @@ struct Row {
     answers: &'static [(Sent, &'static str)],
 }
 
-const ROWS: [Row; 3] = [
+const ROWS: &[Row] = &[
     Row {
         bits: 0,
         answers: &[

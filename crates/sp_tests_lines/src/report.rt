@@ -24,7 +24,7 @@ use std::test::Fail;
 #[derive(Clone, Copy)]
 struct Refused(Refusal, &'static str);
 
-const REFUSALS: [Refused; 18] = [
+const REFUSALS: &[Refused] = &[
     Refused(Refusal::Spelling(BlockFault::TooLong), "refused too-long\n"),
     Refused(Refusal::Spelling(BlockFault::Short), "refused short\n"),
     Refused(Refusal::Spelling(BlockFault::Version), "refused version\n"),
@@ -182,7 +182,7 @@ fn wrong_in(alloc: Global, tale: &Tale<'_>, text: &str) -> Result<&'static str, 
 }
 
 #[rattlefmt::skip]
-const ANSWERS: [&str; 6] = [
+const ANSWERS: &[&str] = &[
     "kept 00112233445566778899aabbccddeeff0f1e2d3c4b5a69788796a5b4c3d2e1f0 present 1\n",
     "kept 00112233445566778899aabbccddeeff0f1e2d3c4b5a69788796a5b4c3d2e1f0 present 511\n",
     "kept 00112233445566778899aabbccddeeff0f1e2d3c4b5a69788796a5b4c3d2e1f0 waiting\n",
@@ -256,7 +256,7 @@ enum Made {
     BalanceCount(u32),
 }
 
-const MADE: [(Made, &str); 27] = [
+const MADE: &[(Made, &str)] = &[
     (Made::Kept(b"genesis", 0), "kept genesis present 0\n"),
     (Made::Kept(b"a", 9), "kept a present 9\n"),
     (Made::Kept(b"a", 10), "kept a present 10\n"),
@@ -341,7 +341,7 @@ fn other_lines(rt: HostRuntime) {
 #[derive(Clone, Copy)]
 struct Said(&'static str, &'static str, &'static str);
 
-const QUESTIONS: [Said; 4] = [
+const QUESTIONS: &[Said] = &[
     Said(
         GENESIS_ID,
         CHILD_ID,
@@ -398,7 +398,7 @@ fn wrong_question(alloc: Global, engine: &Engine, said: &Said) -> Result<&'stati
 /// What is wrong with the first of the questions that isn't answered rightly.
 fn wrong_questions(alloc: Global, engine: &mut Engine) -> Result<&'static str, Fail> {
     offer(engine, &child_of(alloc, 1, GENESIS_ID, 0)?)?;
-    for said in &QUESTIONS {
+    for said in QUESTIONS {
         let wrong = wrong_question(alloc, engine, said)?;
         if !wrong.is_empty() {
             return Ok(wrong);
@@ -426,7 +426,7 @@ fn questions(rt: HostRuntime) -> Result<(), Fail> {
     Ok(())
 }
 
-const STATES: [(TxState, &str); 3] = [
+const STATES: &[(TxState, &str)] = &[
     (TxState::Accepted, "tx pay accepted\n"),
     (TxState::Rejected, "tx pay rejected\n"),
     (TxState::Absent, "tx pay absent\n"),
@@ -477,7 +477,7 @@ const LOCK: &str = "ba7816bf8f01cfea414140de5dae2223b00361a396177a9cb410ff61f200
 /// The genesis block whose one transaction gives 100 to that lock. Its ids are SHA-256 by another
 /// program.
 #[rattlefmt::skip]
-const GRANTING: [u8; 62] = [
+const GRANTING: &[u8] = &[
     1, 0, 0, 0, 0, 0, 0, 0, 0, 0, 0, 0, 0, 0, 0, 0, 0, 0, 1, 0,
     0, 1, 100, 0, 0, 0, 0, 0, 0, 0,
     0xba, 0x78, 0x16, 0xbf, 0x8f, 0x01, 0xcf, 0xea, 0x41, 0x41, 0x40, 0xde, 0x5d, 0xae, 0x22, 0x23,
@@ -490,7 +490,7 @@ const REPORT: &str = "blocks 1 waiting 1\n\
      balances 1\n\
      balance ba7816bf8f01cfea414140de5dae2223b00361a396177a9cb410ff61f20015ad 100\n";
 
-const BALANCES: [(&str, &str); 2] = [
+const BALANCES: &[(&str, &str)] = &[
     (
         LOCK,
         "balance ba7816bf8f01cfea414140de5dae2223b00361a396177a9cb410ff61f20015ad 100\n",
@@ -513,7 +513,7 @@ fn wrong_balance(
 
 fn wrong_report(alloc: Global, engine: &mut Engine) -> Result<&'static str, Fail> {
     offer(engine, &child_of(alloc, 0, NOBODY, 0)?)?;
-    for (lock, text) in &BALANCES {
+    for (lock, text) in BALANCES {
         let wrong = wrong_balance(alloc, engine, lock, text)?;
         if !wrong.is_empty() {
             return Ok(wrong);
@@ -523,7 +523,7 @@ fn wrong_report(alloc: Global, engine: &mut Engine) -> Result<&'static str, Fail
 }
 
 fn wrong_report_anew(alloc: Global) -> Result<&'static str, Fail> {
-    let mut engine = engine_of(alloc, &GRANTING)?;
+    let mut engine = engine_of(alloc, GRANTING)?;
     let wrong = wrong_report(alloc, &mut engine);
     drop(engine);
     wrong

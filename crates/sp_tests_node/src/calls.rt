@@ -11,6 +11,7 @@ use sp_fixtures::Numbered;
 use sp_io::{Fails, MemSink};
 use sp_journal::{Gate, JournalFault};
 use sp_node::{NodeFault, StartFault};
+use std::process::Abort;
 use std::test::Fail;
 
 /// The line of the first block, whose id is SHA-256 by another program, as is that of the second.
@@ -80,33 +81,50 @@ fn run(blocks: &Numbered, disk: MemDisk, fresh: bool) -> Result<(Ran, MemDisk), 
     }
 }
 
-const OPENING: Option<Why> = Some(Why::Opening(JournalFault::DiskFault));
+/// Where a run ends whose disk fails.
+#[derive(Clone, Copy)]
+enum End {
+    Opening,
+    Starting,
+    Message,
+    /// At no call of the disk.
+    Whole,
+}
 
-const STARTING: Option<Why> = Some(Why::Starting(StartFault::DiskFault));
+/// What is answered there.
+fn why_of(end: End) -> Option<Why> {
+    match end {
+        End::Opening => Some(Why::Opening(JournalFault::DiskFault)),
+        End::Starting => Some(Why::Starting(StartFault::DiskFault)),
+        End::Message => Some(Why::Message(NodeFault::DiskFault)),
+        End::Whole => None,
+    }
+}
 
-const MESSAGE: Option<Why> = Some(Why::Message(NodeFault::DiskFault));
+/// The first call that fails, how many lines are written, where the run ends, and what each crash
+/// leaves then.
+type Row = (u32, usize, End, &'static [u8]);
 
-/// The first call that fails on an empty disk, how far the run came, and what each crash leaves then.
-/// Call 0 asks for the length, a creation has the calls 1 to 6, the first block 7 to 10, and the
-/// second 11 to 14. A line is written once its block's four calls are done.
+/// Call 0 of an empty disk asks for the length, a creation has the calls 1 to 6, the first block 7 to
+/// 10, and the second 11 to 14. A line is written once its block's four calls are done.
 #[rattlefmt::skip]
-const FAILING: [(u32, Ran, &[u8]); 16] = [
-    (0, (0, OPENING), b"----"),
-    (1, (0, STARTING), b"--co"),
-    (2, (0, STARTING), b"-cco"),
-    (3, (0, STARTING), b"cccc"),
-    (4, (0, STARTING), b"cccc"),
-    (5, (0, STARTING), b"ccc0"),
-    (6, (0, STARTING), b"c0c0"),
-    (7, (0, MESSAGE), b"0000"),
-    (8, (0, MESSAGE), b"0000"),
-    (9, (0, MESSAGE), b"0001"),
-    (10, (0, MESSAGE), b"0101"),
-    (11, (1, MESSAGE), b"1111"),
-    (12, (1, MESSAGE), b"1111"),
-    (13, (1, MESSAGE), b"1112"),
-    (14, (1, MESSAGE), b"1212"),
-    (15, (2, None), b"2222"),
+const FAILING: &[Row] = &[
+    (0, 0, End::Opening, b"----"),
+    (1, 0, End::Starting, b"--co"),
+    (2, 0, End::Starting, b"-cco"),
+    (3, 0, End::Starting, b"cccc"),
+    (4, 0, End::Starting, b"cccc"),
+    (5, 0, End::Starting, b"ccc0"),
+    (6, 0, End::Starting, b"c0c0"),
+    (7, 0, End::Message, b"0000"),
+    (8, 0, End::Message, b"0000"),
+    (9, 0, End::Message, b"0001"),
+    (10, 0, End::Message, b"0101"),
+    (11, 1, End::Message, b"1111"),
+    (12, 1, End::Message, b"1111"),
+    (13, 1, End::Message, b"1112"),
+    (14, 1, End::Message, b"1212"),
+    (15, 2, End::Whole, b"2222"),
 ];
 
 /// What is found as one letter, where no new journal may be made and where one may: none on an empty
@@ -147,19 +165,23 @@ fn records(letter: u8) -> usize {
     }
 }
 
+/// Runs while the disk's calls fail from this one on.
+fn fails_from(rt: &impl Abort, blocks: &Numbered, row: &Row) -> Result<(), Fail> {
+    let (call, lines, end, letters) = *row;
+    let none: &[u8] = &[];
+    let disk = disk_of(blocks.alloc, none, 4096, Fails::From(call))?;
+    let (ran, disk) = run(blocks, disk, false)?;
+    let left = crashes(blocks, &disk)?;
+    holds(rt, call as usize, ran == (lines, why_of(end)));
+    holds(rt, call as usize, left.as_slice() == letters);
+    Ok(())
+}
+
 #[test]
 fn each_call_failing(rt: HostRuntime) -> Result<(), Fail> {
     let blocks = Numbered::of(rt.alloc(), BLOCKS)?;
-    for (call, wanted, letters) in FAILING {
-        let none: &[u8] = &[];
-        let disk = disk_of(rt.alloc(), none, 4096, Fails::From(call))?;
-        let (ran, disk) = run(&blocks, disk, false)?;
-        holds(&rt, call as usize, ran == wanted);
-        holds(
-            &rt,
-            call as usize,
-            crashes(&blocks, &disk)?.as_slice() == letters,
-        );
+    for row in FAILING {
+        fails_from(&rt, &blocks, row)?;
     }
     Ok(())
 }
@@ -176,18 +198,20 @@ fn is_lawful(call: u32, lines: usize, letter: u8) -> bool {
 
 #[test]
 fn acknowledged_blocks(rt: HostRuntime) {
-    for (call, (lines, _), letters) in FAILING {
-        let lawful = letters.iter().all(|letter| is_lawful(call, lines, *letter));
-        holds(&rt, call as usize, lawful);
+    for (call, lines, _, letters) in FAILING {
+        let lawful = letters
+            .iter()
+            .all(|letter| is_lawful(*call, *lines, *letter));
+        holds(&rt, *call as usize, lawful);
     }
 }
 
-const KNOWN: [(Sent, Answered, Line); 2] = [
+const KNOWN: &[(Sent, Answered, Line)] = &[
     (Sent::Block(1), Ok(()), ("known ebc352d52d8a", "54\n")),
     (Sent::Block(2), Ok(()), ("known 6fd2bc64ef18", "6a\n")),
 ];
 
-const KEPT: [(Sent, Answered, Line); 2] = [
+const KEPT: &[(Sent, Answered, Line)] = &[
     (Sent::Block(1), Ok(()), (FIRST, "")),
     (Sent::Block(2), Ok(()), (SECOND, "")),
 ];

@@ -10,7 +10,7 @@ use std::process::Abort;
 use std::test::Fail;
 
 /// More scenarios.
-pub const EXAMPLES: [&[u8]; 6] = [
+pub const EXAMPLES: &[&[u8]] = &[
     SAMPLE,
     b"# nothing is asked\n\n    # and nothing made\n",
     b"grant g 100 to alice\n\

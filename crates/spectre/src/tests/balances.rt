@@ -10,7 +10,7 @@ use std::test::Fail;
 
 /// The capital letters that stand for locks, transactions and blocks in the feeds and answers below.
 #[rattlefmt::skip]
-const NAMES: [(u8, &str); 24] = [
+const NAMES: &[(u8, &str)] = &[
     // The locks that `alice`, `bob`, `carol`, `dave`, `erin` and `abc` open.
     (b'A', "2bd806c97f0e00af1a1fc3328fa763a9269723c8db8fac4f93af71db186d6e90"),
     (b'B', "81b637d8fcd2c6da6359e6963113a1170de795e4b725b84d1e0b4cfd9ec58ce9"),
@@ -129,7 +129,7 @@ pub const THREE_PAYMENTS: Paid = Paid {
 };
 
 fn digits_of(name: u8) -> Result<&'static [u8], Fail> {
-    for (known, digits) in &NAMES {
+    for (known, digits) in NAMES {
         if *known == name {
             return Ok(digits.as_bytes());
         }

@@ -35,7 +35,7 @@ fn builds(
 }
 
 /// Scenarios at fault: of those the line of the fault is written, and nothing else.
-const FAULTY: [Case; 4] = [
+const FAULTY: &[Case] = &[
     (b"vote A B\n", b"fault line 1 unknown\n"),
     (
         b"block A on G\nvote G A\n\nblok B on A\nvote G A\n",
@@ -79,7 +79,7 @@ const WORK: Paid = Paid {
 };
 
 /// Scenarios, and their feeds with the answers.
-const PAID: [(&[u8], &Paid); 3] = [
+const PAID: &[(&[u8], &Paid)] = &[
     (b"grant g 100 to abc\nbalance abc\nbalance alice\n", &GRANT),
     (
         b"bits 8\n\
@@ -136,7 +136,7 @@ struct Asked {
     answers: &'static [u8],
 }
 
-const ASKED: [Asked; 4] = [
+const ASKED: &[Asked] = &[
     Asked {
         scenario: b"",
         messages: b"",

@@ -32,7 +32,7 @@ fn kept(count: usize) -> &'static [u8] {
 }
 
 /// What is shown of a journal of none, one or both of the blocks.
-const SHOWN: [(u8, &[u8]); 3] = [
+const SHOWN: &[(u8, &[u8])] = &[
     (
         b'0',
         b"recovered 0\nblocks 1 waiting 0\naccepted 0\nbalances 0\n",
@@ -50,8 +50,8 @@ const SHOWN: [(u8, &[u8]); 3] = [
 /// The number of blocks that is shown, as a digit.
 fn digit_of(output: &[u8]) -> u8 {
     for (digit, text) in SHOWN {
-        if output == text {
-            return digit;
+        if output == *text {
+            return *digit;
         }
     }
     b'?'
@@ -197,7 +197,7 @@ const ON_EMPTY: Sequence = Sequence {
 
 /// By hand, of the outcomes in which the pending writes are undone, done, and filled with 0 and with the
 /// byte of an open gate.
-const FAILING: [Row; 16] = [
+const FAILING: &[Row] = &[
     (0, 0, b"eeee"),
     (1, 0, b"eenn"),
     (2, 0, b"ennn"),
@@ -219,7 +219,7 @@ const FAILING: [Row; 16] = [
 #[test]
 fn each_call_failing(rt: HostRuntime) -> Result<(), Fail> {
     for row in FAILING {
-        fails_from(&rt, rt.alloc(), &ON_EMPTY, row)?;
+        fails_from(&rt, rt.alloc(), &ON_EMPTY, *row)?;
     }
     Ok(())
 }

@@ -17,7 +17,7 @@ type Damage = (&'static str, Held, &'static [u8]);
 
 /// The head has 34 bytes, and each record of a block on one parent 57.
 #[rattlefmt::skip]
-const DAMAGES: [Damage; 18] = [
+const DAMAGES: &[Damage] = &[
     ("the disk ends behind the head", Held::Journal(0, b"", b""), b"fault damaged 34\n"),
     ("the disk ends behind a record", Held::Journal(0, b"A", b""), b"fault damaged 91\n"),
     ("the disk ends behind two records", Held::Journal(0, b"AB", b""), b"fault damaged 148\n"),
@@ -76,7 +76,8 @@ fn finds(
 
 #[test]
 fn each_cause(rt: HostRuntime) -> Result<(), Fail> {
-    for (name, held, line) in DAMAGES {
+    for damage in DAMAGES {
+        let (name, held, line) = *damage;
         let bytes = bytes_of(rt.alloc(), held)?;
         for words in [NODE, FRESH, SHOW] {
             finds(&rt, rt.alloc(), name, words, &bytes, line)?;
@@ -88,7 +89,7 @@ fn each_cause(rt: HostRuntime) -> Result<(), Fail> {
 /// What holds no damage, though the one or the other looks like it: blocks whose parents never come,
 /// and whatever stands behind a closed gate.
 #[rattlefmt::skip]
-const WHOLE: [(Held, &[u8]); 5] = [
+const WHOLE: &[(Held, &[u8])] = &[
     (Held::Journal(0, b"", b"\0"), b"recovered 0\nblocks 1 waiting 0\naccepted 0\nbalances 0\n"),
     (Held::Journal(0, b"FW", b"\x01"), b"recovered 2\nblocks 1 waiting 2\naccepted 0\nbalances 0\n"),
     (Held::Journal(0, b"FA", b"\xa4\xa5\x34\0\0\0"), b"recovered 2\nblocks 3 waiting 0\naccepted 0\nbalances 0\n"),

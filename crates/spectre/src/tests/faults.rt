@@ -5,7 +5,7 @@ use crate::tests::Case;
 
 /// Scenarios at fault. The lines before are answered, and none after.
 #[rattlefmt::skip]
-pub const FAULTS: [Case; 33] = [
+pub const FAULTS: &[Case] = &[
     // byte: 127
     (b"vote G\x7f G\n", b"fault line 1 byte\n"),
     // byte: two returns at the end of the text

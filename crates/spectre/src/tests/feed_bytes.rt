@@ -10,7 +10,7 @@ use std::test::Fail;
 type Known = (u8, u8, &'static [u8], &'static str);
 
 /// `G` is the smallest genesis block, and `W` stands on the id of no block.
-const BLOCKS: [Known; 16] = [
+const BLOCKS: &[Known] = &[
     (
         b'G',
         0,
@@ -116,7 +116,7 @@ pub const END: &[u8] = b"E\0\0\0\0";
 const NOBODY: &str = "0000000000000000000000000000000000000000000000000000000000000000";
 
 fn block_of(name: u8) -> Result<&'static Known, Fail> {
-    for block in &BLOCKS {
+    for block in BLOCKS {
         if block.0 == name {
             return Ok(block);
         }

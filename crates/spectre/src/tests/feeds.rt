@@ -38,7 +38,7 @@ struct Fed {
 }
 
 #[rattlefmt::skip]
-const FEEDS: [Fed; 19] = [
+const FEEDS: &[Fed] = &[
     Fed { name: "nothing", bits: 0, messages: b"", tail: END, output: b"", ended: DONE },
     Fed { name: "genesis and itself", bits: 0, messages: b"GG\n", tail: END, output: b"vote G G same\n", ended: DONE },
     Fed { name: "genesis and a block on it", bits: 0, messages: b"A\nGA\n", tail: END, output: b"kept A present 1\nvote G A before\n", ended: DONE },
@@ -92,21 +92,21 @@ fn replays_fed(rt: &impl Abort, alloc: Global, fed: &Fed) -> Result<(), Fail> {
 
 #[test]
 fn answers(rt: HostRuntime) -> Result<(), Fail> {
-    for fed in &FEEDS {
+    for fed in FEEDS {
         replays_fed(&rt, rt.alloc(), fed)?;
     }
     Ok(())
 }
 
 /// The smallest feed: the head with the smallest genesis block, and the end.
-const SMALLEST: [u8; 39] = [
+const SMALLEST: &[u8] = &[
     0x53, 0x50, 0x43, 0x54, 0x52, 0x46, 0x30, 0x31, 0, 0x42, 0x14, 0, 0, 0, 1, 0, 0, 0, 0, 0, 0, 0,
     0, 0, 0, 0, 0, 0, 0, 0, 0, 0, 0, 0, 0x45, 0, 0, 0, 0,
 ];
 
 /// A place of the smallest feed, a byte that stands there instead, how that ends, and what is
 /// written. In the first row nothing is changed.
-const CHANGED: [(usize, u8, Ending, &[u8]); 10] = [
+const CHANGED: &[(usize, u8, Ending, &[u8])] = &[
     (0, b'S', DONE, b""),
     (0, b's', (Status::Malformed, None), b"fault malformed 0\n"),
     (7, b'2', (Status::Malformed, None), b"fault malformed 0\n"),
@@ -121,8 +121,8 @@ const CHANGED: [(usize, u8, Ending, &[u8]); 10] = [
 
 #[test]
 fn changed_feeds(rt: HostRuntime) -> Result<(), Fail> {
-    for (place, byte, ended, output) in &CHANGED {
-        let mut feed = SMALLEST;
+    for (place, byte, ended, output) in CHANGED {
+        let mut feed = Vec::from_slice(rt.alloc(), SMALLEST)?;
         if let Some(changed) = feed.get_mut(*place) {
             *changed = *byte;
         }
@@ -134,9 +134,9 @@ fn changed_feeds(rt: HostRuntime) -> Result<(), Fail> {
 /// Each front of the smallest feed ends too early.
 #[test]
 fn fronts(rt: HostRuntime) -> Result<(), Fail> {
-    for length in 0..39usize {
+    for length in 0..SMALLEST.len() {
         let output = format!(in rt.alloc(); "fault truncated {length}\n")?;
-        let front = &SMALLEST[..length];
+        let front = SMALLEST.get(..length).unwrap_or(b"?");
         replays(
             &rt,
             rt.alloc(),

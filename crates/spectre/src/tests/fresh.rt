@@ -21,7 +21,7 @@ const CLOSED: Sequence = Sequence {
 };
 
 /// What stood there is no journal, whatever of the new one stands before it.
-const FAILING_CLOSED: [Row; 14] = [
+const FAILING_CLOSED: &[Row] = &[
     (0, 0, b"nnnn"),
     (1, 0, b"nnnn"),
     (2, 0, b"nnnn"),
@@ -46,7 +46,7 @@ const OPEN: Sequence = Sequence {
     made: 9,
 };
 
-const FAILING_OPEN: [Row; 12] = [
+const FAILING_OPEN: &[Row] = &[
     (2, 0, b"nnnn"),
     (3, 0, b"nnnn"),
     (4, 0, b"nnnn"),
@@ -64,7 +64,7 @@ const FAILING_OPEN: [Row; 12] = [
 #[test]
 fn over_a_closed_gate(rt: HostRuntime) -> Result<(), Fail> {
     for row in FAILING_CLOSED {
-        fails_from(&rt, rt.alloc(), &CLOSED, row)?;
+        fails_from(&rt, rt.alloc(), &CLOSED, *row)?;
     }
     Ok(())
 }
@@ -72,7 +72,7 @@ fn over_a_closed_gate(rt: HostRuntime) -> Result<(), Fail> {
 #[test]
 fn over_an_open_gate(rt: HostRuntime) -> Result<(), Fail> {
     for row in FAILING_OPEN {
-        fails_from(&rt, rt.alloc(), &OPEN, row)?;
+        fails_from(&rt, rt.alloc(), &OPEN, *row)?;
     }
     Ok(())
 }
@@ -82,7 +82,7 @@ const CUT: &[u8] = b"\xa5SPCTRJ01\0\x14\0\0\0\x01\0\0\0\0\0\0\0\0\0\0\0\0\0\0\0\
 
 /// Bytes that hold no journal, and how many of them are left where the journal of the two blocks, of 149
 /// bytes, stands there.
-const OVER: [(&[u8], usize); 7] = [
+const OVER: &[(&[u8], usize)] = &[
     (b"# notes\n", 149),
     (b"\0", 149),
     (b"\xa5", 149),
@@ -143,7 +143,7 @@ type Kept = (Held, u8, Status, &'static [u8]);
 
 /// A journal isn't discarded: neither one of this chain, nor that of another one, nor a damaged one.
 #[rattlefmt::skip]
-const KEPT: [Kept; 6] = [
+const KEPT: &[Kept] = &[
     (TWO, 0, Status::Done, b"known A\nknown B\n"),
     (Held::Journal(0, b"", b"\0"), 0, Status::Done, b"kept A present 1\nkept B present 1\n"),
     (Held::Journal(0, b"B", b"\0rubbish"), 0, Status::Done, b"kept A present 1\nknown B\n"),

@@ -13,7 +13,7 @@ use std::process::Abort;
 use std::test::Fail;
 
 /// Messages: blocks that wait, that come twice and that are refused.
-const MESSAGES: [&[u8]; 4] = [
+const MESSAGES: &[&[u8]] = &[
     b"F\nGF\nA\nA\nF\nFA\n",
     b"W\nW+\nW\nWG\nA+\nA\n",
     b"A\nB\nI\nJ\nK\nL\nM\nO\nP\nAB\nBI\nIA\n",

@@ -23,7 +23,7 @@ struct Flow {
 }
 
 /// A line `kept` takes 80 bytes and a line `known` 71.
-const FLOWS: [Flow; 3] = [
+const FLOWS: &[Flow] = &[
     Flow {
         name: "a block",
         disk: EMPTY,
@@ -71,7 +71,7 @@ fn try_flow(rt: &impl Abort, alloc: Global, flow: &Flow) -> Result<(), Fail> {
 
 #[test]
 fn feeds(rt: HostRuntime) -> Result<(), Fail> {
-    for flow in &FLOWS {
+    for flow in FLOWS {
         try_flow(&rt, rt.alloc(), flow)?;
     }
     Ok(())
@@ -93,7 +93,7 @@ const REPORT: &[u8] = b"R\0\0\0\0E\0\0\0\0";
 const PAIRS: &[u8] = b"P\0\0\0\0E\0\0\0\0";
 
 #[rattlefmt::skip]
-const ROWS: [Row; 14] = [
+const ROWS: &[Row] = &[
     Row { name: "nothing, on nothing", found: EMPTY, bits: 0, messages: b"", tail: END, output: b"", left: Held::Journal(0, b"", b"\0") },
     Row { name: "nothing, with work", found: EMPTY, bits: 64, messages: b"A\n", tail: END, output: b"refused work\n", left: Held::Journal(64, b"", b"\0") },
     Row { name: "two blocks", found: EMPTY, bits: 0, messages: b"A\nB\n", tail: END, output: b"kept A present 1\nkept B present 1\n", left: TWO },
@@ -128,7 +128,7 @@ fn try_row(rt: &impl Abort, alloc: Global, row: &Row) -> Result<(), Fail> {
 
 #[test]
 fn found(rt: HostRuntime) -> Result<(), Fail> {
-    for row in &ROWS {
+    for row in ROWS {
         try_row(&rt, rt.alloc(), row)?;
     }
     Ok(())
@@ -137,7 +137,7 @@ fn found(rt: HostRuntime) -> Result<(), Fail> {
 /// Which write of a line fails, which read by single bytes, how many lines are written, the status, and
 /// how many blocks each crash leaves: those whose lines were written, and the one whose line wasn't.
 #[rattlefmt::skip]
-const BROKEN: [(Ends, usize, Status, u8); 7] = [
+const BROKEN: &[(Ends, usize, Status, u8)] = &[
     (Ends { bad_write: Some(0), disk: EMPTY, ..WIDE }, 0, Status::WriteFault, b'1'),
     (Ends { bad_write: Some(1), disk: EMPTY, ..WIDE }, 1, Status::WriteFault, b'2'),
     (Ends { bad_write: Some(2), disk: EMPTY, ..WIDE }, 2, Status::Done, b'2'),

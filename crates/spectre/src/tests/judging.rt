@@ -81,7 +81,7 @@ const BLOCK_READ: Option<Rest> = Some((Some(5), Some(0), *b"Q\0\0\0\0\0\0", true
 
 /// The opening comes before all that a feed has.
 #[rattlefmt::skip]
-const OPENING: [Row; 10] = [
+const OPENING: &[Row] = &[
     Row { name: "no length, and a bad head", words: NODE, fed: BAD_HEAD, disk: TWO, bad_calls: Some(0), bad: Bad::Nothing, status: Status::DiskFault, output: b"", rest: UNREAD, is_left: true },
     Row { name: "no sync, and a bad head", words: NODE, fed: BAD_HEAD, disk: TWO, bad_calls: Some(1), bad: Bad::Nothing, status: Status::DiskFault, output: b"", rest: UNREAD, is_left: true },
     Row { name: "no read of a damaged journal", words: NODE, fed: BAD_HEAD, disk: DAMAGED, bad_calls: Some(2), bad: Bad::Nothing, status: Status::DiskFault, output: b"", rest: UNREAD, is_left: true },
@@ -97,7 +97,7 @@ const OPENING: [Row; 10] = [
 /// The head comes before another chain and before a creation. An opening of a journal without records has
 /// the calls 0 to 3.
 #[rattlefmt::skip]
-const HEADS: [Row; 10] = [
+const HEADS: &[Row] = &[
     Row { name: "a bad head, and no creation", words: NODE, fed: BAD_HEAD, disk: EMPTY, bad_calls: Some(1), bad: Bad::Nothing, status: Status::Malformed, output: b"fault malformed 8\n", rest: None, is_left: true },
     Row { name: "a bad head for a text", words: FRESH, fed: BAD_HEAD, disk: TEXT, bad_calls: Some(3), bad: Bad::Nothing, status: Status::Malformed, output: b"fault malformed 8\n", rest: None, is_left: true },
     Row { name: "a bad head for another chain", words: NODE, fed: BAD_HEAD, disk: OTHER, bad_calls: None, bad: Bad::Nothing, status: Status::Malformed, output: b"fault malformed 8\n", rest: None, is_left: true },
@@ -112,7 +112,7 @@ const HEADS: [Row; 10] = [
 
 /// Another chain, and else the creation, come before the messages.
 #[rattlefmt::skip]
-const CHAINS: [Row; 8] = [
+const CHAINS: &[Row] = &[
     Row { name: "other bits", words: NODE, fed: BAD_KIND, disk: OTHER, bad_calls: Some(4), bad: Bad::Nothing, status: Status::OtherChain, output: b"fault other-chain 1 G 0 G\n", rest: HEAD_READ, is_left: true },
     Row { name: "other bits, where a new one may be made", words: FRESH, fed: BAD_KIND, disk: OTHER, bad_calls: None, bad: Bad::Nothing, status: Status::OtherChain, output: b"fault other-chain 1 G 0 G\n", rest: HEAD_READ, is_left: true },
     Row { name: "more bits for a journal with blocks", words: NODE, fed: Fed::Feed(64, b"", END), disk: TWO, bad_calls: None, bad: Bad::Nothing, status: Status::OtherChain, output: b"fault other-chain 0 G 64 G\n", rest: None, is_left: true },
@@ -125,7 +125,7 @@ const CHAINS: [Row; 8] = [
 
 /// The messages one by one. A block on an empty disk has the calls 7 to 10.
 #[rattlefmt::skip]
-const MESSAGES: [Row; 10] = [
+const MESSAGES: &[Row] = &[
     Row { name: "a block and a bad kind", words: NODE, fed: BAD_KIND, disk: EMPTY, bad_calls: Some(11), bad: Bad::Nothing, status: Status::Malformed, output: b"kept A present 1\nfault malformed 91\n", rest: None, is_left: false },
     Row { name: "no record, and a bad kind", words: NODE, fed: BAD_KIND, disk: EMPTY, bad_calls: Some(7), bad: Bad::Nothing, status: Status::DiskFault, output: b"", rest: BLOCK_READ, is_left: false },
     Row { name: "no end of a record, and no write", words: NODE, fed: BAD_KIND, disk: EMPTY, bad_calls: Some(10), bad: Bad::Write, status: Status::DiskFault, output: b"", rest: Some((Some(5), Some(0), *b"Q\0\0\0\0\0\0", false)), is_left: false },
@@ -194,7 +194,7 @@ fn try_row(rt: &impl Abort, alloc: Global, row: &Row) -> Result<(), Fail> {
 
 #[test]
 fn the_opening_first(rt: HostRuntime) -> Result<(), Fail> {
-    for row in &OPENING {
+    for row in OPENING {
         try_row(&rt, rt.alloc(), row)?;
     }
     Ok(())
@@ -202,7 +202,7 @@ fn the_opening_first(rt: HostRuntime) -> Result<(), Fail> {
 
 #[test]
 fn then_the_head(rt: HostRuntime) -> Result<(), Fail> {
-    for row in &HEADS {
+    for row in HEADS {
         try_row(&rt, rt.alloc(), row)?;
     }
     Ok(())
@@ -210,7 +210,7 @@ fn then_the_head(rt: HostRuntime) -> Result<(), Fail> {
 
 #[test]
 fn then_the_chain(rt: HostRuntime) -> Result<(), Fail> {
-    for row in &CHAINS {
+    for row in CHAINS {
         try_row(&rt, rt.alloc(), row)?;
     }
     Ok(())
@@ -218,7 +218,7 @@ fn then_the_chain(rt: HostRuntime) -> Result<(), Fail> {
 
 #[test]
 fn then_the_messages(rt: HostRuntime) -> Result<(), Fail> {
-    for row in &MESSAGES {
+    for row in MESSAGES {
         try_row(&rt, rt.alloc(), row)?;
     }
     Ok(())

@@ -35,7 +35,7 @@ struct Long {
 const LAST: &[u8] = b"vote G G\nvote A B\n";
 
 #[rattlefmt::skip]
-const LONG: [Long; 9] = [
+const LONG: &[Long] = &[
     Long { line_ends: 8, text: b"vote A B", ends: WIDE, status: Status::Malformed, output: b"fault line 9 unknown\n", rest: Some(NOTHING) },
     Long { line_ends: 9, text: b"vote A B", ends: WIDE, status: Status::Malformed, output: b"fault line 10 unknown\n", rest: Some(NOTHING) },
     Long { line_ends: 65_535, text: b"vote A B", ends: WIDE, status: Status::Malformed, output: b"fault line 65536 unknown\n", rest: Some(NOTHING) },

@@ -18,9 +18,9 @@ fn alone(byte: u8) -> (Status, &'static [u8]) {
 
 #[test]
 fn scenarios(rt: HostRuntime) -> Result<(), Fail> {
-    plays_all(&rt, rt.alloc(), "answered", &ANSWERED, Status::Done)?;
-    plays_all(&rt, rt.alloc(), "worked", &WORKED, Status::Done)?;
-    plays_all(&rt, rt.alloc(), "at fault", &FAULTS, Status::Malformed)
+    plays_all(&rt, rt.alloc(), "answered", ANSWERED, Status::Done)?;
+    plays_all(&rt, rt.alloc(), "worked", WORKED, Status::Done)?;
+    plays_all(&rt, rt.alloc(), "at fault", FAULTS, Status::Malformed)
 }
 
 #[test]

@@ -8,7 +8,7 @@ use std::test::Fail;
 /// The words, each ended by a line end; how many lines come before those that are compared; and these.
 type Made = (&'static [u8], usize, &'static [u8]);
 
-const MADE: [Made; 8] = [
+const MADE: &[Made] = &[
     (b"make\n0\n0\n1\n", 0, b""),
     (
         b"make\n3\n0\n1\n",
@@ -46,7 +46,7 @@ const MADE: [Made; 8] = [
     (b"make\n511\n0\n1\n", 700, b""),
 ];
 
-const DRILLED: [Made; 6] = [
+const DRILLED: &[Made] = &[
     (
         b"drill\n0\n0\n1\n",
         0,
@@ -91,7 +91,7 @@ const UNREAD: Rest = (None, Some(7), *b"block A", true);
 
 #[test]
 fn numbers(rt: HostRuntime) -> Result<(), Fail> {
-    for (at, (words, lines, output)) in MADE.iter().chain(&DRILLED).enumerate() {
+    for (at, (words, lines, output)) in MADE.iter().chain(DRILLED).enumerate() {
         let trial = Trial {
             words,
             input: SAMPLE,

@@ -81,7 +81,7 @@ fn repeated(alloc: Global, text: &[u8], line: &[u8]) -> Result<Vec<u8>, Fail> {
 
 /// The most bytes that a write takes, and how many there are at least of a feed of 7,053 bytes, of
 /// which 4,096 at most are written together.
-const WRITES: [(u16, u32); 3] = [(65535, 2), (1000, 8), (61, 116)];
+const WRITES: &[(u16, u32)] = &[(65535, 2), (1000, 8), (61, 116)];
 
 #[test]
 fn long_feed(rt: HostRuntime) -> Result<(), Fail> {
@@ -94,8 +94,8 @@ fn long_feed(rt: HostRuntime) -> Result<(), Fail> {
         output: &feed,
     };
     for (taken, least) in WRITES {
-        let count = fails_in_turn(&rt, rt.alloc(), &paged, taken)?;
-        assert!(rt; least <= count, "{count} writes of {taken} bytes");
+        let count = fails_in_turn(&rt, rt.alloc(), &paged, *taken)?;
+        assert!(rt; *least <= count, "{count} writes of {taken} bytes");
     }
     Ok(())
 }

@@ -11,7 +11,7 @@ use std::process::Abort;
 use std::test::Fail;
 
 /// Scenarios. One is read to its end, which a read more tells, before anything is written.
-const PLAYS: [Stream; 4] = [
+const PLAYS: &[Stream] = &[
     Stream {
         name: "sample",
         words: b"play",
@@ -69,7 +69,7 @@ struct Flow {
 
 /// The head takes 34 bytes, a block on one parent 57 and a question 69. A line `kept` takes 80.
 /// Behind the frame `E` nothing is read, nor behind the kind of a frame that there is not.
-const FLOWS: [Flow; 5] = [
+const FLOWS: &[Flow] = &[
     Flow {
         name: "two blocks and a question",
         messages: b"A\nB\nAB\n",
@@ -131,7 +131,7 @@ fn stream_of<'a>(flow: &Flow, input: &'a [u8], output: &'a [u8]) -> Stream<'a> {
 }
 
 /// Runs that read nothing, so that none is lost where each read fails.
-const MADE: [Stream; 4] = [
+const MADE: &[Stream] = &[
     Stream {
         name: "two blocks that are made",
         words: b"make\n2\n1\n2\n",
@@ -176,7 +176,7 @@ const MADE: [Stream; 4] = [
 
 #[test]
 fn made(rt: HostRuntime) -> Result<(), Fail> {
-    for stream in &MADE {
+    for stream in MADE {
         try_all(&rt, rt.alloc(), stream)?;
     }
     Ok(())
@@ -201,7 +201,7 @@ fn built(rt: HostRuntime) -> Result<(), Fail> {
 
 #[test]
 fn scenarios(rt: HostRuntime) -> Result<(), Fail> {
-    for stream in &PLAYS {
+    for stream in PLAYS {
         try_all(&rt, rt.alloc(), stream)?;
     }
     Ok(())
@@ -215,7 +215,7 @@ fn try_flow(rt: &impl Abort, alloc: Global, flow: &Flow) -> Result<(), Fail> {
 
 #[test]
 fn feeds(rt: HostRuntime) -> Result<(), Fail> {
-    for flow in &FLOWS {
+    for flow in FLOWS {
         try_flow(&rt, rt.alloc(), flow)?;
     }
     Ok(())

@@ -15,7 +15,7 @@ use std::test::Fail;
 
 /// The smallest feed that asks for a report: the head with the smallest genesis block, the question,
 /// and the end.
-const SMALLEST: [u8; 44] = [
+const SMALLEST: &[u8] = &[
     0x53, 0x50, 0x43, 0x54, 0x52, 0x46, 0x30, 0x31, 0, 0x42, 0x14, 0, 0, 0, 1, 0, 0, 0, 0, 0, 0, 0,
     0, 0, 0, 0, 0, 0, 0, 0, 0, 0, 0, 0, 0x52, 0, 0, 0, 0, 0x45, 0, 0, 0, 0,
 ];
@@ -28,7 +28,7 @@ fn smallest(rt: HostRuntime) -> Result<(), Fail> {
     let stream = Stream {
         name: "the smallest feed with a report",
         words: b"replay",
-        input: &SMALLEST,
+        input: SMALLEST,
         reads: 44,
         status: Status::Done,
         output: EMPTY,
@@ -40,7 +40,7 @@ fn smallest(rt: HostRuntime) -> Result<(), Fail> {
 
 /// Ends, the smallest feed with `Zz` behind it, and what a run ends as.
 #[rattlefmt::skip]
-const ENDED: [(Ends, Status, &[u8], Rest); 4] = [
+const ENDED: &[(Ends, Status, &[u8], Rest)] = &[
     // What follows the end stays unread.
     (WIDE, Status::Done, EMPTY, (Some(2), Some(0), *b"Zz\0\0\0\0\0", true)),
     // Also where a read gives a byte.
@@ -53,7 +53,7 @@ const ENDED: [(Ends, Status, &[u8], Rest); 4] = [
 
 #[test]
 fn ends_of_the_smallest(rt: HostRuntime) -> Result<(), Fail> {
-    let input = joined(rt.alloc(), &SMALLEST, b"Zz")?;
+    let input = joined(rt.alloc(), SMALLEST, b"Zz")?;
     for (at, (ends, status, output, rest)) in ENDED.iter().enumerate() {
         let trial = Trial {
             words: b"replay",
@@ -99,7 +99,7 @@ fn a_pair(rt: HostRuntime) -> Result<(), Fail> {
 
 /// The places in the order of their ids of genesis and a chain of eight blocks, with the salts 1 to 8
 /// and the nonce 0. The ids are SHA-256 by another program.
-const ASCENDING: [u8; 9] = [5, 0, 2, 4, 6, 3, 1, 7, 8];
+const ASCENDING: &[u8] = &[5, 0, 2, 4, 6, 3, 1, 7, 8];
 
 /// A chain of eight blocks, and its answers.
 #[derive(Drop)]
@@ -143,7 +143,7 @@ fn put_questions(chain: &mut Chain) -> Result<(), Fail> {
     chain.answers.extend_from_slice(b"pairs 36\n")?;
     let blocks = Ordered {
         ids: &chain.ids,
-        ascending: &ASCENDING,
+        ascending: ASCENDING,
         tied: (0, 0),
     };
     put_pairs(&mut chain.answers, &blocks)?;
@@ -164,7 +164,7 @@ fn chain_of_eight(alloc: Global) -> Result<Chain, Fail> {
 
 /// The most bytes that a write takes, and how many there are at least: the lines of eight blocks,
 /// two pages of pairs and one of a report are written apart.
-const WRITES: [(u16, u32); 3] = [(65535, 11), (1000, 15), (61, 102)];
+const WRITES: &[(u16, u32)] = &[(65535, 11), (1000, 15), (61, 102)];
 
 #[test]
 fn pages(rt: HostRuntime) -> Result<(), Fail> {
@@ -175,8 +175,8 @@ fn pages(rt: HostRuntime) -> Result<(), Fail> {
         output: &chain.answers,
     };
     for (taken, least) in WRITES {
-        let count = fails_in_turn(&rt, rt.alloc(), &paged, taken)?;
-        assert!(rt; least <= count, "{count} writes of {taken} bytes");
+        let count = fails_in_turn(&rt, rt.alloc(), &paged, *taken)?;
+        assert!(rt; *least <= count, "{count} writes of {taken} bytes");
     }
     Ok(())
 }

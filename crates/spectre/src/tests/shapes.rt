@@ -67,7 +67,7 @@ impl Shape {
     }
 }
 
-const SHAPES: [Shape; 5] = [
+const SHAPES: &[Shape] = &[
     Shape::Chain,
     Shape::Star,
     Shape::Ladder,

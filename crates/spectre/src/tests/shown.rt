@@ -21,7 +21,7 @@ const BOTH: &[u8] = b"recovered 2\nblocks 3 waiting 0\naccepted 0\nbalances 0\n"
 /// An opening asks for the length, syncs and reads: the head's fixed part, genesis, and so on. Once it
 /// has what it needs nothing is called.
 #[rattlefmt::skip]
-const ROWS: [Row; 20] = [
+const ROWS: &[Row] = &[
     (EMPTY, None, Status::NotJournal, NONE),
     (EMPTY, Some(0), Status::DiskFault, b""),
     (EMPTY, Some(1), Status::NotJournal, NONE),

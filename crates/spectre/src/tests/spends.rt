@@ -13,15 +13,15 @@ use std::process::Abort;
 use std::test::Fail;
 
 /// The numbers of the accepted transactions in the order of their ids, by another program.
-const ACCEPTED: [u8; 19] = [
+const ACCEPTED: &[u8] = &[
     21, 4, 33, 3, 5, 2, 7, 6, 23, 18, 22, 0, 19, 34, 24, 17, 20, 1, 8,
 ];
 
 /// The words under whose locks anything is left, in the order of the locks, by another program.
-const PAID: [u8; 13] = [10, 9, 81, 14, 65, 80, 67, 13, 64, 15, 66, 11, 12];
+const PAID: &[u8] = &[10, 9, 81, 14, 65, 80, 67, 13, 64, 15, 66, 11, 12];
 
 /// The numbers of the blocks in the order of their ids, by another program.
-const ASCENDING: [u8; 41] = [
+const ASCENDING: &[u8] = &[
     34, 1, 21, 17, 10, 25, 19, 32, 2, 12, 37, 18, 26, 39, 22, 27, 28, 38, 40, 20, 33, 29, 8, 16,
     31, 13, 0, 14, 5, 3, 30, 11, 4, 23, 35, 15, 7, 6, 24, 9, 36,
 ];
@@ -196,11 +196,11 @@ fn put_answers(out: &mut Vec<u8>, alloc: Global, txs: &[TxId]) -> Result<(), Fai
 fn put_report(out: &mut Vec<u8>, alloc: Global, txs: &[TxId]) -> Result<(), Fail> {
     out.extend_from_slice(b"blocks 41 waiting 0\naccepted 19\n")?;
     for number in ACCEPTED {
-        put_state(out, txs, number)?;
+        put_state(out, txs, *number)?;
     }
     out.extend_from_slice(b"balances 13\n")?;
     for word in PAID {
-        put_balance(out, alloc, word)?;
+        put_balance(out, alloc, *word)?;
     }
     Ok(())
 }
@@ -210,7 +210,7 @@ fn answers(alloc: Global, sent: &Sent) -> Result<Vec<u8>, Fail> {
     let mut out = Vec::new(alloc);
     let blocks = Ordered {
         ids: &sent.blocks,
-        ascending: &ASCENDING,
+        ascending: ASCENDING,
         tied: (39, 40),
     };
     put_answers(&mut out, alloc, &sent.txs)?;
@@ -222,7 +222,7 @@ fn answers(alloc: Global, sent: &Sent) -> Result<Vec<u8>, Fail> {
 
 /// The first block that is sent, less 1, and how many places further the next one stands each time,
 /// round and round: parents first, parents last, and eight others.
-const ORDERS: [(usize, usize); 10] = [
+const ORDERS: &[(usize, usize)] = &[
     (0, 1),
     (39, 39),
     (0, 3),

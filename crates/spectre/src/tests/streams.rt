@@ -124,15 +124,15 @@ pub fn writes_fail(rt: &impl Abort, alloc: Global, stream: &Stream) -> Result<()
 }
 
 /// The bytes of a read and of a write.
-const SIZES: [u16; 5] = [1, 2, 3, 7, 4096];
+const SIZES: &[u16] = &[1, 2, 3, 7, 4096];
 
 /// Pieces of each size, given and taken.
 pub fn in_pieces(rt: &impl Abort, alloc: Global, stream: &Stream) -> Result<(), Fail> {
     for given in SIZES {
         for taken in SIZES {
             let ends = Ends {
-                given,
-                taken,
+                given: *given,
+                taken: *taken,
                 ..wide(stream)
             };
             gives(rt, alloc, stream, ends, stream.status, stream.output.len())?;

@@ -10,7 +10,7 @@ use std::process::Abort;
 use std::test::Fail;
 
 /// Words that are none of the forms of a command, each ended by a line end.
-const NO_COMMAND: [&[u8]; 79] = [
+const NO_COMMAND: &[&[u8]] = &[
     b"",
     b"\n",
     b"\n\n",
@@ -197,7 +197,7 @@ enum Done {
 
 /// Words that name a file, and the file.
 #[rattlefmt::skip]
-const FILES: [(&[u8], &str, Done); 16] = [
+const FILES: &[(&[u8], &str, Done)] = &[
     (b"node\nf", "f", Done::Kept),
     (b"node\n--fresh\nf", "f", Done::KeptFresh),
     (b"node\nf\n--fresh", "f", Done::KeptFresh),
@@ -240,7 +240,7 @@ fn files(rt: HostRuntime) -> Result<(), Fail> {
 }
 
 /// Commands that have no file.
-const NO_FILE: [&[u8]; 5] = [
+const NO_FILE: &[&[u8]] = &[
     b"replay",
     b"play",
     b"build",
@@ -267,7 +267,7 @@ fn no_files(rt: HostRuntime) -> Result<(), Fail> {
 }
 
 /// What each row of the list of commands begins with.
-const ROWS: [&str; 8] = [
+const ROWS: &[&str] = &[
     "  play ",
     "  build ",
     "  make N SEED WIDTH ",
@@ -285,7 +285,7 @@ fn list_of_commands(rt: HostRuntime) -> Result<(), Fail> {
     let mut rows = rows_in(&text).lines().skip(1);
     for wanted in ROWS {
         let row = rows.next().unwrap_or("");
-        assert!(&rt; row.starts_with(wanted), "{row}");
+        assert!(&rt; row.starts_with(*wanted), "{row}");
     }
     assert!(&rt; rows.next().is_none(), "more commands");
     Ok(())

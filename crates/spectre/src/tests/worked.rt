@@ -31,7 +31,7 @@ pub const SPENT_TWICE: &[u8] = b"\
     report\n";
 
 /// Scenarios whose every answer was worked out by hand.
-pub const WORKED: [Case; 18] = [
+pub const WORKED: &[Case] = &[
     // nothing decides between two blocks
     (TIE, b"kept A present 1\nkept B present 1\nvote A B tie\n"),
     // a block on one of the two does
