@@ -32,8 +32,16 @@ pub fn child_of(alloc: Global, salt: u8, parent: &str, more: usize) -> Result<Ve
     Ok(fields.concat(alloc)?)
 }
 
-/// A sink with room for each line, which takes so many bytes a call. This call of it fails.
-pub fn sink_of(alloc: Global, step: u16, failing: Option<u32>) -> Result<MemSink, Fail> {
+/// The room for a line.
+pub const LINE: usize = 192;
+
+/// A sink with this much room, which takes so many bytes a call. This call of it fails.
+pub fn sink_of(
+    alloc: Global,
+    room: usize,
+    step: u16,
+    failing: Option<u32>,
+) -> Result<MemSink, Fail> {
     if step == 0 {
         return Err("no step".into());
     }
@@ -41,5 +49,5 @@ pub fn sink_of(alloc: Global, step: u16, failing: Option<u32>) -> Result<MemSink
         Some(call) => Fails::At(Calls::of(Vec::from_slice(alloc, &[call])?)),
         None => Fails::Never,
     };
-    Ok(MemSink::new(alloc, 192, step, fails)?)
+    Ok(MemSink::new(alloc, room, step, fails)?)
 }

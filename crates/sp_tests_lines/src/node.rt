@@ -2,8 +2,8 @@
 //! sink failing in turn.
 
 use crate::fixtures::{
-    CHILD_ID as CHILD, GENESIS_ID as GENESIS, NOBODY_ID as NOBODY, ORPHAN_ID as ORPHAN, child_of,
-    read_id, sink_of,
+    CHILD_ID as CHILD, GENESIS_ID as GENESIS, LINE, NOBODY_ID as NOBODY, ORPHAN_ID as ORPHAN,
+    child_of, read_id, sink_of,
 };
 use crate::plain::PlainNode;
 use crate::rows::holds;
@@ -165,7 +165,7 @@ fn hear(
     sent: Sent,
     failing: Option<u32>,
 ) -> Result<Heard, Fail> {
-    let mut sink = sink_of(alloc, 1, failing)?;
+    let mut sink = sink_of(alloc, LINE, 1, failing)?;
     let answered = send(alloc, node, sent, &mut sink)?;
     let text = Vec::from_slice(alloc, sink.bytes())?;
     Ok(Heard { answered, text })
