@@ -4,7 +4,7 @@
 use crate::status::Status;
 use crate::tests::disks::{PICKS, disk_with, runs_on, runs_over};
 use crate::tests::feed_bytes::{END, feed_of, in_full};
-use crate::tests::{Wanted, agrees};
+use crate::tests::{Ended, Wanted, agrees};
 use sp_disk::MemDisk;
 use sp_io::Fails;
 use std::alloc::Global;
@@ -154,17 +154,14 @@ fn is_all_lawful(sequence: &Sequence, call: u32, lines: usize, letters: &[u8]) -
         .all(|letter| is_lawful(sequence, call, lines, *letter))
 }
 
-/// Runs while the disk's calls fail from this one on, and goes on from what each crash leaves.
-pub fn fails_from(
+/// Compares what a run wrote while the disk's calls failed from this one on.
+fn wrote(
     rt: &impl Abort,
     alloc: Global,
     sequence: &Sequence,
-    (call, lines, letters): Row,
+    (call, lines, _): Row,
+    ended: &Ended,
 ) -> Result<(), Fail> {
-    let feed = both(alloc)?;
-    let bytes = Vec::from_slice(alloc, sequence.bytes)?;
-    let mut disk = disk_with(alloc, bytes, Fails::From(call))?;
-    let ended = runs_over(alloc, sequence.words, &feed, &mut disk)?;
     let output = in_full(alloc, kept(lines))?;
     let wanted = Wanted {
         status: if call < sequence.calls {
@@ -176,15 +173,42 @@ pub fn fails_from(
         output: &output,
         rest: None,
     };
-    agrees(rt, "call", call as usize, &ended, &wanted);
-    let left = letters_of(alloc, &disk)?;
+    agrees(rt, "call", call as usize, ended, &wanted);
+    Ok(())
+}
+
+/// Compares what each crash leaves then, and goes on from there.
+fn left(
+    rt: &impl Abort,
+    alloc: Global,
+    sequence: &Sequence,
+    (call, lines, letters): Row,
+    feed: &[u8],
+    disk: &MemDisk,
+) -> Result<(), Fail> {
+    let left = letters_of(alloc, disk)?;
     assert!(rt; left.as_slice() == letters, "call {call}: {left:?}");
     assert!(rt;
         is_all_lawful(sequence, call, lines, letters),
         "call {call}"
     );
-    assert!(rt; goes_on(alloc, &feed, &disk)?, "call {call}, and once more");
+    assert!(rt; goes_on(alloc, feed, disk)?, "call {call}, and once more");
     Ok(())
+}
+
+/// Runs while the disk's calls fail from this one on, and goes on from what each crash leaves.
+pub fn fails_from(
+    rt: &impl Abort,
+    alloc: Global,
+    sequence: &Sequence,
+    row: Row,
+) -> Result<(), Fail> {
+    let feed = both(alloc)?;
+    let bytes = Vec::from_slice(alloc, sequence.bytes)?;
+    let mut disk = disk_with(alloc, bytes, Fails::From(row.0))?;
+    let ended = runs_over(alloc, sequence.words, &feed, &mut disk)?;
+    wrote(rt, alloc, sequence, row, &ended)?;
+    left(rt, alloc, sequence, row, &feed, &disk)
 }
 
 /// On an empty disk call 0 asks for the length, 1 to 6 make the journal, and each block has four.

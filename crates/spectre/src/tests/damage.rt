@@ -136,19 +136,57 @@ fn put_as_record(out: &mut Vec<u8>, salt: u8, parent: &BlockId) -> Result<(), Fa
     Ok(())
 }
 
-/// Behind 511 records no gate may be open. There stands place 34 + 511 * 57.
-#[test]
-fn behind_511_records(rt: HostRuntime) -> Result<(), Fail> {
-    let head = head_of(rt.alloc(), 0)?;
+/// A journal of 511 records, up to the place of the gate behind them, which is 34 + 511 * 57.
+fn records_of_511(alloc: Global) -> Result<Vec<u8>, Fail> {
+    let head = head_of(alloc, 0)?;
     let genesis = BlockId::of(head.get(14..).unwrap_or(b""));
-    let mut bytes = bytes_of(rt.alloc(), Held::Journal(0, b"", b""))?;
+    let mut bytes = bytes_of(alloc, Held::Journal(0, b"", b""))?;
     put_511(&mut bytes, &genesis)?;
-    let line = b"fault damaged 29161\n";
-    finds(&rt, rt.alloc(), "no gate", SHOW, &bytes, line)?;
-    bytes.push(0xA5)?;
-    finds(&rt, rt.alloc(), "an open gate", SHOW, &bytes, line)?;
-    finds(&rt, rt.alloc(), "an open gate", NODE, &bytes, line)?;
+    Ok(bytes)
+}
+
+/// Runs these words over the records and what stands behind them.
+fn finds_behind(
+    rt: &impl Abort,
+    alloc: Global,
+    name: &str,
+    words: &[u8],
+    records: &[u8],
+    behind: &[u8],
+) -> Result<(), Fail> {
+    let mut bytes = Vec::from_slice(alloc, records)?;
+    bytes.extend_from_slice(behind)?;
+    finds(rt, alloc, name, words, &bytes, b"fault damaged 29161\n")
+}
+
+/// What is tried there: its name, the words, and the bytes.
+const BEHIND: &[(&str, &[u8], &[u8])] = &[
+    ("no gate", SHOW, b""),
+    ("an open gate", SHOW, b"\xa5"),
+    ("an open gate", NODE, b"\xa5"),
+    (
+        "a length that is too great",
+        FRESH,
+        b"\xa5\xa5\x34\0\0\0\x01",
+    ),
+];
+
+/// One record more, and the end of a feed.
+fn one_more(alloc: Global) -> Result<Vec<u8>, Fail> {
+    let mut bytes = Vec::new(alloc);
     put_as_record(&mut bytes, 9, &BlockId::from_bytes([9; 32]))?;
     bytes.extend_from_slice(END)?;
-    finds(&rt, rt.alloc(), "a record", FRESH, &bytes, line)
+    Ok(bytes)
+}
+
+/// Behind 511 records no gate may be open.
+#[test]
+fn behind_511_records(rt: HostRuntime) -> Result<(), Fail> {
+    let alloc = rt.alloc();
+    let records = records_of_511(alloc)?;
+    let record = one_more(alloc)?;
+    for (name, words, behind) in BEHIND {
+        finds_behind(&rt, alloc, name, words, &records, behind)?;
+    }
+    finds_behind(&rt, alloc, "a record", FRESH, &records, &record)
 }

@@ -71,6 +71,19 @@ fn count_lines(text: &[u8]) -> usize {
     text.iter().filter(|byte| **byte == b'\n').count()
 }
 
+/// Whether a feed that is cut at this place, where its head ends at that one, gives all lines, and then
+/// its report is shown.
+fn is_same_cut(
+    alloc: Global,
+    feed: &[u8],
+    head: usize,
+    at: usize,
+    (whole, report): (&[u8], &[u8]),
+) -> Result<bool, Fail> {
+    let (output, left) = halves(alloc, feed, head, at)?;
+    Ok(output.as_slice() == whole && shown(alloc, &left)?.as_slice() == report)
+}
+
 /// Cuts a feed behind its head and behind the frame of each message.
 fn is_same_in_halves(rt: &impl Abort, alloc: Global, name: usize, feed: &[u8]) -> Result<(), Fail> {
     let whole = written(alloc, b"replay", feed)?;
@@ -78,15 +91,8 @@ fn is_same_in_halves(rt: &impl Abort, alloc: Global, name: usize, feed: &[u8]) -
     let head = end_of(feed, 9).unwrap_or(0);
     let mut at = head;
     for _ in 0..64u8 {
-        let (output, left) = halves(alloc, feed, head, at)?;
-        assert!(rt;
-            output.as_slice() == whole.as_slice(),
-            "{name}, cut at {at}"
-        );
-        assert!(rt;
-            shown(alloc, &left)?.as_slice() == report.as_slice(),
-            "{name}, shown"
-        );
+        let is_same = is_same_cut(alloc, feed, head, at, (&whole, &report))?;
+        assert!(rt; is_same, "{name}, cut at {at}");
         if feed.get(at) == Some(&b'E') {
             return Ok(());
         }

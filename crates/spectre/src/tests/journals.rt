@@ -7,6 +7,7 @@ use crate::tests::disks::{EMPTY, Held, TWO, bytes_of, disk_of, runs_on};
 use crate::tests::feed_bytes::{END, feed_of, in_full};
 use crate::tests::streams::{Stream, try_all};
 use crate::tests::{Ends, Trial, WIDE, Wanted, agrees, ran_over};
+use sp_disk::MemDisk;
 use std::alloc::Global;
 use std::process::Abort;
 use std::test::Fail;
@@ -136,8 +137,10 @@ fn found(rt: HostRuntime) -> Result<(), Fail> {
 
 /// Which write of a line fails, which read by single bytes, how many lines are written, the status, and
 /// how many blocks each crash leaves: those whose lines were written, and the one whose line wasn't.
+type Broken = (Ends, usize, Status, u8);
+
 #[rattlefmt::skip]
-const BROKEN: &[(Ends, usize, Status, u8)] = &[
+const BROKEN: &[Broken] = &[
     (Ends { bad_write: Some(0), disk: EMPTY, ..WIDE }, 0, Status::WriteFault, b'1'),
     (Ends { bad_write: Some(1), disk: EMPTY, ..WIDE }, 1, Status::WriteFault, b'2'),
     (Ends { bad_write: Some(2), disk: EMPTY, ..WIDE }, 2, Status::Done, b'2'),
@@ -156,28 +159,40 @@ fn kept(count: usize) -> &'static [u8] {
     }
 }
 
+/// Runs at these ends on this disk, and compares what is written.
+fn try_ends(
+    rt: &impl Abort,
+    alloc: Global,
+    at: usize,
+    (ends, lines, status, _): Broken,
+    disk: &mut MemDisk,
+) -> Result<(), Fail> {
+    let input = both(alloc)?;
+    let trial = Trial {
+        words: NODE,
+        input: &input,
+        ends,
+    };
+    let ended = ran_over(alloc, &trial, disk)?;
+    let output = in_full(alloc, kept(lines))?;
+    let wanted = Wanted {
+        status,
+        lines: 0,
+        output: &output,
+        rest: None,
+    };
+    agrees(rt, "broken", at, &ended, &wanted);
+    Ok(())
+}
+
 #[test]
 fn each_end_failing(rt: HostRuntime) -> Result<(), Fail> {
     let alloc = rt.alloc();
-    let input = both(alloc)?;
-    for (at, (ends, lines, status, letter)) in BROKEN.iter().enumerate() {
-        let mut disk = disk_of(alloc, ends)?;
-        let trial = Trial {
-            words: NODE,
-            input: &input,
-            ends: *ends,
-        };
-        let ended = ran_over(alloc, &trial, &mut disk)?;
-        let output = in_full(alloc, kept(*lines))?;
-        let wanted = Wanted {
-            status: *status,
-            lines: 0,
-            output: &output,
-            rest: None,
-        };
-        agrees(&rt, "broken", at, &ended, &wanted);
+    for (at, row) in BROKEN.iter().enumerate() {
+        let mut disk = disk_of(alloc, &row.0)?;
+        try_ends(&rt, alloc, at, *row, &mut disk)?;
         let letters = letters_of(alloc, &disk)?;
-        assert!(&rt; letters == [*letter; 4], "{at}: {letters:?}");
+        assert!(&rt; letters == [row.3; 4], "{at}: {letters:?}");
     }
     Ok(())
 }

@@ -248,20 +248,24 @@ const NO_FILE: &[&[u8]] = &[
     b"drill\n3\n0\n1",
 ];
 
+/// Whether the words name no file, and are a command, or none.
+fn are_without_file(alloc: Global, lines: &[u8], are_command: bool) -> Result<bool, Fail> {
+    let words = words_of(alloc, lines)?;
+    let is_so = match read_job(alloc, &words) {
+        Ok(_) => are_command,
+        Err(JobFault::Usage) => !are_command,
+        Err(JobFault::Memory) => false,
+    };
+    Ok(is_so && path_of(&words).is_none())
+}
+
 #[test]
 fn no_files(rt: HostRuntime) -> Result<(), Fail> {
     for (at, words) in NO_FILE.iter().enumerate() {
-        let words = words_of(rt.alloc(), words)?;
-        assert!(&rt; path_of(&words).is_none(), "{at}");
-        assert!(&rt; read_job(rt.alloc(), &words).is_ok(), "{at}");
+        assert!(&rt; are_without_file(rt.alloc(), words, true)?, "{at}");
     }
     for (at, words) in NO_COMMAND.iter().enumerate() {
-        let words = words_of(rt.alloc(), words)?;
-        assert!(&rt; path_of(&words).is_none(), "{at}");
-        assert!(&rt;
-            matches!(read_job(rt.alloc(), &words), Err(JobFault::Usage)),
-            "{at}"
-        );
+        assert!(&rt; are_without_file(rt.alloc(), words, false)?, "{at}");
     }
     Ok(())
 }
