@@ -164,11 +164,7 @@ const BEHIND: &[(&str, &[u8], &[u8])] = &[
     ("no gate", SHOW, b""),
     ("an open gate", SHOW, b"\xa5"),
     ("an open gate", NODE, b"\xa5"),
-    (
-        "a length that is too great",
-        FRESH,
-        b"\xa5\xa5\x34\0\0\0\x01",
-    ),
+    ("a record that is cut", FRESH, b"\xa5\xa5\x34\0\0\0\x01"),
 ];
 
 /// One record more, and the end of a feed.
