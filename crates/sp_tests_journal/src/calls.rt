@@ -5,7 +5,7 @@ ghost use Rattle.std.specs.Prelude.{◌≡◌, ◌<◌, IfOk};
 ghost use Rattle.sp_block.specs.Block.{IsOther};
 
 use crate::rows::holds;
-use crate::texts::{Found, HEAD, child_block, found};
+use crate::texts::{FRONT, Found, HEAD, child, child_block, found};
 use crate::untold::Untold;
 use sp_block::Block;
 use sp_disk::Pick;
@@ -45,25 +45,38 @@ fn append(journal: &mut Journal, disk: &mut Untold, block: &Block) -> Result<(),
 /// call failed.
 type Ran = (Option<u16>, bool);
 
-/// Creates a journal and adds the blocks of salts 1 and 2, up to the first fault.
-fn run(alloc: Global, disk: &mut Untold, gate: Gate) -> Result<Ran, Fail> {
-    let mut journal = match create(alloc, disk, gate)? {
-        Ok(journal) => journal,
-        Err(CreateFault::DiskFault) => return Ok((None, true)),
-        Err(CreateFault::Memory) => return Err("memory".into()),
-    };
-    let first = child_block(alloc, 1)?;
-    let second = child_block(alloc, 2)?;
-    if append(&mut journal, disk, &first).is_err() {
-        return Ok((Some(journal.records()), true));
-    }
+/// Whether the block of this salt wasn't added.
+fn is_left_out(
+    alloc: Global,
+    journal: &mut Journal,
+    disk: &mut Untold,
+    salt: u16,
+) -> Result<bool, Fail>
+    requires bits { journal.old.bits ≡ 0 }
+    ensures { IfOk result (λ failed. journal.new.bits ≡ 0) }
+{
     if journal.records() >= 511 {
         return Err("full".into());
     }
-    if append(&mut journal, disk, &second).is_err() {
-        return Ok((Some(journal.records()), true));
+    let block = child_block(alloc, salt)?;
+    Ok(append(journal, disk, &block).is_err())
+}
+
+/// Adds the blocks of salts 1 and 2, up to the first fault.
+fn add_both(alloc: Global, journal: &mut Journal, disk: &mut Untold) -> Result<Ran, Fail>
+    requires bits { journal.old.bits ≡ 0 }
+{
+    let failed = is_left_out(alloc, journal, disk, 1)? || is_left_out(alloc, journal, disk, 2)?;
+    Ok((Some(journal.records()), failed))
+}
+
+/// Creates a journal and adds to it, up to the first fault.
+fn run(alloc: Global, disk: &mut Untold, gate: Gate) -> Result<Ran, Fail> {
+    match create(alloc, disk, gate)? {
+        Ok(mut journal) => add_both(alloc, &mut journal, disk),
+        Err(CreateFault::DiskFault) => Ok((None, true)),
+        Err(CreateFault::Memory) => Err("memory".into()),
     }
-    Ok((Some(journal.records()), false))
 }
 
 /// The first call that fails on an empty disk, how far the run came, and what each crash leaves then. A
@@ -210,16 +223,24 @@ fn closed(rt: HostRuntime) -> Result<(), Fail> {
     Ok(())
 }
 
-/// The bytes of the journal with one record, and those that a disk then has.
+/// The bytes of the journal with the block of salt 1.
+fn one_record(alloc: Global) -> Result<Vec<u8>, Fail> {
+    let block = child(alloc, 1)?;
+    Ok(flat(alloc, &[HEAD, FRONT, &block, &[0]])?)
+}
+
+/// How far a run comes whose eleventh call fails, and what the disk then has.
+fn left_by_ten(alloc: Global) -> Result<(Ran, Vec<u8>), Fail> {
+    let mut disk = Untold::of(alloc, &[], Fails::From(10))?;
+    let ran = run(alloc, &mut disk, Gate::Missing)?;
+    Ok((ran, disk.image(Pick::Old)?))
+}
+
 #[test]
 fn written_bytes(rt: HostRuntime) -> Result<(), Fail> {
-    let mut disk = Untold::of(rt.alloc(), &[], Fails::From(10))?;
-    let ran = run(rt.alloc(), &mut disk, Gate::Missing)?;
+    let (ran, image) = left_by_ten(rt.alloc())?;
     holds(&rt, 0, ran == (Some(1), true));
-    let block = child_block(rt.alloc(), 1)?;
-    let record: &[u8] = &[0xA5, 52, 0, 0, 0];
-    let wanted = flat(rt.alloc(), &[HEAD, record, block.bytes.as_slice(), &[0]])?;
-    let image = disk.image(Pick::Old)?;
+    let wanted = one_record(rt.alloc())?;
     holds(&rt, 1, image.as_slice() == wanted.as_slice());
     Ok(())
 }

@@ -3,6 +3,8 @@
 
 use crate::judging::behind;
 use sp_play::Why;
+use std::alloc::Global;
+use std::process::Abort;
 use std::test::Fail;
 
 /// A byte that no line may have.
@@ -198,30 +200,36 @@ const TWINS: &[&[u8]] = &[
     b"tx\tq spends\tg.0  pays 90 to carol ",
 ];
 
-/// The tables with their reasons.
-const REASONS: &[(&[&[u8]], Why)] = &[
-    (BYTES, Why::Byte),
-    (COMMANDS, Why::Command),
-    (LATE, Why::Late),
-    (FORMS, Why::Form),
-    (NAMES, Why::Name),
-    (TAKEN, Why::Taken),
-    (UNKNOWN, Why::Unknown),
-    (OUTS, Why::Unknown),
-    (REPEATS, Why::Repeat),
-    (NUMBERS, Why::Number),
-    (WORDS, Why::Word),
-    (TWINS, Why::Twin),
-];
-
-#[test]
-fn reasons(rt: HostRuntime) -> Result<(), Fail> {
-    for (lines, why) in REASONS {
-        for (row, line) in lines.iter().enumerate() {
-            behind(&rt, rt.alloc(), row, line, Some(*why), 0)?;
-        }
+/// Each of these lines has this reason alone.
+fn all_behind(rt: &impl Abort, alloc: Global, lines: &[&[u8]], why: Why) -> Result<(), Fail> {
+    for (row, line) in lines.iter().enumerate() {
+        behind(rt, alloc, row, line, Some(why), 0)?;
     }
     Ok(())
+}
+
+#[test]
+fn reasons_of_forms(rt: HostRuntime) -> Result<(), Fail> {
+    all_behind(&rt, rt.alloc(), BYTES, Why::Byte)?;
+    all_behind(&rt, rt.alloc(), COMMANDS, Why::Command)?;
+    all_behind(&rt, rt.alloc(), LATE, Why::Late)?;
+    all_behind(&rt, rt.alloc(), FORMS, Why::Form)
+}
+
+#[test]
+fn reasons_of_names(rt: HostRuntime) -> Result<(), Fail> {
+    all_behind(&rt, rt.alloc(), NAMES, Why::Name)?;
+    all_behind(&rt, rt.alloc(), TAKEN, Why::Taken)?;
+    all_behind(&rt, rt.alloc(), UNKNOWN, Why::Unknown)?;
+    all_behind(&rt, rt.alloc(), OUTS, Why::Unknown)
+}
+
+#[test]
+fn reasons_of_values(rt: HostRuntime) -> Result<(), Fail> {
+    all_behind(&rt, rt.alloc(), REPEATS, Why::Repeat)?;
+    all_behind(&rt, rt.alloc(), NUMBERS, Why::Number)?;
+    all_behind(&rt, rt.alloc(), WORDS, Why::Word)?;
+    all_behind(&rt, rt.alloc(), TWINS, Why::Twin)
 }
 
 /// Lines without a fault, with the number of messages that they add.

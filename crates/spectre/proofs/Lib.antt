@@ -5,6 +5,7 @@ pub mod KeptRuns
 pub mod KeptExits
 pub mod Shown
 pub mod TopCall
+pub mod Completing
 pub mod Securing
 pub mod Replies
 pub mod Replayed

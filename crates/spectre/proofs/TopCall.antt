@@ -68,11 +68,11 @@ pub left_whole : (o : Option (List ℕ)) → IfSome o (λ input. o ≡ Some inpu
 left_whole None = tt
 left_whole (Some input) = refl
 
-if_all : (o : Option (List ℕ)) (P : List ℕ → Type 0) → ((x : List ℕ) → P x) → IfSome o P
+pub if_all : (o : Option (List ℕ)) (P : List ℕ → Type 0) → ((x : List ℕ) → P x) → IfSome o P
 if_all None P f = tt
 if_all (Some x) P f = f x
 
-on_all : (job : Option Job) (reads : Option (List ℕ)) (P : List ℕ → Type 0) → ((bytes : List ℕ) → P bytes) → OnDisk job reads P
+pub on_all : (job : Option Job) (reads : Option (List ℕ)) (P : List ℕ → Type 0) → ((bytes : List ℕ) → P bytes) → OnDisk job reads P
 on_all None reads P f = f []
 on_all (Some jobs.Replay) reads P f = f []
 on_all (Some (jobs.Keep path fresh)) reads P f = if_all reads P f

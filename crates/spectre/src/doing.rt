@@ -1,13 +1,11 @@
 //! The doing of a job, apart from the top call, which finds out what its words ask for.
 
-ghost use Rattle.std.specs.Prelude.{◌⊎◌, ◌≡◌, ◌≢◌, IfSome, Some};
+ghost use Rattle.std.specs.Prelude.{◌≡◌, ◌≢◌, Some};
 ghost use Rattle.sp_disk.specs.Moments.{Looks};
 ghost use Rattle.sp_io.specs.Causes.{Rose};
 ghost use Rattle.spectre.specs.Ends.{Comes};
-ghost use Rattle.spectre.specs.Faults.{IsFaultless};
 ghost use Rattle.spectre.specs.JobEnds.{JobEnds};
 ghost use Rattle.spectre.specs.Jobs.{IsJob, NamesFile, Shows, TakesNothing, TakesScenario};
-ghost use Rattle.spectre.specs.Output.{OnDisk};
 
 use crate::job::Job;
 use crate::keep::keep;
@@ -44,11 +42,6 @@ pub fn do_job<S: Source, K: Sink, D: Disk>(
     ensures disk_quiet { result ≢ Status.DiskFault → (D.now disk.new).faults ≡ (D.now disk.old).faults }
     ensures looks { Shows (Some job.now) → Looks (D.now disk.old) (D.now disk.new) }
     ensures uncalled { (NamesFile (Some job.now) → ⊥) → disk.new ≡ disk.old }
-    ensures complete { ¬ Rose (S.faults source.old) (S.faults source.new)
-        → ¬ Rose (K.faults sink.old) (K.faults sink.new)
-        → ¬ Rose (D.now disk.old).faults (D.now disk.new).faults
-        → IfSome (S.left source.old) (λ input. OnDisk (Some job.now) (D.now disk.old).reads (λ bytes.
-        IsFaultless (Some job.now) bytes input → (result ≡ Status.Done) ⊎ (result ≡ Status.Memory))) }
     ensures among { Comes (Some job.now) result }
 {
     match job {

@@ -103,13 +103,22 @@ fn compares(
     Ok(())
 }
 
+/// Whether a line asks for a list.
+fn asks_for_list(line: &str) -> bool {
+    matches!(line, "pairs" | "report")
+}
+
+fn put_line(text: &mut Vec<u8>, line: &str) -> Result<(), Fail> {
+    text.extend_from_slice(line.as_bytes())?;
+    Ok(text.push(b'\n')?)
+}
+
 /// A scenario without its questions for lists.
-fn without_lists(alloc: Global, scenario: &[u8]) -> Result<Vec<u8>, Fail> {
+fn without_lists(alloc: Global, scenario: &str) -> Result<Vec<u8>, Fail> {
     let mut rest = Vec::new(alloc);
-    for line in str::from_utf8(scenario)?.lines() {
-        if line != "pairs" && line != "report" {
-            rest.extend_from_slice(line.as_bytes())?;
-            rest.push(b'\n')?;
+    for line in scenario.lines() {
+        if !asks_for_list(line) {
+            put_line(&mut rest, line)?;
         }
     }
     Ok(rest)
@@ -135,7 +144,7 @@ fn is_same_by_its_feed(
     at: usize,
     scenario: &[u8],
 ) -> Result<(), Fail> {
-    let text = without_lists(alloc, scenario)?;
+    let text = without_lists(alloc, str::from_utf8(scenario)?)?;
     let played = written(alloc, b"play", &text)?;
     let feed = written(alloc, b"build", &text)?;
     let replayed = written(alloc, b"replay", &feed)?;

@@ -1,12 +1,10 @@
-use Rattle.std.proofs.Common.{◌≡◌, List, ℕ, Option, IfSome, sym, subst}
-use Rattle.std.specs.Prelude.{◌⊎◌}
+use Rattle.std.proofs.Common.{List, ℕ, Option, sym, subst}
 use Rattle.spectre.specs.Ends.{Comes}
-use Rattle.spectre.specs.Faults.{IsFaultless}
 use Rattle.spectre.specs.Jobs.{NamesFile, Shows, TakesNothing, TakesScenario}
-use Rattle.spectre.specs.Output.{OnDisk}
 use Rattle.spectre.specs.Rests.{AnswersAgree, OrderIsNoMatter}
 use Rattle.spectre.specs.declared.job.Job.{Job}
 use Rattle.spectre.specs.declared.status.Status.TheVariants as status
+use Rattle.spectre.proofs.Completing.{completes}
 use Rattle.spectre.proofs.Resting.{if_some, order_is_no_matter}
 use Rattle.spectre.proofs.TopCall.{asked_ends, ends_at, nothing_asked, nothing_fed, nothing_written}
 use Rattle.spectre.proofs.command.run.Goals as goal
@@ -92,10 +90,9 @@ returns-in-Ok-clause-order g c = λ replay.
 
 pub returns-in-Ok-clause-complete : goal.returns-in-Ok-clause-complete
 returns-in-Ok-clause-complete g c = λ read write disk.
-    let left = g.S.Source.left c.args.source.now in
-    let reads = (g.D.Disk.now c.args.disk.now).reads in
-    let r = c.do_job.result in
-    subst (λ (j : Option Job). IfSome left (λ input. OnDisk j reads (λ bytes. IsFaultless j bytes input → (r ≡ status.Done) ⊎ (r ≡ status.Memory)))) (sym c.in-Ok.ensures.job) (c.do_job.ensures.complete read write disk)
+    let e = c.do_job.ensures in
+    let ends = asked_ends c.in-Ok.ensures.job e.ends in
+    completes _ _ _ _ _ _ _ (λ s. read (e.read_cause s)) (λ s. write (e.write_cause s)) (λ s. disk (e.disk_cause s).0) ends.by
 
 pub returns-in-Ok-clause-among : goal.returns-in-Ok-clause-among
 returns-in-Ok-clause-among g c = subst (λ (j : Option Job). Comes j c.do_job.result) (sym c.in-Ok.ensures.job) c.do_job.ensures.among

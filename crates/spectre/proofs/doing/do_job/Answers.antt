@@ -36,6 +36,9 @@ returns-in-Replay-clause-ends g c =
       crash = tt;
     }
 
+pub returns-in-Replay-clause-disk_cause : goal.returns-in-Replay-clause-disk_cause
+returns-in-Replay-clause-disk_cause g c = λ s. absurd (subst Replays s c.replay.ensures.among)
+
 pub returns-in-Keep-clause-ends : goal.returns-in-Keep-clause-ends
 returns-in-Keep-clause-ends g c =
     let first = g.D.Disk.now c.args.disk.now in
@@ -76,6 +79,9 @@ returns-in-Show-clause-ends g c =
       crash = tt;
     }
 
+pub returns-in-Show-clause-read_cause : goal.returns-in-Show-clause-read_cause
+returns-in-Show-clause-read_cause g c = λ s. absurd (subst Shows s c.show.ensures.among)
+
 pub returns-in-Play-clause-ends : goal.returns-in-Play-clause-ends
 returns-in-Play-clause-ends g c =
     let first = g.D.Disk.now c.args.disk.now in
@@ -104,6 +110,9 @@ returns-in-Play-clause-ends g c =
       taken_fed = λ fed. absurd fed;
       crash = tt;
     }
+
+pub returns-in-Play-clause-disk_cause : goal.returns-in-Play-clause-disk_cause
+returns-in-Play-clause-disk_cause g c = λ s. absurd (subst Plays s c.from_source.ensures.among)
 
 pub returns-in-Build-clause-ends : goal.returns-in-Build-clause-ends
 returns-in-Build-clause-ends g c =
@@ -134,6 +143,9 @@ returns-in-Build-clause-ends g c =
       crash = tt;
     }
 
+pub returns-in-Build-clause-disk_cause : goal.returns-in-Build-clause-disk_cause
+returns-in-Build-clause-disk_cause g c = λ s. absurd (subst Plays s c.from_source-in-Build.ensures.among)
+
 pub returns-in-Make-clause-ends : goal.returns-in-Make-clause-ends
 returns-in-Make-clause-ends g c =
     let first = g.D.Disk.now c.args.disk.now in
@@ -163,6 +175,12 @@ returns-in-Make-clause-ends g c =
       crash = tt;
     }
 
+pub returns-in-Make-clause-read_cause : goal.returns-in-Make-clause-read_cause
+returns-in-Make-clause-read_cause g c = λ s. absurd (subst Makes s c.make_text.ensures.among)
+
+pub returns-in-Make-clause-disk_cause : goal.returns-in-Make-clause-disk_cause
+returns-in-Make-clause-disk_cause g c = λ s. absurd (subst Makes s c.make_text.ensures.among)
+
 pub returns-in-Drill-clause-ends : goal.returns-in-Drill-clause-ends
 returns-in-Drill-clause-ends g c =
     let first = g.D.Disk.now c.args.disk.now in
@@ -191,3 +209,9 @@ returns-in-Drill-clause-ends g c =
       taken_fed = λ fed. absurd fed;
       crash = tt;
     }
+
+pub returns-in-Drill-clause-read_cause : goal.returns-in-Drill-clause-read_cause
+returns-in-Drill-clause-read_cause g c = λ s. absurd (subst Makes s c.drill_text.ensures.among)
+
+pub returns-in-Drill-clause-disk_cause : goal.returns-in-Drill-clause-disk_cause
+returns-in-Drill-clause-disk_cause g c = λ s. absurd (subst Makes s c.drill_text.ensures.among)

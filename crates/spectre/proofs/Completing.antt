@@ -1,0 +1,162 @@
+-- Where nothing failed, and neither the input nor what the disk held has a fault, a run is done, or memory was refused.
+use Rattle.std.proofs.Common.{◌≡◌, ◌⊎◌, inl, inr, ℕ, ◌<◌, ◌≤◌, Bool, true, false, List, [], length, Option, Some, None, IfSome, IsNone, IsSome, refl, sym, subst, ◌∙◌, arith}
+use Rattle.std.specs.Io.KnownBytes.{Appends}
+use Rattle.sp_feed.specs.Feed.{End, Malformed, TooLong, Truncated, Whole}
+use Rattle.sp_feed.specs.Format.{Head}
+use Rattle.sp_journal.specs.Journal.{Contents}
+use Rattle.sp_journal.specs.Records.{Damaged, Found, NoJournal, Records, records}
+use Rattle.sp_make.specs.Made.{made}
+use Rattle.sp_play.specs.Scene.{scene}
+use Rattle.spectre.specs.Faults.{EndsMalformed, EndsTooLong, EndsTruncated, EndsWhole, IsDamaged, IsFaultless, IsMalformed, IsNoJournal, IsOtherChain, IsTooLong, IsTruncated}
+use Rattle.spectre.specs.JobEnds.{WritesBy}
+use Rattle.spectre.specs.Journals.{Fits, FitsHead, HasOtherChain}
+use Rattle.spectre.specs.Output.{OnDisk, output_by}
+use Rattle.spectre.specs.Replay.{fed}
+use Rattle.spectre.specs.declared.job.Job.{Job}
+use Rattle.spectre.specs.declared.job.Job.TheVariants as jobs
+use Rattle.spectre.specs.declared.status.Status.{Status}
+use Rattle.spectre.specs.declared.status.Status.TheVariants as status
+use Rattle.spectre.proofs.KeptRuns.{damaged_says, none_says}
+use Rattle.spectre.proofs.TopCall.{if_all, on_all}
+
+-- ---- what has a fault isn't faultless
+
+malformed_end : (e : End) → EndsMalformed e → EndsWhole e → ⊥
+malformed_end (Whole rest) bad good = bad
+malformed_end (Malformed at) bad good = good
+malformed_end (Truncated at) bad good = bad
+malformed_end (TooLong taken) bad good = bad
+
+truncated_end : (e : End) → EndsTruncated e → EndsWhole e → ⊥
+truncated_end (Whole rest) bad good = bad
+truncated_end (Malformed at) bad good = bad
+truncated_end (Truncated at) bad good = good
+truncated_end (TooLong taken) bad good = bad
+
+long_end : (e : End) → EndsTooLong e → EndsWhole e → ⊥
+long_end (Whole rest) bad good = bad
+long_end (Malformed at) bad good = bad
+long_end (Truncated at) bad good = bad
+long_end (TooLong taken) bad good = good
+
+some_none : {A : Type 0} (o : Option A) → IsSome o → IsNone o → ⊥
+some_none None some none = absurd (let no : false ≡ true = some in cc)
+some_none (Some x) some none = absurd (let no : true ≡ false = none in cc)
+
+too_long : (a b : ℕ) → b ≤ a → a < b → ⊥
+too_long a b more less = absurd (omega (arith, more, less))
+
+malformed : (job : Option Job) (disk input : List ℕ) → IsMalformed job input → IsFaultless job disk input → ⊥
+malformed None disk input bad good = bad
+malformed (Some jobs.Replay) disk input bad good = malformed_end (fed input).end bad good
+malformed (Some (jobs.Keep path fresh)) disk input bad good = malformed_end (fed input).end bad good.1
+malformed (Some (jobs.Show path)) disk input bad good = bad
+malformed (Some jobs.Play) disk input bad good = some_none (scene input).fault bad.wrong good.right
+malformed (Some jobs.Build) disk input bad good = some_none (scene input).fault bad.wrong good.right
+malformed (Some (jobs.Make n seed width)) disk input bad good = bad
+malformed (Some (jobs.Drill n seed width)) disk input bad good = some_none (scene (made n seed width)).fault bad good
+
+truncated : (job : Option Job) (disk input : List ℕ) → IsTruncated job input → IsFaultless job disk input → ⊥
+truncated None disk input bad good = bad
+truncated (Some jobs.Replay) disk input bad good = truncated_end (fed input).end bad good
+truncated (Some (jobs.Keep path fresh)) disk input bad good = truncated_end (fed input).end bad good.1
+truncated (Some (jobs.Show path)) disk input bad good = bad
+truncated (Some jobs.Play) disk input bad good = bad
+truncated (Some jobs.Build) disk input bad good = bad
+truncated (Some (jobs.Make n seed width)) disk input bad good = bad
+truncated (Some (jobs.Drill n seed width)) disk input bad good = bad
+
+long : (job : Option Job) (disk input : List ℕ) → IsTooLong job input → IsFaultless job disk input → ⊥
+long None disk input bad good = bad
+long (Some jobs.Replay) disk input bad good = long_end (fed input).end bad good
+long (Some (jobs.Keep path fresh)) disk input bad good = long_end (fed input).end bad good.1
+long (Some (jobs.Show path)) disk input bad good = bad
+long (Some jobs.Play) disk input bad good = too_long (length input) _ bad good.short
+long (Some jobs.Build) disk input bad good = too_long (length input) _ bad good.short
+long (Some (jobs.Make n seed width)) disk input bad good = bad
+long (Some (jobs.Drill n seed width)) disk input bad good = bad
+
+one_kind : (disk : List ℕ) (c : Contents) → records disk ≡ Found c → (r : Records) → records disk ≡ r → r ≡ Found c
+one_kind disk c found r is = sym is ∙ found
+
+not_none : (c : Contents) → NoJournal ≡ Found c → ⊥
+not_none c e = cc
+
+not_damaged : (at : ℕ) (c : Contents) → Damaged at ≡ Found c → ⊥
+not_damaged at c e = cc
+
+no_journal : (job : Option Job) (disk input : List ℕ) → IsNoJournal job disk → IsFaultless job disk input → ⊥
+no_journal None disk input bad good = bad
+no_journal (Some jobs.Replay) disk input bad good = bad
+no_journal (Some (jobs.Keep path fresh)) disk input bad good = (none_says fresh disk input bad).1 good.0
+no_journal (Some (jobs.Show path)) disk input bad good = not_none good.0 (one_kind disk good.0 good.1 NoJournal bad)
+no_journal (Some jobs.Play) disk input bad good = bad
+no_journal (Some jobs.Build) disk input bad good = bad
+no_journal (Some (jobs.Make n seed width)) disk input bad good = bad
+no_journal (Some (jobs.Drill n seed width)) disk input bad good = bad
+
+damaged : (job : Option Job) (disk input : List ℕ) → IsDamaged job disk → IsFaultless job disk input → ⊥
+damaged None disk input bad good = bad
+damaged (Some jobs.Replay) disk input bad good = bad
+damaged (Some (jobs.Keep path fresh)) disk input bad good = (damaged_says fresh disk input bad.0 bad.1).1 good.0
+damaged (Some (jobs.Show path)) disk input bad good = not_damaged bad.0 good.0 (one_kind disk good.0 good.1 (Damaged bad.0) bad.1)
+damaged (Some jobs.Play) disk input bad good = bad
+damaged (Some jobs.Build) disk input bad good = bad
+damaged (Some (jobs.Make n seed width)) disk input bad good = bad
+damaged (Some (jobs.Drill n seed width)) disk input bad good = bad
+
+other_fits : (fresh : Bool) (disk input : List ℕ) → HasOtherChain disk input → Fits fresh disk input → ⊥
+other_fits fresh disk input h fits =
+    h.other (subst (λ (o : Option Head). FitsHead fresh disk (Found h.contents) o) h.begins (subst (λ (r : Records). FitsHead fresh disk r (fed input).head) h.found fits))
+
+other_chain : (job : Option Job) (disk input : List ℕ) → IsOtherChain job disk input → IsFaultless job disk input → ⊥
+other_chain None disk input bad good = bad
+other_chain (Some jobs.Replay) disk input bad good = bad
+other_chain (Some (jobs.Keep path fresh)) disk input bad good = other_fits fresh disk input bad good.0
+other_chain (Some (jobs.Show path)) disk input bad good = bad
+other_chain (Some jobs.Play) disk input bad good = bad
+other_chain (Some jobs.Build) disk input bad good = bad
+other_chain (Some (jobs.Make n seed width)) disk input bad good = bad
+other_chain (Some (jobs.Drill n seed width)) disk input bad good = bad
+
+-- ---- where source and disk tell their bytes
+
+if_each : (o : Option (List ℕ)) (P Q : List ℕ → Type 0) → ((x : List ℕ) → P x → Q x) → IfSome o P → IfSome o Q
+if_each None P Q f h = tt
+if_each (Some x) P Q f h = f x h
+
+on_each : (job : Option Job) (reads : Option (List ℕ)) (P Q : List ℕ → Type 0) → ((disk : List ℕ) → P disk → Q disk) → OnDisk job reads P → OnDisk job reads Q
+on_each None reads P Q f h = f [] h
+on_each (Some jobs.Replay) reads P Q f h = f [] h
+on_each (Some (jobs.Keep path fresh)) reads P Q f h = if_each reads P Q f h
+on_each (Some (jobs.Show path)) reads P Q f h = if_each reads P Q f h
+on_each (Some jobs.Play) reads P Q f h = f [] h
+on_each (Some jobs.Build) reads P Q f h = f [] h
+on_each (Some (jobs.Make n seed width)) reads P Q f h = f [] h
+on_each (Some (jobs.Drill n seed width)) reads P Q f h = f [] h
+
+-- where nothing is at fault, the status is one of these two
+abbrev pub Completes : Option Job → Option (List ℕ) → Option (List ℕ) → Status → Type 0
+Completes job reads before s = IfSome before (λ input. OnDisk job reads (λ disk. IsFaultless job disk input → (s ≡ status.Done) ⊎ (s ≡ status.Memory)))
+
+at_fault : (job : Option Job) (reads before old new : Option (List ℕ)) (s : Status) (Bad : List ℕ → List ℕ → Type 0) → ((disk input : List ℕ) → Bad disk input → IsFaultless job disk input → ⊥)
+    → IfSome before (λ input. OnDisk job reads (λ disk. Appends old new (output_by job disk input) × Bad disk input)) → Completes job reads before s
+at_fault job reads before old new s Bad refuted h = if_each before _ _ (λ input. on_each job reads _ _ (λ disk ends good. absurd (refuted disk input ends.1 good))) h
+
+at_rest : (job : Option Job) (reads before : Option (List ℕ)) (s : Status) → (s ≡ status.Done) ⊎ (s ≡ status.Memory) → Completes job reads before s
+at_rest job reads before s e = if_all before _ (λ input. on_all job reads _ (λ disk good. e))
+
+pub completes : (job : Option Job) (reads before after old new : Option (List ℕ)) (s : Status) → (s ≡ status.ReadFault → ⊥) → (s ≡ status.WriteFault → ⊥) → (s ≡ status.DiskFault → ⊥)
+    → WritesBy job reads before after old new s → Completes job reads before s
+completes job reads before after old new status.Done read write disk by = at_rest job reads before status.Done (inl refl)
+completes job reads before after old new status.Usage read write disk by = absurd by
+completes job reads before after old new status.Malformed read write disk by = at_fault job reads before old new status.Malformed _ (malformed job) by.0
+completes job reads before after old new status.Truncated read write disk by = at_fault job reads before old new status.Truncated _ (truncated job) by.0
+completes job reads before after old new status.ReadFault read write disk by = absurd (read refl)
+completes job reads before after old new status.WriteFault read write disk by = absurd (write refl)
+completes job reads before after old new status.DiskFault read write disk by = absurd (disk refl)
+completes job reads before after old new status.NotJournal read write disk by = at_fault job reads before old new status.NotJournal _ (no_journal job) by
+completes job reads before after old new status.OtherChain read write disk by = at_fault job reads before old new status.OtherChain _ (other_chain job) by
+completes job reads before after old new status.Memory read write disk by = at_rest job reads before status.Memory (inr refl)
+completes job reads before after old new status.Damaged read write disk by = at_fault job reads before old new status.Damaged _ (damaged job) by
+completes job reads before after old new status.TooLong read write disk by = at_fault job reads before old new status.TooLong _ (long job) by.0
