@@ -300,27 +300,47 @@ fn ids_in_order(rt: HostRuntime) -> Result<(), Fail> {
     Ok(())
 }
 
-/// What is wrong with the names by themselves.
-fn wrong_names(names: &Names) -> Result<&'static str, Fail> {
+/// What is wrong with the names of blocks by themselves.
+fn wrong_blocks(names: &Names) -> Result<&'static str, Fail> {
     if names.block_count() != 3 || names.block_at(1) != read_id(SECOND)? {
         return Ok("blocks");
-    }
-    if names.tx_count() != 2 || names.tx_at(1) != tx_id(SEVEN)? {
-        return Ok("transactions");
-    }
-    if names.lock_count() != 1 || names.lock_at(0) != lock(ABC)? {
-        return Ok("locks");
     }
     if names.block_name(&read_id(SECOND)?) != Some(b"late") {
         return Ok("name of a block");
     }
+    Ok("")
+}
+
+fn wrong_txs(names: &Names) -> Result<&'static str, Fail> {
+    if names.tx_count() != 2 || names.tx_at(1) != tx_id(SEVEN)? {
+        return Ok("transactions");
+    }
     if names.tx_name(&tx_id(SECOND)?).is_some() {
         return Ok("name of no transaction");
+    }
+    Ok("")
+}
+
+fn wrong_locks(names: &Names) -> Result<&'static str, Fail> {
+    if names.lock_count() != 1 || names.lock_at(0) != lock(ABC)? {
+        return Ok("locks");
     }
     if names.lock_name(&lock(ABC)?) != Some(b"abc") {
         return Ok("name of a lock");
     }
     Ok("")
+}
+
+fn wrong_names(names: &Names) -> Result<&'static str, Fail> {
+    let blocks = wrong_blocks(names)?;
+    if !blocks.is_empty() {
+        return Ok(blocks);
+    }
+    let txs = wrong_txs(names)?;
+    if !txs.is_empty() {
+        return Ok(txs);
+    }
+    wrong_locks(names)
 }
 
 fn wrong_names_anew(alloc: Global) -> Result<&'static str, Fail> {
