@@ -10,8 +10,8 @@ use Rattle.sp_tx.specs.declared.parts.Input.{Input}
 use Rattle.sp_model.specs.Graph.{in_past, keys, related, IsDownset}
 use Rattle.sp_model.specs.Votes.{virt}
 use Rattle.sp_model.proofs.Exchange.{virt_neg}
-use Rattle.sp_dag.specs.Numbered.{graph_of}
-use Rattle.sp_dag.proofs.Whole.{keys_are_numbers}
+use Rattle.sp_dag.specs.Numbered.{Numbered, graph_of}
+use Rattle.sp_dag.proofs.Ranked.{keys_are_numbers}
 use Rattle.sp_carry.specs.declared.carrier.Carrier.{Carrier}
 use Rattle.sp_carry.specs.Carried.{Carried, IsCarried, carriers_in}
 use Rattle.sp_carry.specs.Lookups.{spenders_in}
@@ -74,7 +74,7 @@ below_few (r ∷ rows) n = at (below_few rows n) (nat_lt r.block n) refl
 
 -- ---- all other carriers stand still
 
-module _ (table : List (List ℕ)) (k : Carried) (carried : IsCarried k) (of : AreOf table k) (a : Acceptance) (right : IsRight table k a)
+module _ (table : Numbered) (k : Carried) (carried : IsCarried k) (of : AreOf table k) (a : Acceptance) (right : IsRight table k a)
     (changed : List (ℕ × ℕ)) (told : TellsChanges table a.blocks changed) (set : Set)
     (news : (d : ℕ) → is_of_new k (carriers_below k.rows a.blocks) (length k.rows - carriers_below k.rows a.blocks) d ≡ true → has_number set d ≡ true)
     (noted : AreNoted k a.blocks changed (length changed) set) where
@@ -135,7 +135,7 @@ module _ (table : List (List ℕ)) (k : Carried) (carried : IsCarried k) (of : A
       noted there.0 x y c e there.1 (slice_get-get_or changed there.0 (x, y) there.1 ∙ ap (λ (p : ℕ × ℕ). Some p) there.2) less under lc le bc be rival
 
   all_downset : IsDownset (graph_of table) (keys (graph_of table))
-  all_downset = subst (IsDownset (graph_of table)) (sym (keys_are_numbers table)) (first_downset table (length table) of.order (omega arith))
+  all_downset = subst (IsDownset (graph_of table)) (sym (keys_are_numbers table)) (first_downset table (length table.parents) of.order (omega arith))
 
   first : IsDownset (graph_of table) (first_blocks n)
   first = first_downset table n of.order (let few : n ≤ k.blocks = right.few in omega (arith, few, of.long))

@@ -12,7 +12,7 @@ use Rattle.sp_tx.specs.declared.parts.Input.{Input}
 use Rattle.sp_tx.specs.declared.parts.Output.{Output}
 use Rattle.sp_model.specs.Graph.{in_past, parents_of, past}
 use Rattle.sp_model.proofs.Pasts.{in_past_step}
-use Rattle.sp_dag.specs.Numbered.{AreInOrder, graph_of}
+use Rattle.sp_dag.specs.Numbered.{Numbered, AreInOrder, graph_of}
 use Rattle.sp_carry.specs.Payment.{Payment, finds, is_opened_by, is_same_outpoint, output_in, spent_by}
 use Rattle.sp_carry.specs.Ledger.{carried, is_covered, is_empty, is_genesis}
 use Rattle.sp_carry.specs.Carried.{AreSound, Carried, carriers_in, ledger_of, tx_at}
@@ -32,7 +32,7 @@ use Rattle.sp_accept.proofs.Numbers.{carrier_of, of_carrier, of_spender, spender
 same_itself : (a b : Outpoint) → a.tx ≡ b.tx → a.index ≡ b.index → is_same_outpoint a b ≡ true
 same_itself a b t i = and_from (eqb a.tx b.tx) (eqb a.index b.index) (eq-eqb a.tx b.tx t) (eq-eqb a.index b.index i)
 
-module _ (table : List (List ℕ)) (k : Carried) (kept : AreRows k) (blocks : length table ≡ k.blocks) (order : AreInOrder table) (sound : AreSound table k) where
+module _ (table : Numbered) (k : Carried) (kept : AreRows k) (blocks : length table.parents ≡ k.blocks) (order : AreInOrder table.parents) (sound : AreSound table k) where
   abbrev block_of : ℕ → ℕ
   block_of c = (row_at k.rows c).block
 

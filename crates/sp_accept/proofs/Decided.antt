@@ -14,9 +14,8 @@ use Rattle.sp_model.proofs.Pasts.{has-past, has-past_from}
 use Rattle.sp_model.proofs.Sets.{has-filter, has-filter_from, same_truth}
 use Rattle.sp_tx.specs.Spending.{id_of}
 use Rattle.sp_tx.specs.declared.parts.Input.{Input}
-use Rattle.sp_dag.specs.Numbered.{AreInOrder, graph_of}
-use Rattle.sp_dag.proofs.Keys.{all_complete, key_in}
-use Rattle.sp_dag.proofs.Whole.{ancestors_lower}
+use Rattle.sp_dag.specs.Numbered.{Numbered, AreInOrder, graph_of}
+use Rattle.sp_dag.proofs.Ranked.{all_complete, key_in, ancestors_lower}
 use Rattle.sp_carry.specs.Payment.{Payment, Spent, conflicts, spent_by}
 use Rattle.sp_carry.specs.Ledger.{Ledger, accepts_by, is_rival, is_sound, some_carrier}
 use Rattle.sp_carry.specs.Carried.{AreSound, Carried, carriers_in, ledger_of}
@@ -32,12 +31,12 @@ use Rattle.sp_accept.proofs.Numbers.{carrier_of, of_carrier, of_spender, spender
 use Rattle.sp_accept.proofs.Places.{position_is}
 
 -- the flags of the carriers in the past of carrier n's block say what is accepted of them
-abbrev pub AreTold : List (List ℕ) → Carried → (ℕ → Payment → Bool) → List Bool → ℕ → Type 0
+abbrev pub AreTold : Numbered → Carried → (ℕ → Payment → Bool) → List Bool → ℕ → Type 0
 AreTold table k accepted flags n =
     (c : ℕ) → c < length k.rows → is_below table (row_at k.rows c).block (row_at k.rows n).block ≡ true
     → is_set flags c ≡ accepted (row_at k.rows c).block (payment_at k (row_at k.rows c).tx)
 
-module _ (table : List (List ℕ)) (k : Carried) (kept : AreRows k) (blocks : length table ≡ k.blocks) (order : AreInOrder table) (sound : AreSound table k) (accepted : ℕ → Payment → Bool) where
+module _ (table : Numbered) (k : Carried) (kept : AreRows k) (blocks : length table.parents ≡ k.blocks) (order : AreInOrder table.parents) (sound : AreSound table k) (accepted : ℕ → Payment → Bool) where
   abbrev ledger : Ledger
   ledger = ledger_of table k
 
@@ -55,7 +54,7 @@ module _ (table : List (List ℕ)) (k : Carried) (kept : AreRows k) (blocks : le
 
   -- ---- blocks
 
-  block_in : (c : ℕ) → c < length k.rows → block_of c < length table
+  block_in : (c : ℕ) → c < length k.rows → block_of c < length table.parents
   block_in c lt = (let b : block_of c < k.blocks = kept.inside c lt in omega (arith, b, blocks))
 
   pub member : (c : ℕ) → c < length k.rows → has set (block_of c) ≡ true

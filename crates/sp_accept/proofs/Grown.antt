@@ -5,6 +5,7 @@ use Rattle.std.proofs.Math.ListN.{get_or-append}
 use Rattle.std.proofs.lemmas.List.{append-nil}
 use Rattle.std.proofs.lemmas.List.Elements.{All-cons, All-nil, All-push}
 use Rattle.std.proofs.lemmas.Bool.{ne_eqb}
+use Rattle.sp_dag.specs.Numbered.{Numbered}
 use Rattle.sp_tx.specs.Parts.{Transaction, of_parts}
 use Rattle.sp_tx.specs.Spending.{id_of}
 use Rattle.sp_carry.specs.declared.carrier.Carrier.{Carrier}
@@ -49,7 +50,7 @@ payments_stay k k' z linked on lt =
 -- ---- one carrier more in the next block
 
 -- the next carrier, and what stays
-record IsStep (parents : List (List ℕ)) (k k' : Carried) : Type 0 where
+record IsStep (table : Numbered) (k k' : Carried) : Type 0 where
   blocks : k'.blocks ≡ k.blocks
   txs : (t : ℕ) → t < length k.txs → tx_at k' t ≡ tx_at k t
   few : length k.txs ≤ length k'.txs
@@ -57,15 +58,15 @@ record IsStep (parents : List (List ℕ)) (k k' : Carried) : Type 0 where
   rows : k'.rows ≡ k.rows ++ row ∷ []
   block : row.block ≡ k.blocks
 
-step : (parents : List (List ℕ)) (k : Carried) (t : Transaction) → IsStep parents k (with_carrier parents k t)
-step parents k t = at (number_of k (id_of t))
+step : (table : Numbered) (k : Carried) (t : Transaction) → IsStep table k (with_carrier table k t)
+step table k t = at (number_of k (id_of t))
   where
-    at : (o : Option ℕ) → IsStep parents k (carried_by parents k t o)
+    at : (o : Option ℕ) → IsStep table k (carried_by table k t o)
     at None = record {
       blocks = refl;
       txs = λ n lt. get_or-append k.txs (t ∷ []) (of_parts [] []) n lt;
       few = omega (arith, length-append k.txs (t ∷ []));
-      row = next_carrier parents k (length k.txs) t;
+      row = next_carrier table k (length k.txs) t;
       rows = refl;
       block = refl;
     }
@@ -73,7 +74,7 @@ step parents k t = at (number_of k (id_of t))
       blocks = refl;
       txs = λ n lt. refl;
       few = omega arith;
-      row = next_carrier parents k n (tx_at k n);
+      row = next_carrier table k n (tx_at k n);
       rows = refl;
       block = refl;
     }
@@ -81,14 +82,14 @@ step parents k t = at (number_of k (id_of t))
 one_later : (k : Carried) (r : Carrier) → r.block ≡ k.blocks → All (λ (r : Carrier). k.blocks ≤ r.block) (r ∷ [])
 one_later k r e = All-cons (λ (r : Carrier). k.blocks ≤ r.block) r [] (omega (arith, e)) (All-nil (λ (r : Carrier). k.blocks ≤ r.block))
 
-goes_on : (parents : List (List ℕ)) (k k' : Carried) → IsStep parents k k' → GoesOn k k'
-goes_on parents k k' s = record { txs = s.txs; few = s.few; more = s.row ∷ []; rows = s.rows; later = one_later k s.row s.block }
+goes_on : (table : Numbered) (k k' : Carried) → IsStep table k k' → GoesOn k k'
+goes_on table k k' s = record { txs = s.txs; few = s.few; more = s.row ∷ []; rows = s.rows; later = one_later k s.row s.block }
 
-s_blocks : (parents : List (List ℕ)) (k : Carried) (t : Transaction) → (with_carrier parents k t).blocks ≡ k.blocks
-s_blocks parents k t = (let s : IsStep parents k (with_carrier parents k t) = step parents k t in s.blocks)
+s_blocks : (table : Numbered) (k : Carried) (t : Transaction) → (with_carrier table k t).blocks ≡ k.blocks
+s_blocks table k t = (let s : IsStep table k (with_carrier table k t) = step table k t in s.blocks)
 
-goes_further : (parents : List (List ℕ)) (k mid k' : Carried) → mid.blocks ≡ k.blocks → GoesOn k mid → IsStep parents mid k' → GoesOn k k'
-goes_further parents k mid k' same on s = record {
+goes_further : (table : Numbered) (k mid k' : Carried) → mid.blocks ≡ k.blocks → GoesOn k mid → IsStep table mid k' → GoesOn k k'
+goes_further table k mid k' same on s = record {
   txs = λ t lt. s.txs t (omega (arith, lt, on.few)) ∙ on.txs t lt;
   few = omega (arith, on.few, s.few);
   more = on.more ++ s.row ∷ [];
@@ -97,13 +98,13 @@ goes_further parents k mid k' same on s = record {
 }
 
 -- the carriers of a block go on from those before it
-pub goes_all : (parents : List (List ℕ)) (k : Carried) (ts : List Transaction) → GoesOn k (with_block parents k ts)
-goes_all parents k ts =
-    let r : GoesOn k (with_carriers parents k ts) =
+pub goes_all : (table : Numbered) (k : Carried) (ts : List Transaction) → GoesOn k (with_block table k ts)
+goes_all table k ts =
+    let r : GoesOn k (with_carriers table k ts) =
     further k ts refl (record { txs = λ t lt. refl; few = omega arith; more = []; rows = sym (append-nil k.rows); later = All-nil (λ (r : Carrier). k.blocks ≤ r.block) }) in
     record { txs = r.txs; few = r.few; more = r.more; rows = r.rows; later = r.later }
   where
-    further : (mid : Carried) (ts : List Transaction) → mid.blocks ≡ k.blocks → GoesOn k mid → GoesOn k (with_carriers parents mid ts)
+    further : (mid : Carried) (ts : List Transaction) → mid.blocks ≡ k.blocks → GoesOn k mid → GoesOn k (with_carriers table mid ts)
     further mid [] same on = on
     further mid (t ∷ ts) same on =
-        further (with_carrier parents mid t) ts (s_blocks parents mid t ∙ same) (goes_further parents k mid (with_carrier parents mid t) same on (step parents mid t))
+        further (with_carrier table mid t) ts (s_blocks table mid t ∙ same) (goes_further table k mid (with_carrier table mid t) same on (step table mid t))

@@ -3,6 +3,7 @@ use Rattle.std.proofs.Common.{◌≡◌, ◌<◌, ◌-◌, ◌∙◌, ℕ, Bool,
 use Rattle.std.specs.Prelude.{filter}
 use Rattle.std.specs.List.{list_any, range_with_len}
 use Rattle.std.proofs.Math.Seq.{take-append_seam}
+use Rattle.sp_dag.specs.Numbered.{Numbered}
 use Rattle.sp_carry.specs.declared.carrier.Flip.{Flip}
 use Rattle.sp_carry.specs.Carried.{Carried, IsCarried, carriers_in}
 use Rattle.sp_carry.proofs.Members.{any_agrees}
@@ -36,7 +37,7 @@ all_flips k txs first start flags m turned flips carried e turns are =
 
 -- the value before an update and what contracts see of it, the flags and the flips of the decision, and the flags of
 -- transactions in which these are set
-module _ (table : List (List ℕ)) (k : Carried) (carried : IsCarried k) (of : AreOf table k) (own a : Acceptance) (seen : own ≡ a) (right : IsRight table k a)
+module _ (table : Numbered) (k : Carried) (carried : IsCarried k) (of : AreOf table k) (own a : Acceptance) (seen : own ≡ a) (right : IsRight table k a)
     (flags : List Bool) (flips : List Flip) (are : flips ≡ flips_among own.txs (is_carried_flag k flags) (range_with_len 0 (length k.txs)))
     (txs now : List Bool) (count : ℕ) (told : List Flip) (same : txs ≡ own.txs) (all : count ≡ length k.txs) (told_is : told ≡ flips) (is : now ≡ with_flips (grown txs count) told) where
   abbrev start : List Bool

@@ -6,8 +6,8 @@ use Rattle.std.proofs.lemmas.Bool.{and_from, and_parts, cases_lt, eqb-true, eq-e
 use Rattle.std.proofs.lemmas.List.FromFn.{get_or-map-range_with_len, map-range_with_len_more, length-map-range_with_len}
 use Rattle.sp_model.specs.Graph.{has, keys}
 use Rattle.sp_model.proofs.Sets.{same_truth}
-use Rattle.sp_dag.specs.Numbered.{AreInOrder, graph_of}
-use Rattle.sp_dag.proofs.Whole.{keys_are_numbers}
+use Rattle.sp_dag.specs.Numbered.{Numbered, AreInOrder, graph_of}
+use Rattle.sp_dag.proofs.Ranked.{keys_are_numbers}
 use Rattle.sp_carry.specs.Payment.{Payment}
 use Rattle.sp_carry.specs.Ledger.{Ledger, accepted_carriers, accepts}
 use Rattle.sp_carry.specs.Carried.{AreSound, Carried, IsCarried, carriers_in, ledger_of}
@@ -23,7 +23,7 @@ use Rattle.sp_accept.proofs.Numbers.{carrier_of, of_carrier}
 use Rattle.sp_accept.proofs.StillRight.{first_in, of_first}
 
 -- one more carrier
-pub passed_more : (table : List (List ℕ)) (k : Carried) (flags seen new : List Bool) (now : Bool) (n : ℕ) → flags ≡ passed table k n
+pub passed_more : (table : Numbered) (k : Carried) (flags seen new : List Bool) (now : Bool) (n : ℕ) → flags ≡ passed table k n
     → seen ≡ flags → now ≡ is_next table k seen n → new ≡ flags ++ now ∷ [] → new ≡ passed table k (n + 1)
 unfolding passed
 passed_more table k flags seen new now n e s f g = g ∙ rw (add-one n, f, s, e) refl
@@ -43,12 +43,12 @@ flag_last [] f = refl
 flag_last (x ∷ xs) f = flag_last xs f
 
 -- the flags of the first n carriers say what the definition says, where all blocks are the set
-pub record AreDecided (table : List (List ℕ)) (k : Carried) (flags : List Bool) (n : ℕ) : Type 0 where
+pub record AreDecided (table : Numbered) (k : Carried) (flags : List Bool) (n : ℕ) : Type 0 where
   pub long : length flags ≡ n
   pub each : (c : ℕ) → c < n
       → is_set flags c ≡ accepts (ledger_of table k) (keys (graph_of table)) (row_at k.rows c).block (payment_at k (row_at k.rows c).tx)
 
-module _ (table : List (List ℕ)) (k : Carried) (kept : AreRows k) (blocks : length table ≡ k.blocks) (order : AreInOrder table) (sound : AreSound table k) where
+module _ (table : Numbered) (k : Carried) (kept : AreRows k) (blocks : length table.parents ≡ k.blocks) (order : AreInOrder table.parents) (sound : AreSound table k) where
   abbrev ledger : Ledger
   ledger = ledger_of table k
 
@@ -152,6 +152,6 @@ module _ (table : List (List ℕ)) (k : Carried) (kept : AreRows k) (blocks : le
       d : AreDecided table k (passed table k (length k.rows)) (length k.rows)
       d = all_decided (length k.rows) (omega arith)
 
-pub right_from : (table : List (List ℕ)) (k : Carried) (a : Acceptance) → IsCarried k → AreOf table k → a.blocks ≡ k.blocks
+pub right_from : (table : Numbered) (k : Carried) (a : Acceptance) → IsCarried k → AreOf table k → a.blocks ≡ k.blocks
     → a.carriers ≡ passed table k (length k.rows) → a.txs ≡ carried_flags k a.carriers → IsRight table k a
 right_from table k a kept of = right table k (rows_are k kept) of.long of.order of.sound a

@@ -277,6 +277,8 @@ renamed_same r l l' s s' named down sets once once' txs plain = record {
     down = down;
     keys' = λ z h. named.into z (key z h);
     parents = λ z h. named.parents z (key z h);
+    ranks = λ z h. named.ranks z (key z h);
+    profile = named.profile;
   };
   distinct = named.distinct;
   distinct' = named.other_distinct;
@@ -301,6 +303,8 @@ agreeing_same l l' s agrees down once txs plain = record {
     down = down;
     keys' = agrees.there;
     parents = λ z h. agrees.parents z h ∙ sym (map-id (parents_of l.graph z));
+    ranks = agrees.ranks;
+    profile = agrees.profile;
   };
   distinct = agrees.distinct;
   distinct' = agrees.other_distinct;

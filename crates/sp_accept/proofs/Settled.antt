@@ -3,6 +3,7 @@ use Rattle.std.proofs.Common.{◌≡◌, ◌≢◌, ◌<◌, ◌≤◌, ◌∙�
 use Rattle.std.specs.Prelude.{nat_le}
 use Rattle.std.specs.List.{range_with_len}
 use Rattle.std.proofs.lemmas.Bool.{and_parts, eqb-true, eqb-false, false≢true, leb-true, or_cases}
+use Rattle.sp_dag.specs.Numbered.{Numbered}
 use Rattle.sp_ids.specs.declared.outpoint.Outpoint.{Outpoint}
 use Rattle.sp_tx.specs.Spending.{id_of}
 use Rattle.sp_tx.specs.declared.parts.Input.{Input}
@@ -56,7 +57,7 @@ or_off : (a b : Bool) → (a || b) ≡ false → (a ≡ false) × (b ≡ false)
 or_off true b h = absurd (false≢true (sym h))
 or_off false b h = (refl, h)
 
-pub settled_step : (table : List (List ℕ)) (k : Carried) → IsCarried k → AreOf table k → (flags flags' : List Bool) (c : ℕ) (old new : Set) → c < length flags
+pub settled_step : (table : Numbered) (k : Carried) → IsCarried k → AreOf table k → (flags flags' : List Bool) (c : ℕ) (old new : Set) → c < length flags
     → AreSettledBut table k flags (λ d. eqb c d || has_number old d) → not (is_set flags c) ≡ is_next table k flags c → flags' ≡ turned_at flags c
     → IsNotedBy (is_later k c) old new → AreSettledBut table k flags' (has_number new)
 settled_step table k carried of flags flags' c old new lc before turns e noted d ld off = at (eqb c d) refl

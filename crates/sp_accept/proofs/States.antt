@@ -7,9 +7,8 @@ use Rattle.std.proofs.lemmas.Bool.{eqb-true, eq-eqb, false_from_ne_true}
 use Rattle.std.proofs.lemmas.List.Quantifiers.{position-Some}
 use Rattle.sp_model.specs.Graph.{has, keys}
 use Rattle.sp_tx.specs.Spending.{id_of}
-use Rattle.sp_dag.specs.Numbered.{graph_of}
-use Rattle.sp_dag.proofs.Keys.{key_in}
-use Rattle.sp_dag.proofs.Whole.{keys_are_numbers}
+use Rattle.sp_dag.specs.Numbered.{Numbered, graph_of}
+use Rattle.sp_dag.proofs.Ranked.{key_in, keys_are_numbers}
 use Rattle.sp_carry.specs.Payment.{Payment}
 use Rattle.sp_carry.specs.Ledger.{IsPlain, carried, is_accepted, is_carried, state, state_by}
 use Rattle.sp_carry.specs.Carried.{Carried, IsCarried, carriers_in, ledger_of, number_of}
@@ -23,7 +22,7 @@ use Rattle.sp_accept.proofs.Numbers.{carrier_of}
 use Rattle.sp_accept.proofs.Places.{position_is}
 
 -- one id is one payment
-pub numbered_plain : (table : List (List ℕ)) (k : Carried) (set : List ℕ) → IsCarried k → IsPlain (ledger_of table k) set
+pub numbered_plain : (table : Numbered) (k : Carried) (set : List ℕ) → IsCarried k → IsPlain (ledger_of table k) set
 numbered_plain table k set h t u in_t in_u same =
     let kept : AreRows k = rows_are k h in
     let a : (z : ℕ) × IsIn set z × IsIn ((ledger_of table k).txs z) t = in_flat_map (ledger_of table k).txs set t (in_from_contains (carried (ledger_of table k) set) t in_t) in
@@ -35,7 +34,7 @@ numbered_plain table k set h t u in_t in_u same =
     (ap (λ (p : Payment). p.id) c.3 ∙ same ∙ sym (ap (λ (p : Payment). p.id) d.3)) in
     sym c.3 ∙ ap (payment_at k) number ∙ d.3
 
-module _ (table : List (List ℕ)) (k : Carried) (a : Acceptance) (h : IsCarried k) (of : AreOf table k) (right : IsRight table k a) (all : a.blocks ≡ k.blocks) where
+module _ (table : Numbered) (k : Carried) (a : Acceptance) (h : IsCarried k) (of : AreOf table k) (right : IsRight table k a) (all : a.blocks ≡ k.blocks) where
   kept : AreRows k
   kept = rows_are k h
 
@@ -50,7 +49,7 @@ module _ (table : List (List ℕ)) (k : Carried) (a : Acceptance) (h : IsCarried
       let named : (payment_at k tx).id ≡ id = id_is k kept tx within ∙ sym (eqb-true id (get_or (map id_of k.txs) tx 0) p.1) in
       let c : (c : ℕ) × IsIn (carriers_in k.rows tx) c = some_member (carriers_in k.rows tx) (h.linked.used tx within) in
       let q : (c.0 < length k.rows) × ((row_at k.rows c.0).tx ≡ tx) = carrier_of k.rows tx c.0 c.1 in
-      let inside : (row_at k.rows c.0).block < length table = (let b : (row_at k.rows c.0).block < k.blocks = kept.inside c.0 q.0 in omega (arith, b, of.long)) in
+      let inside : (row_at k.rows c.0).block < length table.parents = (let b : (row_at k.rows c.0).block < k.blocks = kept.inside c.0 q.0 in omega (arith, b, of.long)) in
       let there : has (first_blocks a.blocks) (row_at k.rows c.0).block ≡ true = rw (← set_is) (key_in table (row_at k.rows c.0).block inside) in (
         within,
         named,

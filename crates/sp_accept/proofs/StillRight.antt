@@ -9,9 +9,8 @@ use Rattle.std.proofs.lemmas.List.Elements.{All-nil}
 use Rattle.sp_model.specs.Agreement.{AgreesOn}
 use Rattle.sp_model.specs.Graph.{AreDistinct, has, keys, IsDownset}
 use Rattle.sp_tx.specs.Parts.{Transaction}
-use Rattle.sp_dag.specs.Numbered.{AreInOrder, graph_of}
-use Rattle.sp_dag.proofs.Keys.{all_complete, key_in, parents_of-graph_of}
-use Rattle.sp_dag.proofs.Whole.{ancestors_lower, keys_are_numbers}
+use Rattle.sp_dag.specs.Numbered.{IsNumbered, with_next, Numbered, AreInOrder, graph_of}
+use Rattle.sp_dag.proofs.Ranked.{rank_numbered, rank_old, all_complete, key_in, parents_numbered, ancestors_lower, keys_are_numbers}
 use Rattle.sp_carry.specs.declared.carrier.Carrier.{Carrier}
 use Rattle.sp_carry.specs.Payment.{Payment, payment_of}
 use Rattle.sp_carry.specs.Ledger.{accepted_carriers, accepts, is_accepted}
@@ -56,10 +55,10 @@ first_in n z lt = in_range 0 n z (omega arith) (omega (arith, lt))
 pub of_first : (n z : ℕ) → has (first_blocks n) z ≡ true → z < n
 of_first n z h = (let r : (0 ≤ z) × (z < 0 + n) = of_range 0 n z h in omega (arith, r.1))
 
-distinct_keys : (table : List (List ℕ)) → AreDistinct (keys (graph_of table))
-distinct_keys table = subst AreDistinct (sym (keys_are_numbers table)) (distinct_range 0 (length table))
+distinct_keys : (table : Numbered) → AreDistinct (keys (graph_of table))
+distinct_keys table = subst AreDistinct (sym (keys_are_numbers table)) (distinct_range 0 (length table.parents))
 
-pub first_downset : (table : List (List ℕ)) (n : ℕ) → AreInOrder table → n ≤ length table → IsDownset (graph_of table) (first_blocks n)
+pub first_downset : (table : Numbered) (n : ℕ) → AreInOrder table.parents → n ≤ length table.parents → IsDownset (graph_of table) (first_blocks n)
 first_downset table n order le = record {
   all_complete = λ z there. all_complete table order z (omega (arith, le, of_first n z there));
   closed = λ z w there under.
@@ -71,8 +70,8 @@ first_downset table n order le = record {
 pub unset : (flags : List Bool) (n : ℕ) → length flags ≤ n → is_set flags n ≡ false
 unset flags n le = false_from_ne_true (is_set flags n) (λ h. (let lt : n < length flags = set_within flags n h in omega (arith, le, lt)))
 
-module _ (table table' : List (List ℕ)) (k k' : Carried) (a : Acceptance) (h : IsCarried k) (h' : IsCarried k') (on : GoesOn k k')
-    (order : AreInOrder table) (wide : k.blocks ≤ length table) (agrees : AgreesOn (first_blocks a.blocks) (graph_of table) (graph_of table')) (blocks : k.blocks ≤ k'.blocks)
+module _ (table table' : Numbered) (k k' : Carried) (a : Acceptance) (h : IsCarried k) (h' : IsCarried k') (on : GoesOn k k')
+    (order : AreInOrder table.parents) (wide : k.blocks ≤ length table.parents) (agrees : AgreesOn (first_blocks a.blocks) (graph_of table) (graph_of table')) (blocks : k.blocks ≤ k'.blocks)
     (right : IsRight table k a) where
   down : IsDownset (graph_of table) (first_blocks a.blocks)
   down = first_downset table a.blocks order (omega (arith, wide, right.few))
@@ -151,31 +150,44 @@ module _ (table table' : List (List ℕ)) (k k' : Carried) (a : Acceptance) (h :
 
 -- ---- the laws
 
-pub right_of_block : (parents : List (List ℕ)) (k : Carried) (ts : List Transaction) (a : Acceptance) → IsCarried k → IsCarried (with_block parents k ts) → AreInOrder parents
-    → k.blocks ≤ length parents → IsRight parents k a → IsRight parents (with_block parents k ts) a
-right_of_block parents k ts a h h' order le right =
-    right_on parents parents k (with_block parents k ts) a h h' (goes_all parents k ts) order le
+pub right_of_block : (table : Numbered) (k : Carried) (ts : List Transaction) (a : Acceptance) → IsCarried k → IsCarried (with_block table k ts) → AreInOrder table.parents
+    → k.blocks ≤ length table.parents → IsRight table k a → IsRight table (with_block table k ts) a
+right_of_block table k ts a h h' order le right =
+    right_on table table k (with_block table k ts) a h h' (goes_all table k ts) order le
     (record {
-      distinct = distinct_keys parents;
-      other_distinct = distinct_keys parents;
-      there = λ z there. key_in parents z (omega (arith, le, right.few, of_first a.blocks z there));
+      distinct = distinct_keys table;
+      other_distinct = distinct_keys table;
+      there = λ z there. key_in table z (omega (arith, le, right.few, of_first a.blocks z there));
       parents = λ z there. refl;
+      ranks = λ z there. refl;
+      profile = refl;
     })
-    (let same : (with_carriers parents k ts).blocks ≡ k.blocks = blocks_all parents k ts in omega (arith, same)) right
+    (let same : (with_carriers table k ts).blocks ≡ k.blocks = blocks_all table k ts in omega (arith, same)) right
 
-pub right_of_graph : (parents : List (List ℕ)) (row : List ℕ) (k : Carried) (a : Acceptance) → IsCarried k → AreInOrder parents
-    → k.blocks ≤ length parents → IsRight parents k a → IsRight (parents ++ row ∷ []) k a
-right_of_graph parents row k a h order le right =
-    right_on parents (parents ++ row ∷ []) k k a h h
-    (record { txs = λ t lt. refl; few = omega arith; more = []; rows = sym (append-nil k.rows); later = All-nil (λ (r : Carrier). k.blocks ≤ r.block) }) order le
+pub right_of_graph : (table : Numbered) (id salt : ℕ) (parents : List ℕ) (k : Carried) (a : Acceptance) → IsCarried k → IsNumbered table
+    → k.blocks ≤ length table.parents → IsRight table k a → IsRight (with_next table id salt parents) k a
+right_of_graph table id salt parents k a h numbered le right =
+    right_on table more k k a h h
+    (record { txs = λ t lt. refl; few = omega arith; more = []; rows = sym (append-nil k.rows); later = All-nil (λ (r : Carrier). k.blocks ≤ r.block) }) numbered.order le
     (record {
-      distinct = distinct_keys parents;
-      other_distinct = distinct_keys (parents ++ row ∷ []);
-      there = λ z there. key_in (parents ++ row ∷ []) z (omega (arith, le, right.few, of_first a.blocks z there, length-append parents (row ∷ [])));
+      distinct = distinct_keys table;
+      other_distinct = distinct_keys more;
+      there = λ z there. key_in more z (omega (arith, within z there, long));
       parents = λ z there.
-          (let lt : z < length parents = omega (arith, le, right.few, of_first a.blocks z there) in
-          parents_of-graph_of (parents ++ row ∷ []) z (omega (arith, lt, length-append parents (row ∷ [])))
-          ∙ get_or-append parents (row ∷ []) [] z lt
-          ∙ sym (parents_of-graph_of parents z lt));
+          (let lt : z < length table.parents = within z there in
+          parents_numbered more z (omega (arith, lt, long)) ∙ get_or-append table.parents (parents ∷ []) [] z lt ∙ sym (parents_numbered table z lt));
+      ranks = λ z there.
+          (let lt : z < length table.parents = within z there in
+          rank_numbered more z (omega (arith, lt, long)) ∙ rank_old table id salt parents z numbered lt ∙ sym (rank_numbered table z lt));
+      profile = refl;
     })
     (omega arith) right
+  where
+    more : Numbered
+    more = with_next table id salt parents
+
+    long : length more.parents ≡ length table.parents + 1
+    long = length-append table.parents (parents ∷ [])
+
+    within : (z : ℕ) → has (first_blocks a.blocks) z ≡ true → z < length table.parents
+    within z there = omega (arith, le, right.few, of_first a.blocks z there)

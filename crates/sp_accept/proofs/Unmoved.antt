@@ -9,9 +9,8 @@ use Rattle.sp_tx.specs.declared.parts.Input.{Input}
 use Rattle.sp_model.specs.Graph.{anticone, has, keys, related}
 use Rattle.sp_model.specs.Votes.{virt}
 use Rattle.sp_model.proofs.Sets.{has-filter, has-filter_from, same_truth}
-use Rattle.sp_dag.specs.Numbered.{AreInOrder, graph_of}
-use Rattle.sp_dag.proofs.Keys.{key_in}
-use Rattle.sp_dag.proofs.Whole.{ancestors_lower}
+use Rattle.sp_dag.specs.Numbered.{Numbered, AreInOrder, graph_of}
+use Rattle.sp_dag.proofs.Ranked.{key_in, ancestors_lower}
 use Rattle.sp_carry.specs.Payment.{Payment, is_same_outpoint}
 use Rattle.sp_carry.specs.Ledger.{accepts, has_sources, is_alone, is_first, is_rival, is_sound, some_carrier}
 use Rattle.sp_carry.specs.Carried.{AreSound, Carried, ledger_of}
@@ -28,7 +27,7 @@ use Rattle.sp_accept.proofs.Decided.{IsRivalAt, next_is, rival_at, whole}
 use Rattle.sp_accept.proofs.Numbers.{of_spender, spender_of}
 use Rattle.sp_accept.proofs.StillRight.{first_in, of_first}
 
-module _ (table : List (List ℕ)) (k : Carried) (kept : AreRows k) (blocks : length table ≡ k.blocks) (order : AreInOrder table) (sound : AreSound table k) where
+module _ (table : Numbered) (k : Carried) (kept : AreRows k) (blocks : length table.parents ≡ k.blocks) (order : AreInOrder table.parents) (sound : AreSound table k) where
   abbrev block_of : ℕ → ℕ
   block_of c = (row_at k.rows c).block
 

@@ -8,7 +8,7 @@ use Rattle.std.proofs.lemmas.List.{get_or-replicate, length-replicate}
 use Rattle.std.proofs.lemmas.List.Elements.{All-from_get_or}
 use Rattle.std.proofs.lemmas.Bool.{cases_lt, eq-eqb, eqb-true, eqb-false, false≢true}
 use Rattle.sp_model.specs.Graph.{keys}
-use Rattle.sp_dag.specs.Numbered.{graph_of}
+use Rattle.sp_dag.specs.Numbered.{Numbered, graph_of}
 use Rattle.sp_carry.specs.declared.carrier.Flip.{Flip}
 use Rattle.sp_carry.specs.Ledger.{accepts}
 use Rattle.sp_carry.specs.Carried.{Carried, IsCarried, carriers_in, ledger_of}
@@ -69,7 +69,7 @@ untouched k start flags turned tx e off =
 
 -- ---- settled flags are those of the definition
 
-module _ (table : List (List ℕ)) (k : Carried) (carried : IsCarried k) (of : AreOf table k) where
+module _ (table : Numbered) (k : Carried) (carried : IsCarried k) (of : AreOf table k) where
   pub all_settled : (flags : List Bool) → AreSettledBut table k flags (λ _. false) → (c : ℕ) → c < length k.rows
       → is_set flags c ≡ accepts (ledger_of table k) (keys (graph_of table)) (row_at k.rows c).block (payment_at k (row_at k.rows c).tx)
   all_settled flags settled c lc = upto (suc c) c (omega arith) lc

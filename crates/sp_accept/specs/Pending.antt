@@ -5,6 +5,7 @@ use Rattle.sp_ids.specs.declared.outpoint.Outpoint.{Outpoint}
 use Rattle.sp_tx.specs.Spending.{id_of}
 use Rattle.sp_tx.specs.declared.parts.Input.{Input}
 use Rattle.sp_model.specs.Graph.{has}
+use Rattle.sp_dag.specs.Numbered.{Numbered}
 use Rattle.sp_carry.specs.declared.carrier.Carrier.{Carrier}
 use Rattle.sp_carry.specs.Carried.{Carried, carriers_in, tx_at}
 use Rattle.sp_carry.specs.Lookups.{spenders_in}
@@ -78,7 +79,7 @@ abbrev pub is_of_beside : Carried → List ℕ → ℕ → ℕ → ℕ → Bool
 is_of_beside k lows from count d = list_any (λ c. is_beside k lows c d) (range_with_len from count)
 
 -- each flag says what those before it give, but for some carriers
-abbrev pub AreSettledBut : List (List ℕ) → Carried → List Bool → (ℕ → Bool) → Type 0
+abbrev pub AreSettledBut : Numbered → Carried → List Bool → (ℕ → Bool) → Type 0
 AreSettledBut table k flags but = (d : ℕ) → d < length k.rows → but d ≡ false → is_set flags d ≡ is_next table k flags d
 
 -- ---- pairs whose vote turned

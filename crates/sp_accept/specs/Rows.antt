@@ -1,6 +1,6 @@
 -- Carriers by their numbers, and the graph of their blocks.
 use Rattle.std.specs.Prelude.{ℕ, ◌≡◌, false, List, length, slice_index_or}
-use Rattle.sp_dag.specs.Numbered.{AreInOrder}
+use Rattle.sp_dag.specs.Numbered.{Numbered, AreInOrder}
 use Rattle.sp_carry.specs.declared.carrier.Carrier.{Carrier}
 use Rattle.sp_carry.specs.Payment.{Payment, payment_of}
 use Rattle.sp_carry.specs.Carried.{AreSound, Carried, tx_at}
@@ -18,7 +18,7 @@ payment_at k tx = payment_of (tx_at k tx)
 
 -- The blocks of these carriers are those of the graph with these parents: as many, each parent before its block, and
 -- what the carriers say of soundness is so in that graph
-pub record AreOf (parents : List (List ℕ)) (k : Carried) : Type 0 where
-  pub long : length parents ≡ k.blocks
-  pub order : AreInOrder parents
-  pub sound : AreSound parents k
+pub record AreOf (table : Numbered) (k : Carried) : Type 0 where
+  pub long : length table.parents ≡ k.blocks
+  pub order : AreInOrder table.parents
+  pub sound : AreSound table k

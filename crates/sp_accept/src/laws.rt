@@ -6,7 +6,7 @@ ghost use Rattle.sp_model.specs.Agreement.{AgreesOn};
 ghost use Rattle.sp_model.specs.Graph.{AreDistinct, has, IsDownset};
 ghost use Rattle.sp_model.specs.Renaming.{AreRenamed, IsRenamed};
 ghost use Rattle.sp_tx.specs.Parts.{Transaction};
-ghost use Rattle.sp_dag.specs.Numbered.{AreInOrder};
+ghost use Rattle.sp_dag.specs.Numbered.{AreInOrder, IsNumbered, Numbered, with_next};
 ghost use Rattle.sp_carry.specs.Payment.{Payment};
 ghost use Rattle.sp_carry.specs.Ledger.{Ledger, IsPlain, accepts, is_accepted, state};
 ghost use Rattle.sp_carry.specs.Carried.{Carried, IsCarried, ledger_of, with_block};
@@ -59,22 +59,22 @@ pub fn restriction()
 /// number of blocks that they are of says which blocks count.
 #[tactic(auto, using(crate::proofs::StillRight::right_of_block, crate::proofs::StillRight::right_of_graph))]
 pub fn right_stays()
-    ensures block { (parents : List (List ℕ)) (k : Carried) (txs : List Transaction) (a : Acceptance) →
-        IsCarried k → IsCarried (with_block parents k txs) →
-        AreInOrder parents → k.blocks ≤ length parents → IsRight parents k a →
-        IsRight parents (with_block parents k txs) a }
-    ensures graph { (parents : List (List ℕ)) (row : List ℕ) (k : Carried) (a : Acceptance) →
-        IsCarried k → AreInOrder parents → k.blocks ≤ length parents → IsRight parents k a →
-        IsRight (parents ++ row ∷ []) k a }
+    ensures block { (table : Numbered) (k : Carried) (txs : List Transaction) (a : Acceptance) →
+        IsCarried k → IsCarried (with_block table k txs) →
+        AreInOrder table.parents → k.blocks ≤ length table.parents → IsRight table k a →
+        IsRight table (with_block table k txs) a }
+    ensures graph { (table : Numbered) (id salt : ℕ) (parents : List ℕ) (k : Carried)
+        (a : Acceptance) → IsCarried k → IsNumbered table → k.blocks ≤ length table.parents →
+        IsRight table k a → IsRight (with_next table id salt parents) k a }
 {}
 
 /// In the ledger of the carriers no two transactions have one id, and the state of each id is that
 /// of its number's flag, where the flags are right.
 #[tactic(auto, using(crate::proofs::States::numbered_plain, crate::proofs::States::states))]
 pub fn states_by_number()
-    ensures plain { (parents : List (List ℕ)) (k : Carried) (set : List ℕ) → IsCarried k →
-        IsPlain (ledger_of parents k) set }
-    ensures state { (parents : List (List ℕ)) (k : Carried) (a : Acceptance) (id : ℕ) →
-        IsCarried k → AreOf parents k → IsRight parents k a → a.blocks ≡ k.blocks →
-        state (ledger_of parents k) (first_blocks a.blocks) id ≡ state_by_number k a.txs id }
+    ensures plain { (table : Numbered) (k : Carried) (set : List ℕ) → IsCarried k →
+        IsPlain (ledger_of table k) set }
+    ensures state { (table : Numbered) (k : Carried) (a : Acceptance) (id : ℕ) →
+        IsCarried k → AreOf table k → IsRight table k a → a.blocks ≡ k.blocks →
+        state (ledger_of table k) (first_blocks a.blocks) id ≡ state_by_number k a.txs id }
 {}

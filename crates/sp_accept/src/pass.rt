@@ -17,7 +17,7 @@ use std::alloc::{AllocError, Global};
 
 /// Whether the carrier of this number is accepted, where the flags say it of those before it.
 pub(crate) fn is_next<O: Order>(order: &O, carriers: &Carriers, flags: &[bool], c: u32) -> bool
-    requires blocks { length (O.table order.now) ≡ carriers.now.blocks }
+    requires blocks { length (O.table order.now).parents ≡ carriers.now.blocks }
     requires c { c < length carriers.now.rows }
     ensures { result ≡ is_next (O.table order.now) carriers.now flags.now c }
 {
@@ -35,7 +35,7 @@ pub(crate) fn carrier_flags<O: Order>(
     order: &O,
     carriers: &Carriers,
 ) -> Result<Vec<bool>, AllocError>
-    requires blocks { length (O.table order.now) ≡ carriers.now.blocks }
+    requires blocks { length (O.table order.now).parents ≡ carriers.now.blocks }
     ensures { IfOk result (λ flags. flags.items
         ≡ passed (O.table order.now) carriers.now (length carriers.now.rows)) }
 {

@@ -14,8 +14,8 @@ use sp_tx::Input;
 /// Whether this carrier, of a transaction that conflicts, stands in the way of one in the block. One
 /// of the same block or of a descendant doesn't.
 fn is_beaten_by<O: Order>(order: &O, flags: &[bool], block: u16, c: u32, other: Carrier) -> bool
-    requires block { block < length (O.table order.now) }
-    requires other { other.block < length (O.table order.now) }
+    requires block { block < length (O.table order.now).parents }
+    requires other { other.block < length (O.table order.now).parents }
     ensures { result ≡ is_beaten_by (O.table order.now) flags.now block c other }
 {
     if !other.sound {
@@ -38,7 +38,7 @@ fn is_beaten_at<O: Order>(
     block: u16,
     c: u32,
 ) -> bool
-    requires blocks { length (O.table order.now) ≡ carriers.now.blocks }
+    requires blocks { length (O.table order.now).parents ≡ carriers.now.blocks }
     requires block { block < carriers.now.blocks }
     requires c { c < length carriers.now.rows }
     ensures { result ≡ is_beaten_at (O.table order.now) carriers.now flags.now block c }
@@ -48,7 +48,7 @@ fn is_beaten_at<O: Order>(
 
 /// Whether a carrier of the transaction, which conflicts, stands in the way of one in the block.
 fn is_beaten<O: Order>(order: &O, carriers: &Carriers, flags: &[bool], block: u16, tx: u32) -> bool
-    requires blocks { length (O.table order.now) ≡ carriers.now.blocks }
+    requires blocks { length (O.table order.now).parents ≡ carriers.now.blocks }
     requires block { block < carriers.now.blocks }
     requires tx { tx < length carriers.now.txs }
     ensures { result ≡ is_beaten (O.table order.now) carriers.now flags.now block tx }
@@ -70,7 +70,7 @@ fn is_lost<O: Order>(
     row: Carrier,
     input: &Input,
 ) -> bool
-    requires blocks { length (O.table order.now) ≡ carriers.now.blocks }
+    requires blocks { length (O.table order.now).parents ≡ carriers.now.blocks }
     requires block { row.block < carriers.now.blocks }
     ensures { result ≡ is_lost (O.table order.now) carriers.now flags.now row input.now }
 {
@@ -91,7 +91,7 @@ pub(crate) fn is_outdone<O: Order>(
     row: Carrier,
     inputs: &[Input],
 ) -> bool
-    requires blocks { length (O.table order.now) ≡ carriers.now.blocks }
+    requires blocks { length (O.table order.now).parents ≡ carriers.now.blocks }
     requires block { row.block < carriers.now.blocks }
     ensures { result ≡ list_any (is_lost (O.table order.now) carriers.now flags.now row) inputs.now }
 {

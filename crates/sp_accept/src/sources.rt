@@ -18,7 +18,7 @@ fn is_accepted_below<O: Order>(
     block: u16,
     c: u32,
 ) -> bool
-    requires blocks { length (O.table order.now) ≡ carriers.now.blocks }
+    requires blocks { length (O.table order.now).parents ≡ carriers.now.blocks }
     requires block { block < carriers.now.blocks }
     requires c { c < length carriers.now.rows }
     ensures { result ≡ is_accepted_below (O.table order.now) carriers.now flags.now block c }
@@ -28,7 +28,7 @@ fn is_accepted_below<O: Order>(
 
 /// Whether an accepted carrier of the transaction stands in the past of the block.
 fn is_paid<O: Order>(order: &O, carriers: &Carriers, flags: &[bool], block: u16, tx: u32) -> bool
-    requires blocks { length (O.table order.now) ≡ carriers.now.blocks }
+    requires blocks { length (O.table order.now).parents ≡ carriers.now.blocks }
     requires block { block < carriers.now.blocks }
     requires tx { tx < length carriers.now.txs }
     ensures { result ≡ is_paid (O.table order.now) carriers.now flags.now block tx }
@@ -50,7 +50,7 @@ fn has_source<O: Order>(
     block: u16,
     input: &Input,
 ) -> bool
-    requires blocks { length (O.table order.now) ≡ carriers.now.blocks }
+    requires blocks { length (O.table order.now).parents ≡ carriers.now.blocks }
     requires block { block < carriers.now.blocks }
     ensures { result ≡ has_source (O.table order.now) carriers.now flags.now block input.now }
 {
@@ -68,7 +68,7 @@ pub(crate) fn are_sources_accepted<O: Order>(
     block: u16,
     inputs: &[Input],
 ) -> bool
-    requires blocks { length (O.table order.now) ≡ carriers.now.blocks }
+    requires blocks { length (O.table order.now).parents ≡ carriers.now.blocks }
     requires block { block < carriers.now.blocks }
     ensures { result ≡ list_all (has_source (O.table order.now) carriers.now flags.now block) inputs.now }
 {

@@ -67,6 +67,23 @@ impl Row {
         self.words[place as usize / 64] &= !(1 << (place % 64));
     }
 
+    /// Takes all places from this one on out, in about eight steps for each of them.
+    pub fn clear_from(&mut self, place: u16)
+        ensures { self.new ≡ members_below self.old place }
+    {
+        // Tells the proof what a row is.
+        let _count = self.count();
+        'places: loop {
+            let Some(top) = self.highest() else {
+                return;
+            };
+            if top < place {
+                return;
+            }
+            self.clear(top);
+        }
+    }
+
     /// Whether it has the place, in a bounded number of steps. What a row is stands here too, for
     /// each caller: the list ascends, and each place of it is below 512.
     pub fn test(&self, place: u16) -> bool

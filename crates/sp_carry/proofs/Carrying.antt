@@ -5,6 +5,7 @@ use Rattle.std.proofs.lemmas.Bool.{cases_lt, eqb-true, eq-eqb, ne_eqb}
 use Rattle.std.proofs.lemmas.List.{append-nil, get_or_append_left, map-append}
 use Rattle.std.proofs.lemmas.List.Folds.{list_any-append}
 use Rattle.std.proofs.Math.Seq.{get_or-append_seam}
+use Rattle.sp_dag.specs.Numbered.{Numbered}
 use Rattle.sp_tx.specs.Parts.{Transaction, of_parts}
 use Rattle.sp_tx.specs.Spending.{id_of}
 use Rattle.sp_model.specs.Graph.{has}
@@ -61,23 +62,23 @@ filter_here k f (q ∷ qs) r n is = at (eqb q.block n) (filter_here k f qs r n i
     at true rest = ap (λ (l : List Payment). f q ∷ l) rest
     at false rest = rest
 
-partly_more : (parents : List (List ℕ)) (blocks : List (List Transaction)) (seen here : List Transaction) (k : Carried) (t : Transaction) → AreLinked k
-    → CarriesPartly blocks seen here k → CarriesPartly blocks (seen ++ t ∷ []) (here ++ t ∷ []) (with_carrier parents k t)
-partly_more parents blocks seen here k t linked h =
-    let counts : (length (with_carrier parents k t).rows ≡ length k.rows + 1) × (length (with_carrier parents k t).txs ≤ length k.txs + 1) × ((with_carrier parents k t).blocks ≡ k.blocks) =
-    counts_more parents k t in
+partly_more : (table : Numbered) (blocks : List (List Transaction)) (seen here : List Transaction) (k : Carried) (t : Transaction) → AreLinked k
+    → CarriesPartly blocks seen here k → CarriesPartly blocks (seen ++ t ∷ []) (here ++ t ∷ []) (with_carrier table k t)
+partly_more table blocks seen here k t linked h =
+    let counts : (length (with_carrier table k t).rows ≡ length k.rows + 1) × (length (with_carrier table k t).txs ≤ length k.txs + 1) × ((with_carrier table k t).blocks ≡ k.blocks) =
+    counts_more table k t in
     record {
       count = counts.2 ∙ h.count;
       ids = λ id. ids_at id (number_of k (id_of t)) refl ∙ sym (has_push seen t id);
       there = there_at (number_of k (id_of t));
       found = λ id. found_at id (number_of k (id_of t)) refl;
-      theirs = λ z lt. ap (map (λ (p : Payment). p.id)) (payments_same parents k t z linked (omega (arith, h.count, lt))) ∙ h.theirs z lt;
+      theirs = λ z lt. ap (map (λ (p : Payment). p.id)) (payments_same table k t z linked (omega (arith, h.count, lt))) ∙ h.theirs z lt;
       last =
-          ap (ids_in (with_carrier parents k t)) counts.2 ∙ last_at (number_of k (id_of t)) refl
+          ap (ids_in (with_carrier table k t)) counts.2 ∙ last_at (number_of k (id_of t)) refl
           ∙ ap (λ (l : List ℕ). l ++ id_of t ∷ []) h.last ∙ sym (map-append id_of here (t ∷ []));
     }
   where
-    ids_at : (id : ℕ) (o : Option ℕ) → number_of k (id_of t) ≡ o → has (map id_of (carried_by parents k t o).txs) id ≡ (has (map id_of seen) id || eqb (id_of t) id)
+    ids_at : (id : ℕ) (o : Option ℕ) → number_of k (id_of t) ≡ o → has (map id_of (carried_by table k t o).txs) id ≡ (has (map id_of seen) id || eqb (id_of t) id)
     ids_at id None e = has_push k.txs t id ∙ ap (λ (b : Bool). b || eqb (id_of t) id) (h.ids id)
     ids_at id (Some n) e = h.ids id ∙ known (eqb (id_of t) id) refl
       where
@@ -99,7 +100,7 @@ partly_more parents blocks seen here k t linked h =
         known true same = ap (has (map id_of seen)) (sym (eqb-true (id_of t) id same)) ∙ there_is ∙ sym (or_true (has (map id_of seen) id))
         known false same = sym (or_none (has (map id_of seen) id))
 
-    there_at : (o : Option ℕ) (n : ℕ) → n < length (carried_by parents k t o).txs → IsIn (seen ++ t ∷ []) (tx_at (carried_by parents k t o) n)
+    there_at : (o : Option ℕ) (n : ℕ) → n < length (carried_by table k t o).txs → IsIn (seen ++ t ∷ []) (tx_at (carried_by table k t o) n)
     there_at None n lt =
         elim (cases_lt n (length k.txs)) [
           | inl less ↦ subst (IsIn (seen ++ t ∷ [])) (sym (get_or_append_left k.txs (t ∷ []) (of_parts [] []) n less)) (in_append_left seen (t ∷ []) (tx_at k n) (h.there n less))
@@ -109,36 +110,36 @@ partly_more parents blocks seen here k t linked h =
         ]
     there_at (Some m) n lt = in_append_left seen (t ∷ []) (tx_at k n) (h.there n lt)
 
-    found_at : (id : ℕ) (o : Option ℕ) → number_of k (id_of t) ≡ o → find (has_id id) (carried_by parents k t o).txs ≡ find (has_id id) (seen ++ t ∷ [])
+    found_at : (id : ℕ) (o : Option ℕ) → number_of k (id_of t) ≡ o → find (has_id id) (carried_by table k t o).txs ≡ find (has_id id) (seen ++ t ∷ [])
     found_at id None e = find_both (has_id id) k.txs seen t (h.found id)
     found_at id (Some n) e = h.found id ∙ sym (find_known seen t (tx_at k n) id (h.there n (number_within k (id_of t) n e)) (number_id k (id_of t) n e))
 
     ids_push : (ps : List Payment) (p : Payment) → map (λ (p : Payment). p.id) (ps ++ p ∷ []) ≡ map (λ (p : Payment). p.id) ps ++ p.id ∷ []
     ids_push ps p = map-append (λ (p : Payment). p.id) ps (p ∷ [])
 
-    last_at : (o : Option ℕ) → number_of k (id_of t) ≡ o → ids_in (carried_by parents k t o) k.blocks ≡ ids_in k k.blocks ++ id_of t ∷ []
+    last_at : (o : Option ℕ) → number_of k (id_of t) ≡ o → ids_in (carried_by table k t o) k.blocks ≡ ids_in k k.blocks ++ id_of t ∷ []
     last_at None e =
         ap (map (λ (p : Payment). p.id))
-        (filter_here k (λ (q : Carrier). payment_of (tx_at (with_tx k t) q.tx)) k.rows (next_carrier parents k (length k.txs) t) k.blocks refl
+        (filter_here k (λ (q : Carrier). payment_of (tx_at (with_tx k t) q.tx)) k.rows (next_carrier table k (length k.txs) t) k.blocks refl
         ∙ ap (λ (l : List Payment). l ++ payment_of (tx_at (with_tx k t) (length k.txs)) ∷ []) (payments_tx k t k.blocks linked)
         ∙ ap (λ (x : Transaction). payments_in k k.blocks ++ payment_of x ∷ []) (get_or-append_seam k.txs t [] (of_parts [] [])))
         ∙ ids_push (payments_in k k.blocks) (payment_of t)
     last_at (Some n) e =
         ap (map (λ (p : Payment). p.id))
-        (filter_here k (λ (q : Carrier). payment_of (tx_at k q.tx)) k.rows (next_carrier parents k n (tx_at k n)) k.blocks refl)
+        (filter_here k (λ (q : Carrier). payment_of (tx_at k q.tx)) k.rows (next_carrier table k n (tx_at k n)) k.blocks refl)
         ∙ ids_push (payments_in k k.blocks) (payment_of (tx_at k n))
         ∙ ap (λ (i : ℕ). ids_in k k.blocks ++ i ∷ []) (number_id k (id_of t) n e)
 
-partly_all : (parents : List (List ℕ)) (blocks : List (List Transaction)) (seen here : List Transaction) (k : Carried) (ts : List Transaction) → AreLinked k
-    → CarriesPartly blocks seen here k → CarriesPartly blocks (seen ++ ts) (here ++ ts) (with_carriers parents k ts)
-partly_all parents blocks seen here k [] linked h =
+partly_all : (table : Numbered) (blocks : List (List Transaction)) (seen here : List Transaction) (k : Carried) (ts : List Transaction) → AreLinked k
+    → CarriesPartly blocks seen here k → CarriesPartly blocks (seen ++ ts) (here ++ ts) (with_carriers table k ts)
+partly_all table blocks seen here k [] linked h =
     subst (λ (l : List Transaction). CarriesPartly blocks l (here ++ []) k) (sym (append-nil seen))
     (subst (λ (l : List Transaction). CarriesPartly blocks seen l k) (sym (append-nil here)) h)
-partly_all parents blocks seen here k (t ∷ ts) linked h =
-    subst (λ (l : List Transaction). CarriesPartly blocks l (here ++ t ∷ ts) (with_carriers parents (with_carrier parents k t) ts)) (sym (append_thrice seen (t ∷ []) ts))
-    (subst (λ (l : List Transaction). CarriesPartly blocks ((seen ++ t ∷ []) ++ ts) l (with_carriers parents (with_carrier parents k t) ts)) (sym (append_thrice here (t ∷ []) ts))
-    (partly_all parents blocks (seen ++ t ∷ []) (here ++ t ∷ []) (with_carrier parents k t) ts (linked_more parents k t linked)
-    (partly_more parents blocks seen here k t linked h)))
+partly_all table blocks seen here k (t ∷ ts) linked h =
+    subst (λ (l : List Transaction). CarriesPartly blocks l (here ++ t ∷ ts) (with_carriers table (with_carrier table k t) ts)) (sym (append_thrice seen (t ∷ []) ts))
+    (subst (λ (l : List Transaction). CarriesPartly blocks ((seen ++ t ∷ []) ++ ts) l (with_carriers table (with_carrier table k t) ts)) (sym (append_thrice here (t ∷ []) ts))
+    (partly_all table blocks (seen ++ t ∷ []) (here ++ t ∷ []) (with_carrier table k t) ts (linked_more table k t linked)
+    (partly_more table blocks seen here k t linked h)))
 
 none_here : (rows : List Carrier) (n : ℕ) → All (λ (r : Carrier). r.block < n) rows → filter (λ (q : Carrier). eqb q.block n) rows ≡ []
 none_here [] n all = refl
@@ -147,9 +148,9 @@ none_here (r ∷ rs) n all =
     (ne_eqb r.block n (λ e. let lt : r.block < n = all 0 r (omega arith) in omega (arith, lt, e)))
     ∙ none_here rs n (λ i d lt. all (suc i) d (omega (arith, lt)))
 
-linked_all : (parents : List (List ℕ)) (k : Carried) (ts : List Transaction) → AreLinked k → AreLinked (with_carriers parents k ts)
-linked_all parents k [] h = h
-linked_all parents k (t ∷ ts) h = linked_all parents (with_carrier parents k t) ts (linked_more parents k t h)
+linked_all : (table : Numbered) (k : Carried) (ts : List Transaction) → AreLinked k → AreLinked (with_carriers table k ts)
+linked_all table k [] h = h
+linked_all table k (t ∷ ts) h = linked_all table (with_carrier table k t) ts (linked_more table k t h)
 
 -- the transactions of one of the blocks are among all
 in_flat : (blocks : List (List Transaction)) (z : ℕ) → z < length blocks → (x : Transaction) → IsIn (get_or blocks z []) x → IsIn (flat blocks) x
@@ -160,19 +161,19 @@ pub none_carried : Carries [] (record { blocks = 0; txs = []; rows = [] })
 none_carried = record { count = refl; ids = λ id. refl; found = λ id. refl; there = λ n lt. absurd (omega (arith, lt)); theirs = λ z lt. absurd (omega (arith, lt)) }
 
 -- with one block more
-pub block_carried : (parents : List (List ℕ)) (blocks : List (List Transaction)) (k : Carried) (ts : List Transaction) → IsCarried k → Carries blocks k
-    → Carries (blocks ++ ts ∷ []) (with_block parents k ts)
-block_carried parents blocks k ts is h =
+pub block_carried : (table : Numbered) (blocks : List (List Transaction)) (k : Carried) (ts : List Transaction) → IsCarried k → Carries blocks k
+    → Carries (blocks ++ ts ∷ []) (with_block table k ts)
+block_carried table blocks k ts is h =
     record {
       count = ap (λ (n : ℕ). n + 1) after.count ∙ sym (length-append blocks (ts ∷ []));
       ids = λ id. after.ids id ∙ ap (λ (l : List Transaction). has (map id_of l) id) (sym (flat_push blocks ts));
       found = found;
-      there = λ n lt. contains_from_in (flat (blocks ++ ts ∷ [])) (tx_at (with_carriers parents k ts) n)
-          (subst (λ (l : List Transaction). IsIn l (tx_at (with_carriers parents k ts) n)) (sym (flat_push blocks ts)) (after.there n lt));
+      there = λ n lt. contains_from_in (flat (blocks ++ ts ∷ [])) (tx_at (with_carriers table k ts) n)
+          (subst (λ (l : List Transaction). IsIn l (tx_at (with_carriers table k ts) n)) (sym (flat_push blocks ts)) (after.there n lt));
       theirs = λ z lt.
-          payments_named (with_carriers parents k ts) z (linked_all parents k ts is.linked)
-          ∙ ap (map (named (with_carriers parents k ts).txs)) (ids_at z lt)
-          ∙ named_same (with_carriers parents k ts).txs (flat (blocks ++ ts ∷ [])) (map id_of (get_or (blocks ++ ts ∷ []) z [])) found
+          payments_named (with_carriers table k ts) z (linked_all table k ts is.linked)
+          ∙ ap (map (named (with_carriers table k ts).txs)) (ids_at z lt)
+          ∙ named_same (with_carriers table k ts).txs (flat (blocks ++ ts ∷ [])) (map id_of (get_or (blocks ++ ts ∷ []) z [])) found
           ∙ likes_named (flat (blocks ++ ts ∷ [])) (get_or (blocks ++ ts ∷ []) z []) (in_flat (blocks ++ ts ∷ []) z lt);
     }
   where
@@ -196,17 +197,17 @@ block_carried parents blocks k ts is h =
       last = ap (λ (l : List Carrier). map (λ (p : Payment). p.id) (map (λ (q : Carrier). payment_of (tx_at k q.tx)) l)) (none_here k.rows k.blocks is.blocks);
     }
 
-    after : CarriesPartly blocks (flat blocks ++ ts) ts (with_carriers parents k ts)
-    after = partly_all parents blocks (flat blocks) [] k ts is.linked before
+    after : CarriesPartly blocks (flat blocks ++ ts) ts (with_carriers table k ts)
+    after = partly_all table blocks (flat blocks) [] k ts is.linked before
 
-    found : (id : ℕ) → find (has_id id) (with_carriers parents k ts).txs ≡ find (has_id id) (flat (blocks ++ ts ∷ []))
+    found : (id : ℕ) → find (has_id id) (with_carriers table k ts).txs ≡ find (has_id id) (flat (blocks ++ ts ∷ []))
     found id = after.found id ∙ ap (find (has_id id)) (sym (flat_push blocks ts))
 
-    ids_at : (z : ℕ) → z < length (blocks ++ ts ∷ []) → ids_in (with_carriers parents k ts) z ≡ map id_of (get_or (blocks ++ ts ∷ []) z [])
+    ids_at : (z : ℕ) → z < length (blocks ++ ts ∷ []) → ids_in (with_carriers table k ts) z ≡ map id_of (get_or (blocks ++ ts ∷ []) z [])
     ids_at z lt =
         elim (cases_lt z (length blocks)) [
           | inl less ↦ after.theirs z less ∙ ap (map id_of) (sym (get_or_append_left blocks (ts ∷ []) [] z less))
           | inr ge ↦ (let last : length blocks ≡ z = omega (arith, lt, ge, length-append blocks (ts ∷ [])) in
-              ap (ids_in (with_carriers parents k ts)) (sym last ∙ sym after.count) ∙ after.last
+              ap (ids_in (with_carriers table k ts)) (sym last ∙ sym after.count) ∙ after.last
               ∙ ap (map id_of) (sym (get_or-append_seam blocks ts [] []) ∙ ap (λ (m : ℕ). get_or (blocks ++ ts ∷ []) m []) last))
         ]

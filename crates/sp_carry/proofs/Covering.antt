@@ -9,7 +9,7 @@ use Rattle.sp_tx.specs.declared.parts.Output.{Output}
 use Rattle.sp_tx.specs.Parts.{Transaction}
 use Rattle.sp_model.specs.Graph.{past}
 use Rattle.sp_dag.specs.Numbered.{Numbered, graph_of, IsNumbered}
-use Rattle.sp_dag.proofs.Whole.{parents_numbered}
+use Rattle.sp_dag.proofs.Ranked.{parents_numbered}
 use Rattle.sp_carry.specs.Payment.{Payment, finds, paid_amount, payment_of, spent_amount, spent_by}
 use Rattle.sp_carry.specs.Ledger.{carried, is_covered, is_empty, is_sound}
 use Rattle.sp_carry.specs.Carried.{Carried, ledger_of}
@@ -63,19 +63,19 @@ covered_none below t none = at (list_all (finds below) (map spent_by t.inputs)) 
 
 -- a block above genesis has parents
 pub not_genesis : (blocks : Numbered) (k : Carried) (z : ℕ) (p : Payment) → IsNumbered blocks → 0 < z → z < length blocks.parents
-    → is_sound (ledger_of blocks.parents k) z p ≡ is_covered (carried (ledger_of blocks.parents k) (past (graph_of blocks.parents) z)) p
+    → is_sound (ledger_of blocks k) z p ≡ is_covered (carried (ledger_of blocks k) (past (graph_of blocks) z)) p
 not_genesis blocks k z p numbered above within =
-    ap (λ (ps : List ℕ). is_empty ps || is_covered (carried (ledger_of blocks.parents k) (past (graph_of blocks.parents) z)) p) (parents_numbered blocks.parents z within)
+    ap (λ (ps : List ℕ). is_empty ps || is_covered (carried (ledger_of blocks k) (past (graph_of blocks) z)) p) (parents_numbered blocks z within)
     ∙ at (get_or blocks.parents z []) (numbered.rooted z above within)
   where
     at : (ps : List ℕ) → 0 < length ps
-        → (is_empty ps || is_covered (carried (ledger_of blocks.parents k) (past (graph_of blocks.parents) z)) p)
-        ≡ is_covered (carried (ledger_of blocks.parents k) (past (graph_of blocks.parents) z)) p
+        → (is_empty ps || is_covered (carried (ledger_of blocks k) (past (graph_of blocks) z)) p)
+        ≡ is_covered (carried (ledger_of blocks k) (past (graph_of blocks) z)) p
     at [] some = absurd (omega (arith, some))
     at (q ∷ qs) some = refl
 
 -- genesis has none
-pub in_genesis : (blocks : Numbered) (k : Carried) (p : Payment) → IsNumbered blocks → true ≡ is_sound (ledger_of blocks.parents k) 0 p
+pub in_genesis : (blocks : Numbered) (k : Carried) (p : Payment) → IsNumbered blocks → true ≡ is_sound (ledger_of blocks k) 0 p
 in_genesis blocks k p numbered =
-    sym (ap (λ (ps : List ℕ). is_empty ps || is_covered (carried (ledger_of blocks.parents k) (past (graph_of blocks.parents) 0)) p)
-    (parents_numbered blocks.parents 0 numbered.some ∙ numbered.genesis))
+    sym (ap (λ (ps : List ℕ). is_empty ps || is_covered (carried (ledger_of blocks k) (past (graph_of blocks) 0)) p)
+    (parents_numbered blocks 0 numbered.some ∙ numbered.genesis))

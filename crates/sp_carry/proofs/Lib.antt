@@ -21,3 +21,5 @@ pub mod Rivalry
 pub mod Soundness
 pub mod Carrying
 pub mod Genesis
+pub mod Fronts
+pub mod Cutting

@@ -8,9 +8,8 @@ use Rattle.std.proofs.lemmas.List.Elements.{All-push}
 use Rattle.sp_tx.specs.Parts.{Transaction, of_parts}
 use Rattle.sp_tx.specs.Spending.{id_of}
 use Rattle.sp_model.specs.Graph.{in_past, keys, past}
-use Rattle.sp_dag.specs.Numbered.{AreInOrder, graph_of}
-use Rattle.sp_dag.proofs.Grown.{past-no_new, past_old}
-use Rattle.sp_dag.proofs.Whole.{ancestors_lower, keys_are_numbers, parents_numbered}
+use Rattle.sp_dag.specs.Numbered.{with_next, Numbered, AreInOrder, graph_of}
+use Rattle.sp_dag.proofs.Ranked.{past-no_new, past_old, ancestors_lower, keys_are_numbers, parents_numbered}
 use Rattle.sp_model.proofs.Pasts.{has-past}
 use Rattle.sp_carry.specs.declared.carrier.Carrier.{Carrier}
 use Rattle.sp_carry.specs.Payment.{Payment, payment_of}
@@ -52,34 +51,34 @@ range_more a (suc n) =
 
 -- ---- the graph grows
 
-past_stays : (parents : List (List ℕ)) (more : List ℕ) (z : ℕ) → AreInOrder parents → z < length parents → past (graph_of (parents ++ more ∷ [])) z ≡ past (graph_of parents) z
-past_stays parents more z order within =
-    ap (λ (ks : List ℕ). filter (λ a. in_past (graph_of (parents ++ more ∷ [])) a z) ks) names
-    ∙ filter_push (λ a. in_past (graph_of (parents ++ more ∷ [])) a z) (keys (graph_of parents)) (length parents) (past-no_new parents more z order within)
-    ∙ filter_same (λ a. in_past (graph_of (parents ++ more ∷ [])) a z) (λ a. in_past (graph_of parents) a z) (keys (graph_of parents)) (λ a. past_old parents more a z order within)
+past_stays : (table : Numbered) (id salt : ℕ) (more : List ℕ) (z : ℕ) → AreInOrder table.parents → z < length table.parents → past (graph_of (with_next table id salt more)) z ≡ past (graph_of table) z
+past_stays table id salt more z order within =
+    ap (λ (ks : List ℕ). filter (λ a. in_past (graph_of (with_next table id salt more)) a z) ks) names
+    ∙ filter_push (λ a. in_past (graph_of (with_next table id salt more)) a z) (keys (graph_of table)) (length table.parents) (past-no_new table id salt more z order within)
+    ∙ filter_same (λ a. in_past (graph_of (with_next table id salt more)) a z) (λ a. in_past (graph_of table) a z) (keys (graph_of table)) (λ a. past_old table id salt more a z order within)
   where
-    names : keys (graph_of (parents ++ more ∷ [])) ≡ keys (graph_of parents) ++ length parents ∷ []
+    names : keys (graph_of (with_next table id salt more)) ≡ keys (graph_of table) ++ length table.parents ∷ []
     names =
-        keys_are_numbers (parents ++ more ∷ [])
-        ∙ ap (range_with_len 0) (length-append parents (more ∷ []) ∙ (let e : length parents + 1 ≡ suc (length parents) = omega arith in e))
-        ∙ range_more 0 (length parents)
-        ∙ ap (λ (m : ℕ). range_with_len 0 (length parents) ++ m ∷ []) (let e : 0 + length parents ≡ length parents = omega arith in e)
-        ∙ ap (λ (l : List ℕ). l ++ length parents ∷ []) (sym (keys_are_numbers parents))
+        keys_are_numbers (with_next table id salt more)
+        ∙ ap (range_with_len 0) (length-append table.parents (more ∷ []) ∙ (let e : length table.parents + 1 ≡ suc (length table.parents) = omega arith in e))
+        ∙ range_more 0 (length table.parents)
+        ∙ ap (λ (m : ℕ). range_with_len 0 (length table.parents) ++ m ∷ []) (let e : 0 + length table.parents ≡ length table.parents = omega arith in e)
+        ∙ ap (λ (l : List ℕ). l ++ length table.parents ∷ []) (sym (keys_are_numbers table))
 
 -- soundness in a block is the same in a graph with one block more
-pub sound_in_grown : (parents : List (List ℕ)) (more : List ℕ) (k : Carried) (z : ℕ) (p : Payment) → AreInOrder parents → z < length parents
-    → is_sound (ledger_of (parents ++ more ∷ []) k) z p ≡ is_sound (ledger_of parents k) z p
-sound_in_grown parents more k z p order within =
-    ap (λ (ps : List ℕ). is_empty ps || is_covered (flat_map (payments_in k) (past (graph_of (parents ++ more ∷ [])) z)) p)
-    (parents_numbered (parents ++ more ∷ []) z (omega (arith, within, length-append parents (more ∷ [])))
-    ∙ get_or_append_left parents (more ∷ []) [] z within ∙ sym (parents_numbered parents z within))
-    ∙ ap (λ (set : List ℕ). is_genesis (ledger_of parents k) z || is_covered (flat_map (payments_in k) set) p) (past_stays parents more z order within)
+pub sound_in_grown : (table : Numbered) (id salt : ℕ) (more : List ℕ) (k : Carried) (z : ℕ) (p : Payment) → AreInOrder table.parents → z < length table.parents
+    → is_sound (ledger_of (with_next table id salt more) k) z p ≡ is_sound (ledger_of table k) z p
+sound_in_grown table id salt more k z p order within =
+    ap (λ (ps : List ℕ). is_empty ps || is_covered (flat_map (payments_in k) (past (graph_of (with_next table id salt more)) z)) p)
+    (parents_numbered (with_next table id salt more) z (omega (arith, within, length-append table.parents (more ∷ [])))
+    ∙ get_or_append_left table.parents (more ∷ []) [] z within ∙ sym (parents_numbered table z within))
+    ∙ ap (λ (set : List ℕ). is_genesis (ledger_of table k) z || is_covered (flat_map (payments_in k) set) p) (past_stays table id salt more z order within)
 
-pub grown_sound : (parents : List (List ℕ)) (more : List ℕ) (k : Carried) → AreInOrder parents → k.blocks ≤ length parents → IsCarried k → AreSound parents k
-    → AreSound (parents ++ more ∷ []) k
-grown_sound parents more k order le is sound = λ i d lt.
+pub grown_sound : (table : Numbered) (id salt : ℕ) (more : List ℕ) (k : Carried) → AreInOrder table.parents → k.blocks ≤ length table.parents → IsCarried k → AreSound table k
+    → AreSound (with_next table id salt more) k
+grown_sound table id salt more k order le is sound = λ i d lt.
     let below : (get_or k.rows i d).block < k.blocks = is.blocks i d lt in
-    sound i d lt ∙ sym (sound_in_grown parents more k (get_or k.rows i d).block (payment_of (tx_at k (get_or k.rows i d).tx)) order (omega (arith, below, le)))
+    sound i d lt ∙ sym (sound_in_grown table id salt more k (get_or k.rows i d).block (payment_of (tx_at k (get_or k.rows i d).tx)) order (omega (arith, below, le)))
 
 -- ---- carriers are added
 
@@ -96,79 +95,79 @@ payments_tx k t w linked =
     tx_stays : (k : Carried) (t : Transaction) (n : ℕ) → n < length k.txs → tx_at (with_tx k t) n ≡ tx_at k n
     tx_stays k t n lt = get_or_append_left k.txs (t ∷ []) (of_parts [] []) n lt
 
-pub tx_same : (parents : List (List ℕ)) (k : Carried) (t : Transaction) (n : ℕ) → n < length k.txs → tx_at (with_carrier parents k t) n ≡ tx_at k n
-tx_same parents k t n lt = at (number_of k (id_of t))
+pub tx_same : (table : Numbered) (k : Carried) (t : Transaction) (n : ℕ) → n < length k.txs → tx_at (with_carrier table k t) n ≡ tx_at k n
+tx_same table k t n lt = at (number_of k (id_of t))
   where
-    at : (o : Option ℕ) → tx_at (carried_by parents k t o) n ≡ tx_at k n
+    at : (o : Option ℕ) → tx_at (carried_by table k t o) n ≡ tx_at k n
     at None = get_or_append_left k.txs (t ∷ []) (of_parts [] []) n lt
     at (Some m) = refl
 
-pub payments_same : (parents : List (List ℕ)) (k : Carried) (t : Transaction) (w : ℕ) → AreLinked k → w < k.blocks → payments_in (with_carrier parents k t) w ≡ payments_in k w
-payments_same parents k t w linked earlier = at (number_of k (id_of t))
+pub payments_same : (table : Numbered) (k : Carried) (t : Transaction) (w : ℕ) → AreLinked k → w < k.blocks → payments_in (with_carrier table k t) w ≡ payments_in k w
+payments_same table k t w linked earlier = at (number_of k (id_of t))
   where
     other : eqb k.blocks w ≡ false
     other = ne_eqb k.blocks w (λ e. omega (arith, e, earlier))
 
-    at : (o : Option ℕ) → payments_in (carried_by parents k t o) w ≡ payments_in k w
-    at None = payments_row (with_tx k t) (next_carrier parents k (length k.txs) t) w other ∙ payments_tx k t w linked
-    at (Some m) = payments_row k (next_carrier parents k m (tx_at k m)) w other
+    at : (o : Option ℕ) → payments_in (carried_by table k t o) w ≡ payments_in k w
+    at None = payments_row (with_tx k t) (next_carrier table k (length k.txs) t) w other ∙ payments_tx k t w linked
+    at (Some m) = payments_row k (next_carrier table k m (tx_at k m)) w other
 
-pub sound_same : (parents : List (List ℕ)) (k : Carried) (t : Transaction) (z : ℕ) (p : Payment) → AreLinked k → AreInOrder parents → z ≤ k.blocks → z < length parents
-    → is_sound (ledger_of parents (with_carrier parents k t)) z p ≡ is_sound (ledger_of parents k) z p
-sound_same parents k t z p linked order le within =
-    ap (λ (below : List Payment). is_genesis (ledger_of parents k) z || is_covered below p)
-    (flat_map_agrees (payments_in (with_carrier parents k t)) (payments_in k) (past (graph_of parents) z)
-    (λ w there. payments_same parents k t w linked
-    (let lower : w < z = ancestors_lower parents w z order within (has-past (graph_of parents) z w (any_of_member (λ a. eqb a w) (past (graph_of parents) z) w there (eq-eqb w w refl))) in
+pub sound_same : (table : Numbered) (k : Carried) (t : Transaction) (z : ℕ) (p : Payment) → AreLinked k → AreInOrder table.parents → z ≤ k.blocks → z < length table.parents
+    → is_sound (ledger_of table (with_carrier table k t)) z p ≡ is_sound (ledger_of table k) z p
+sound_same table k t z p linked order le within =
+    ap (λ (below : List Payment). is_genesis (ledger_of table k) z || is_covered below p)
+    (flat_map_agrees (payments_in (with_carrier table k t)) (payments_in k) (past (graph_of table) z)
+    (λ w there. payments_same table k t w linked
+    (let lower : w < z = ancestors_lower table w z order within (has-past (graph_of table) z w (any_of_member (λ a. eqb a w) (past (graph_of table) z) w there (eq-eqb w w refl))) in
     omega (arith, lower, le))))
 
 -- each carrier is marked sound just where the definition says so, while those of the next block are added
-sound_more : (parents : List (List ℕ)) (k : Carried) (t : Transaction) → AreLinked k → All (λ (r : Carrier). r.block < k.blocks + 1) k.rows → AreInOrder parents
-    → k.blocks < length parents → AreSound parents k → AreSound parents (with_carrier parents k t)
-sound_more parents k t linked blocks order next sound = at (number_of k (id_of t)) refl
+sound_more : (table : Numbered) (k : Carried) (t : Transaction) → AreLinked k → All (λ (r : Carrier). r.block < k.blocks + 1) k.rows → AreInOrder table.parents
+    → k.blocks < length table.parents → AreSound table k → AreSound table (with_carrier table k t)
+sound_more table k t linked blocks order next sound = at (number_of k (id_of t)) refl
   where
-    old : (P : Carried) → P ≡ with_carrier parents k t → All (λ (r : Carrier). r.sound ≡ is_sound (ledger_of parents P) r.block (payment_of (tx_at P r.tx))) k.rows
+    old : (P : Carried) → P ≡ with_carrier table k t → All (λ (r : Carrier). r.sound ≡ is_sound (ledger_of table P) r.block (payment_of (tx_at P r.tx))) k.rows
     old P is i d lt =
         let r : Carrier = get_or k.rows i d in
         let below : (get_or k.rows i d).block < k.blocks + 1 = blocks i d lt in
         let tx : (get_or k.rows i d).tx < length k.txs = linked.txs i d lt in
         sound i d lt
-        ∙ sym (sound_same parents k t (get_or k.rows i d).block (payment_of (tx_at k (get_or k.rows i d).tx)) linked order (omega (arith, below)) (omega (arith, below, next)))
-        ∙ ap (λ (x : Transaction). is_sound (ledger_of parents (with_carrier parents k t)) (get_or k.rows i d).block (payment_of x)) (sym (tx_same parents k t (get_or k.rows i d).tx tx))
-        ∙ ap (λ (Q : Carried). is_sound (ledger_of parents Q) (get_or k.rows i d).block (payment_of (tx_at Q (get_or k.rows i d).tx))) (sym is)
+        ∙ sym (sound_same table k t (get_or k.rows i d).block (payment_of (tx_at k (get_or k.rows i d).tx)) linked order (omega (arith, below)) (omega (arith, below, next)))
+        ∙ ap (λ (x : Transaction). is_sound (ledger_of table (with_carrier table k t)) (get_or k.rows i d).block (payment_of x)) (sym (tx_same table k t (get_or k.rows i d).tx tx))
+        ∙ ap (λ (Q : Carried). is_sound (ledger_of table Q) (get_or k.rows i d).block (payment_of (tx_at Q (get_or k.rows i d).tx))) (sym is)
 
-    new : (P : Carried) (n : ℕ) (x : Transaction) → P ≡ with_carrier parents k t → tx_at P n ≡ x
-        → is_sound (ledger_of parents k) k.blocks (payment_of x) ≡ is_sound (ledger_of parents P) k.blocks (payment_of (tx_at P n))
+    new : (P : Carried) (n : ℕ) (x : Transaction) → P ≡ with_carrier table k t → tx_at P n ≡ x
+        → is_sound (ledger_of table k) k.blocks (payment_of x) ≡ is_sound (ledger_of table P) k.blocks (payment_of (tx_at P n))
     new P n x is tx =
-        sym (sound_same parents k t k.blocks (payment_of x) linked order (omega arith) next)
-        ∙ ap (λ (Q : Carried). is_sound (ledger_of parents Q) k.blocks (payment_of x)) (sym is)
-        ∙ ap (λ (y : Transaction). is_sound (ledger_of parents P) k.blocks (payment_of y)) (sym tx)
+        sym (sound_same table k t k.blocks (payment_of x) linked order (omega arith) next)
+        ∙ ap (λ (Q : Carried). is_sound (ledger_of table Q) k.blocks (payment_of x)) (sym is)
+        ∙ ap (λ (y : Transaction). is_sound (ledger_of table P) k.blocks (payment_of y)) (sym tx)
 
-    at : (o : Option ℕ) → number_of k (id_of t) ≡ o → AreSound parents (carried_by parents k t o)
+    at : (o : Option ℕ) → number_of k (id_of t) ≡ o → AreSound table (carried_by table k t o)
     at None e =
-        let is : carried_by parents k t None ≡ with_carrier parents k t = ap (carried_by parents k t) (sym e) in
-        All-push (λ (r : Carrier). r.sound ≡ is_sound (ledger_of parents (carried_by parents k t None)) r.block (payment_of (tx_at (carried_by parents k t None) r.tx))) k.rows
-        (next_carrier parents k (length k.txs) t) (old (carried_by parents k t None) is) (new (carried_by parents k t None) (length k.txs) t is (last k.txs))
+        let is : carried_by table k t None ≡ with_carrier table k t = ap (carried_by table k t) (sym e) in
+        All-push (λ (r : Carrier). r.sound ≡ is_sound (ledger_of table (carried_by table k t None)) r.block (payment_of (tx_at (carried_by table k t None) r.tx))) k.rows
+        (next_carrier table k (length k.txs) t) (old (carried_by table k t None) is) (new (carried_by table k t None) (length k.txs) t is (last k.txs))
       where
         last : (ts : List Transaction) → get_or (ts ++ t ∷ []) (length ts) (of_parts [] []) ≡ t
         last [] = refl
         last (x ∷ xs) = last xs
     at (Some m) e =
-        let is : carried_by parents k t (Some m) ≡ with_carrier parents k t = ap (carried_by parents k t) (sym e) in
-        All-push (λ (r : Carrier). r.sound ≡ is_sound (ledger_of parents (carried_by parents k t (Some m))) r.block (payment_of (tx_at (carried_by parents k t (Some m)) r.tx))) k.rows
-        (next_carrier parents k m (tx_at k m)) (old (carried_by parents k t (Some m)) is) (new (carried_by parents k t (Some m)) m (tx_at k m) is refl)
+        let is : carried_by table k t (Some m) ≡ with_carrier table k t = ap (carried_by table k t) (sym e) in
+        All-push (λ (r : Carrier). r.sound ≡ is_sound (ledger_of table (carried_by table k t (Some m))) r.block (payment_of (tx_at (carried_by table k t (Some m)) r.tx))) k.rows
+        (next_carrier table k m (tx_at k m)) (old (carried_by table k t (Some m)) is) (new (carried_by table k t (Some m)) m (tx_at k m) is refl)
 
-sound_all : (parents : List (List ℕ)) (k : Carried) (ts : List Transaction) → AreLinked k → All (λ (r : Carrier). r.block < k.blocks + 1) k.rows → AreInOrder parents
-    → k.blocks < length parents → AreSound parents k → AreSound parents (with_carriers parents k ts)
-sound_all parents k [] linked blocks order next sound = sound
-sound_all parents k (t ∷ ts) linked blocks order next sound =
-    let same : (with_carrier parents k t).blocks ≡ k.blocks = (counts_more parents k t).2 in
-    sound_all parents (with_carrier parents k t) ts (linked_more parents k t linked)
-    (subst (λ (n : ℕ). All (λ (r : Carrier). r.block < n + 1) (with_carrier parents k t).rows) (sym same) (blocks_more parents k t (k.blocks + 1) blocks (omega arith)))
-    order (omega (arith, same, next)) (sound_more parents k t linked blocks order next sound)
+sound_all : (table : Numbered) (k : Carried) (ts : List Transaction) → AreLinked k → All (λ (r : Carrier). r.block < k.blocks + 1) k.rows → AreInOrder table.parents
+    → k.blocks < length table.parents → AreSound table k → AreSound table (with_carriers table k ts)
+sound_all table k [] linked blocks order next sound = sound
+sound_all table k (t ∷ ts) linked blocks order next sound =
+    let same : (with_carrier table k t).blocks ≡ k.blocks = (counts_more table k t).2 in
+    sound_all table (with_carrier table k t) ts (linked_more table k t linked)
+    (subst (λ (n : ℕ). All (λ (r : Carrier). r.block < n + 1) (with_carrier table k t).rows) (sym same) (blocks_more table k t (k.blocks + 1) blocks (omega arith)))
+    order (omega (arith, same, next)) (sound_more table k t linked blocks order next sound)
 
 -- with one block more
-pub sound_block : (parents : List (List ℕ)) (k : Carried) (ts : List Transaction) → IsCarried k → AreInOrder parents → k.blocks < length parents → AreSound parents k
-    → AreSound parents (with_block parents k ts)
-sound_block parents k ts is order next sound =
-    sound_all parents k ts is.linked (λ i d lt. let below : (get_or k.rows i d).block < k.blocks = is.blocks i d lt in omega (arith, below)) order next sound
+pub sound_block : (table : Numbered) (k : Carried) (ts : List Transaction) → IsCarried k → AreInOrder table.parents → k.blocks < length table.parents → AreSound table k
+    → AreSound table (with_block table k ts)
+sound_block table k ts is order next sound =
+    sound_all table k ts is.linked (λ i d lt. let below : (get_or k.rows i d).block < k.blocks = is.blocks i d lt in omega (arith, below)) order next sound

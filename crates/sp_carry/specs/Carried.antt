@@ -1,7 +1,7 @@
 -- The transactions and carriers of the first blocks of a graph, by number.
-use Rattle.std.specs.Prelude.{◌≡◌, ℕ, suc, ◌+◌, ◌*◌, ◌≢◌, ◌<◌, ◌≤◌, ◌==◌, All, AllPairs, List, [], ◌∷◌, ◌++◌, length, map, filter, position, nat_eq, Option, Some, None, slice_index_or, cond, Contains, flat_map, find, unwrap_or}
+use Rattle.std.specs.Prelude.{◌≡◌, ℕ, suc, max, nat_lt, take, ◌+◌, ◌*◌, ◌≢◌, ◌<◌, ◌≤◌, ◌==◌, All, AllPairs, List, [], ◌∷◌, ◌++◌, length, map, filter, position, nat_eq, Option, Some, None, slice_index_or, cond, Contains, flat_map, find, unwrap_or}
 use Rattle.sp_model.specs.Graph.{AreDistinct, has}
-use Rattle.sp_dag.specs.Numbered.{graph_of}
+use Rattle.sp_dag.specs.Numbered.{Numbered, graph_of}
 use Rattle.sp_tx.specs.Parts.{Transaction, of_parts}
 use Rattle.sp_tx.specs.Spending.{id_of}
 use Rattle.sp_carry.specs.declared.carrier.Carrier.{Carrier}
@@ -30,9 +30,9 @@ tx_at k tx = slice_index_or k.txs tx (of_parts [] [])
 abbrev pub payments_in : Carried → ℕ → List Payment
 payments_in k z = map (λ (r : Carrier). payment_of (tx_at k r.tx)) (filter (λ (r : Carrier). r.block == z) k.rows)
 
--- the ledger of the blocks, where the parents of each are known
-abbrev pub ledger_of : List (List ℕ) → Carried → Ledger
-ledger_of parents k = record { graph = graph_of parents; txs = payments_in k }
+-- the ledger of the blocks, where the graph of these is known
+abbrev pub ledger_of : Numbered → Carried → Ledger
+ledger_of table k = record { graph = graph_of table; txs = payments_in k }
 
 -- with one more transaction
 abbrev pub with_tx : Carried → Transaction → Carried
@@ -43,29 +43,29 @@ abbrev pub with_row : Carried → Carrier → Carried
 with_row k r = record { blocks = k.blocks; txs = k.txs; rows = k.rows ++ r ∷ [] }
 
 -- the carrier, in the next block, of a transaction that has this number
-abbrev pub next_carrier : List (List ℕ) → Carried → ℕ → Transaction → Carrier
-next_carrier parents k tx t =
-    record { block = k.blocks; tx = tx; sound = is_sound (ledger_of parents k) k.blocks (payment_of t) }
+abbrev pub next_carrier : Numbered → Carried → ℕ → Transaction → Carrier
+next_carrier table k tx t =
+    record { block = k.blocks; tx = tx; sound = is_sound (ledger_of table k) k.blocks (payment_of t) }
 
 -- with one more carrier in the next block, where its transaction has that number, or is a new one
-abbrev pub carried_by : List (List ℕ) → Carried → Transaction → Option ℕ → Carried
-carried_by parents k t None = with_row (with_tx k t) (next_carrier parents k (length k.txs) t)
-carried_by parents k t (Some tx) = with_row k (next_carrier parents k tx (tx_at k tx))
+abbrev pub carried_by : Numbered → Carried → Transaction → Option ℕ → Carried
+carried_by table k t None = with_row (with_tx k t) (next_carrier table k (length k.txs) t)
+carried_by table k t (Some tx) = with_row k (next_carrier table k tx (tx_at k tx))
 
 -- with one more carrier in the next block. A transaction whose id is there counts as the one that is there
-abbrev pub with_carrier : List (List ℕ) → Carried → Transaction → Carried
-with_carrier parents k t = carried_by parents k t (number_of k (id_of t))
+abbrev pub with_carrier : Numbered → Carried → Transaction → Carried
+with_carrier table k t = carried_by table k t (number_of k (id_of t))
 
-abbrev pub with_carriers : List (List ℕ) → Carried → List Transaction → Carried
-with_carriers parents k [] = k
-with_carriers parents k (t ∷ ts) = with_carriers parents (with_carrier parents k t) ts
+abbrev pub with_carriers : Numbered → Carried → List Transaction → Carried
+with_carriers table k [] = k
+with_carriers table k (t ∷ ts) = with_carriers table (with_carrier table k t) ts
 
 abbrev pub closed : Carried → Carried
 closed k = record { blocks = k.blocks + 1; txs = k.txs; rows = k.rows }
 
 -- with the next block, which has these transactions
-abbrev pub with_block : List (List ℕ) → Carried → List Transaction → Carried
-with_block parents k ts = closed (with_carriers parents k ts)
+abbrev pub with_block : Numbered → Carried → List Transaction → Carried
+with_block table k ts = closed (with_carriers table k ts)
 
 -- the numbers, from `first` on, of the carriers of a transaction, ascending
 abbrev pub carriers_from : ℕ → ℕ → List Carrier → List ℕ
@@ -75,6 +75,23 @@ carriers_from first tx (r ∷ rs) = cond (r.tx == tx) (first ∷ carriers_from (
 -- the numbers of the carriers of a transaction
 abbrev pub carriers_in : List Carrier → ℕ → List ℕ
 carriers_in rows tx = carriers_from 0 tx rows
+
+-- how many transactions some have, where so many were there before and new ones are numbered in turn
+abbrev pub used_from : ℕ → List Carrier → ℕ
+used_from n [] = n
+used_from n (r ∷ rs) = used_from (max n (suc r.tx)) rs
+
+-- how many transactions these carriers have
+abbrev pub used : List Carrier → ℕ
+used rows = used_from 0 rows
+
+-- the carriers of the first n blocks
+abbrev pub rows_of_first : ℕ → List Carrier → List Carrier
+rows_of_first n rows = filter (λ (r : Carrier). nat_lt r.block n) rows
+
+-- the first n blocks, with their carriers, and the transactions that these have
+abbrev pub cut_to : Carried → ℕ → Carried
+cut_to k n = record { blocks = n; txs = take (used (rows_of_first n k.rows)) k.txs; rows = rows_of_first n k.rows }
 
 -- each carrier has a transaction, each transaction a carrier, and no id stands twice
 pub record AreLinked (k : Carried) : Type 0 where
@@ -92,9 +109,9 @@ pub record IsCarried (k : Carried) : Type 0 where
   pub few_txs : length k.txs ≤ length k.rows
   pub small : k.blocks ≤ 512
 
--- each carrier is marked sound just where the definition says so, over the graph with these parents
-abbrev pub AreSound : List (List ℕ) → Carried → Type 0
-AreSound parents k = All (λ (r : Carrier). r.sound ≡ is_sound (ledger_of parents k) r.block (payment_of (tx_at k r.tx))) k.rows
+-- each carrier is marked sound just where the definition says so, over the graph of these blocks
+abbrev pub AreSound : Numbered → Carried → Type 0
+AreSound table k = All (λ (r : Carrier). r.sound ≡ is_sound (ledger_of table k) r.block (payment_of (tx_at k r.tx))) k.rows
 
 -- no two transactions of the blocks that have one id are different payments
 abbrev pub ArePlain : List (List Transaction) → Type 0

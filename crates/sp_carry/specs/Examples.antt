@@ -2,6 +2,7 @@
 -- bob 2, carol 3, dave 4, eve 5. Transactions have the ids 11 and up.
 use Rattle.std.specs.Prelude.{ℕ, ◌==◌, List, [], ◌∷◌, map, Option, Some, None}
 use Rattle.std.specs.List.{find}
+use Rattle.sp_model.specs.declared.profile.Profile.TheVariants.{One}
 use Rattle.sp_model.specs.Graph.{complete}
 use Rattle.sp_carry.specs.declared.state.TxState.{TxState}
 use Rattle.sp_carry.specs.Payment.{Payment}
@@ -20,7 +21,7 @@ body_or_none (Some e) = e.body
 
 abbrev pub ledger_of : List Entry → Ledger
 ledger_of entries = record {
-  graph = record { blocks = map (λ (e : Entry). record { key = e.key; parents = e.parents }) entries };
+  graph = record { profile = One; blocks = map (λ (e : Entry). record { key = e.key; parents = e.parents; rank = record { salt = 0; id = e.key } }) entries };
   txs = λ z. body_or_none (find (λ (e : Entry). e.key == z) entries);
 }
 

@@ -1,26 +1,27 @@
--- Carriers that were added one by one, of which the last ones can be taken back.
-use Rattle.std.specs.Prelude.{ℕ, zero, suc, ◌≡◌, ◌+◌, ◌<◌, ◌≤◌, ◌^◌, All, List, length}
-use Rattle.sp_tx.specs.Parts.{Transaction}
+-- Carriers that are added one by one, of which the last ones can be taken back.
+use Rattle.std.specs.Prelude.{ℕ, suc, max, ◌+◌, ◌*◌, ◌<◌, ◌≤◌, ◌^◌, All, List, [], ◌∷◌, length, take}
+use Rattle.sp_dag.specs.Numbered.{Numbered}
 use Rattle.sp_carry.specs.declared.carrier.Carrier.{Carrier}
-use Rattle.sp_carry.specs.Carried.{Carried, with_carrier, AreLinked}
+use Rattle.sp_carry.specs.Carried.{Carried, rows_of_first, used, AreLinked}
 
 -- there is a next block, and room for so many more carriers in it
-pub record HasRoom (parents : List (List ℕ)) (more : ℕ) (k : Carried) : Type 0 where
+pub record HasRoom (table : Numbered) (more : ℕ) (k : Carried) : Type 0 where
   pub linked : AreLinked k
-  pub rows : All (λ (r : Carrier). r.block < length parents) k.rows
-  pub next : k.blocks < length parents
+  pub rows : All (λ (r : Carrier). r.block < length table.parents) k.rows
+  pub next : k.blocks < length table.parents
   pub few : length k.txs ≤ length k.rows
   pub room : length k.rows + more < 2 ^ 32
 
--- so many carriers were added, one by one
-abbrev pub Grown : List (List ℕ) → Carried → ℕ → Carried → Type 0
-Grown parents k zero now = now ≡ k
-Grown parents k (suc n) now = (mid : Carried) × (t : Transaction) × Grown parents k n mid × (now ≡ with_carrier parents mid t)
+-- the first n carriers, with the transactions that they have
+abbrev pub front : Carried → ℕ → Carried
+front k n = record { blocks = k.blocks; txs = take (used (take n k.rows)) k.txs; rows = take n k.rows }
 
--- some carriers were added where there were `first` of them
-pub record IsGrown (parents : List (List ℕ)) (k : Carried) (first : ℕ) (now : Carried) : Type 0 where
-  pub count : ℕ
-  pub grown : Grown parents k count now
-  pub linked : AreLinked k
-  pub start : first ≡ length k.rows
-  pub few : length now.txs < 2 ^ 32
+-- each carrier has a transaction that an earlier one has, or the next new one; n transactions were there before
+abbrev pub AreInTurn : ℕ → List Carrier → Type 0
+AreInTurn n [] = Unit {0}
+AreInTurn n (r ∷ rs) = (r.tx ≤ n) × AreInTurn (max n (suc r.tx)) rs
+
+-- the carriers of the blocks were added block by block, 256 at most of each
+pub record IsBlockwise (k : Carried) : Type 0 where
+  pub turn : AreInTurn 0 k.rows
+  pub few : (n : ℕ) → length (rows_of_first n k.rows) ≤ 256 * n

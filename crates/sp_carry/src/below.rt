@@ -22,7 +22,7 @@ fn is_carrier_below(dag: &Dag, number: u16, rows: &[Carrier], c: u32) -> bool
     requires number { number < length dag.now.parents }
     requires c { c < length rows.now }
     requires rows { All (λ (r : Carrier). r.block < length dag.now.parents) rows.now }
-    ensures { result ≡ in_past (graph_of dag.now.parents) (block_at rows.now c) number }
+    ensures { result ≡ in_past (graph_of dag.now) (block_at rows.now c) number }
 {
     let row = rows[c as usize];
     dag.in_past(row.block, number)
@@ -33,7 +33,7 @@ fn is_any_below(dag: &Dag, number: u16, rows: &[Carrier], list: &[u32]) -> bool
     requires number { number < length dag.now.parents }
     requires list { All (λ c. c < length rows.now) list.now }
     requires rows { All (λ (r : Carrier). r.block < length dag.now.parents) rows.now }
-    ensures { result ≡ list_any (λ c. in_past (graph_of dag.now.parents) (block_at rows.now c) number) list.now }
+    ensures { result ≡ list_any (λ c. in_past (graph_of dag.now) (block_at rows.now c) number) list.now }
 {
     for c in list {
         if is_carrier_below(dag, number, rows, *c) {
@@ -61,8 +61,8 @@ pub(crate) fn output_below(table: &Table, dag: &Dag, from: &Outpoint) -> Option<
     requires number { table.now.blocks < length dag.now.parents }
     requires order { AreInOrder dag.now.parents }
     requires rows { All (λ (r : Carrier). r.block < length dag.now.parents) table.now.rows.items }
-    ensures { result ≡ output_at (carried (ledger_of dag.now.parents (carried_of table.now))
-        (past (graph_of dag.now.parents) table.now.blocks)) from.now }
+    ensures { result ≡ output_at (carried (ledger_of dag.now (carried_of table.now))
+        (past (graph_of dag.now) table.now.blocks)) from.now }
 {
     match table.tx_of(&from.tx) {
         None => None,

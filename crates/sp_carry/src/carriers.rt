@@ -1,9 +1,9 @@
 //! The public type: what the crates above see of transactions and carriers.
 
-ghost use Rattle.std.specs.Prelude.{◌≡◌, ◌<◌, ◌≤◌, length, IfOk, IfSome, OnOk, OnErr, Some, slice_get};
+ghost use Rattle.std.specs.Prelude.{◌≡◌, ◌<◌, ◌≤◌, AllPairs, length, take, IfOk, IfSome, OnOk, OnErr, Some, slice_get};
 ghost use Rattle.sp_tx.specs.Spending.{id_of};
 ghost use Rattle.sp_carry.specs.Lookups.{spenders_in};
-ghost use Rattle.sp_carry.specs.Carried.{carriers_in, nothing, number_of, tx_at, with_block, IsCarried};
+ghost use Rattle.sp_carry.specs.Carried.{carriers_in, cut_to, nothing, number_of, rows_of_first, tx_at, with_block, IsCarried};
 ghost use Rattle.sp_carry.specs.Rivals.{rivals_of};
 
 use crate::carrier::Carrier;
@@ -29,13 +29,28 @@ pub struct Carriers {
 
 impl Model for Carriers {
     ghost use Rattle.sp_carry.specs.Carried.{Carried, IsCarried};
+    ghost use Rattle.sp_carry.specs.Growth.{IsBlockwise};
     ghost use Rattle.sp_carry.specs.Kept.{carried_of, IsKept};
 
     ghost Value = { Carried };
 
     ghost view = { λ carriers. carried_of carriers.table };
 
-    ghost invariant = { λ carriers. IsKept carriers.table × IsCarried (carried_of carriers.table) };
+    ghost invariant = { λ carriers.
+        IsKept carriers.table × IsCarried (carried_of carriers.table) × IsBlockwise (carried_of carriers.table) };
+}
+
+// How many of the carriers, from the first, stand in the first blocks.
+fn rows_below(rows: &[Carrier], blocks: u16) -> usize
+    requires { AllPairs (λ (r s : Carrier). r.block ≤ s.block) rows.now }
+    ensures within { result ≤ length rows.now }
+    ensures first { take result rows.now ≡ rows_of_first blocks rows.now }
+{
+    let mut left = rows.len();
+    'rows: while 0 < left && blocks <= rows[left - 1].block {
+        left -= 1;
+    }
+    left
 }
 
 impl Carriers {
@@ -63,7 +78,7 @@ impl Carriers {
         requires next { self.old.blocks ≡ number }
         requires there { number < length dag.now.parents }
         requires few { length txs.now ≤ 256 }
-        ensures ok { OnOk result (self.new ≡ with_block dag.now.parents self.old txs.now) }
+        ensures ok { OnOk result (self.new ≡ with_block dag.now self.old txs.now) }
         ensures err { OnErr result (self.new ≡ self.old) }
     {
         // This call's contract says what a graph always is.
@@ -79,6 +94,17 @@ impl Carriers {
                 Err(Memory)
             }
         }
+    }
+
+    /// Leaves what stood after the first blocks. The time is that of a look-up for each carrier that
+    /// goes and each of its transaction's inputs.
+    pub fn cut(&mut self, blocks: u16)
+        requires { blocks ≤ self.old.blocks }
+        ensures { self.new ≡ cut_to self.old blocks }
+    {
+        let left = rows_below(&self.table.rows, blocks);
+        self.table.take_back(left);
+        self.table.blocks = blocks;
     }
 
     /// How many transactions there are, at most 131,072.

@@ -1,10 +1,9 @@
 //! Carriers of the next block, one by one, and how the last ones are taken back.
 
-ghost use Rattle.std.specs.Prelude.{◌≡◌, ◌<◌, ◌^◌, ℕ, List, length, OnOk, OnErr};
-ghost use Rattle.sp_tx.specs.Parts.{Transaction};
+ghost use Rattle.std.specs.Prelude.{◌≡◌, ◌<◌, ◌≤◌, ◌+◌, ◌^◌, ℕ, length, take, OnOk, OnErr};
 ghost use Rattle.sp_dag.specs.Numbered.{IsNumbered};
 ghost use Rattle.sp_carry.specs.Carried.{Carried, with_carrier, with_carriers, AreLinked};
-ghost use Rattle.sp_carry.specs.Growth.{HasRoom, IsGrown};
+ghost use Rattle.sp_carry.specs.Growth.{front, AreInTurn, HasRoom};
 ghost use Rattle.sp_carry.specs.Kept.{carried_of, IsKept, Keeps};
 
 use crate::carrier::Carrier;
@@ -19,9 +18,9 @@ impl Table {
     // One more carrier in the next block. After `Memory` all is as before.
     fn carry(&mut self, alloc: Global, dag: &Dag, tx: &Tx) -> Result<(), Memory>
         requires kept { IsKept self.old }
-        requires room { HasRoom dag.now.parents 1 (carried_of self.old) }
+        requires room { HasRoom dag.now 1 (carried_of self.old) }
         requires numbered { IsNumbered dag.now }
-        ensures ok { OnOk result (Keeps self.new (with_carrier dag.now.parents (carried_of self.old) tx.now)) }
+        ensures ok { OnOk result (Keeps self.new (with_carrier dag.now (carried_of self.old) tx.now)) }
         ensures err { OnErr result (Keeps self.new (carried_of self.old)) }
     {
         let id = sp_tx::id(alloc, tx)?;
@@ -55,11 +54,10 @@ impl Table {
     // The next block's carriers. After `Memory` some of them are there.
     pub(crate) fn carry_all(&mut self, alloc: Global, dag: &Dag, txs: &[Tx]) -> Result<(), Memory>
         requires kept { IsKept self.old }
-        requires room { HasRoom dag.now.parents (length txs.now) (carried_of self.old) }
+        requires room { HasRoom dag.now (length txs.now) (carried_of self.old) }
         requires numbered { IsNumbered dag.now }
-        ensures ok { OnOk result (Keeps self.new (with_carriers dag.now.parents (carried_of self.old) txs.now)) }
-        ensures err { OnErr result (IsGrown dag.now.parents (carried_of self.old) (length self.old.rows.items) (carried_of self.new)) }
-        ensures kept { OnErr result (IsKept self.new) }
+        ensures ok { OnOk result (Keeps self.new (with_carriers dag.now (carried_of self.old) txs.now)) }
+        ensures err { OnErr result ((count : ℕ) × Keeps self.new (with_carriers dag.now (carried_of self.old) (take count txs.now))) }
     {
         'txs: for tx in txs {
             self.carry(alloc, dag, tx)?;
@@ -73,8 +71,8 @@ impl Table {
         requires linked { AreLinked (carried_of self.old) }
         requires some { 0 < length self.old.rows.items }
         requires few { length self.old.txs.items < 2 ^ 32 }
-        ensures { (parents : List (List ℕ)) (k : Carried) (t : Transaction) → AreLinked k →
-            Keeps self.old (with_carrier parents k t) → Keeps self.new k }
+        ensures { (k : Carried) (n : ℕ) → AreLinked k → AreInTurn 0 k.rows → n < length k.rows →
+            Keeps self.old (front k (n + 1)) → Keeps self.new (front k n) }
     {
         if self.drop_row() {
             self.drop_tx();
@@ -84,9 +82,11 @@ impl Table {
     // Takes the last carriers back, down to a number of them.
     pub(crate) fn take_back(&mut self, first: usize)
         requires kept { IsKept self.old }
-        requires grown { (parents : List (List ℕ)) × (k : Carried) × IsGrown parents k first (carried_of self.old) }
-        ensures { (parents : List (List ℕ)) (k : Carried) → IsGrown parents k first (carried_of self.old) →
-            Keeps self.new k }
+        requires linked { AreLinked (carried_of self.old) }
+        requires turn { AreInTurn 0 self.old.rows.items }
+        requires few { length self.old.txs.items < 2 ^ 32 }
+        requires within { first ≤ length self.old.rows.items }
+        ensures { Keeps self.new (front (carried_of self.old) first) }
     {
         'rows: while self.rows.len() > first {
             self.drop_carrier();

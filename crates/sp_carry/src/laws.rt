@@ -8,8 +8,8 @@ ghost use Rattle.sp_carry.specs.Payment.{Payment, Spent, conflicts, paid_amount,
 ghost use Rattle.sp_carry.specs.Ledger.{Ledger, accepts, accepts_by, accepted_carriers, is_accepted, HasNoTwins, IsPlain, NamesOnce};
 ghost use Rattle.sp_carry.specs.Money.{balance};
 ghost use Rattle.sp_tx.specs.Parts.{Transaction};
-ghost use Rattle.sp_dag.specs.Numbered.{AreInOrder};
-ghost use Rattle.sp_carry.specs.Carried.{first_like, nothing, with_block, ArePlain, AreSound, Carried, Carries, IsCarried};
+ghost use Rattle.sp_dag.specs.Numbered.{AreInOrder, Numbered, with_next};
+ghost use Rattle.sp_carry.specs.Carried.{cut_to, first_like, nothing, with_block, ArePlain, AreSound, Carried, Carries, IsCarried};
 ghost use Rattle.sp_carry.specs.Examples as example;
 ghost use Rattle.sp_carry.specs.Examples.{state_in, balance_in};
 
@@ -50,13 +50,13 @@ pub fn nothing_is_made()
 /// so, over all blocks that were added; and a block that is added to the graph changes no mark.
 #[tactic(auto, using(crate::proofs::Soundness::sound_block, crate::proofs::Soundness::grown_sound))]
 pub fn marks_are_right()
-    ensures none { (parents : List (List ℕ)) → AreSound parents nothing }
-    ensures block { (parents : List (List ℕ)) (k : Carried) (txs : List Transaction) →
-        IsCarried k → AreInOrder parents → k.blocks < length parents → AreSound parents k →
-        AreSound parents (with_block parents k txs) }
-    ensures graph { (parents : List (List ℕ)) (more : List ℕ) (k : Carried) →
-        AreInOrder parents → k.blocks ≤ length parents → IsCarried k → AreSound parents k →
-        AreSound (parents ++ more ∷ []) k }
+    ensures none { (table : Numbered) → AreSound table nothing }
+    ensures block { (table : Numbered) (k : Carried) (txs : List Transaction) →
+        IsCarried k → AreInOrder table.parents → k.blocks < length table.parents → AreSound table k →
+        AreSound table (with_block table k txs) }
+    ensures graph { (table : Numbered) (id salt : ℕ) (parents : List ℕ) (k : Carried) →
+        AreInOrder table.parents → k.blocks ≤ length table.parents → IsCarried k → AreSound table k →
+        AreSound (with_next table id salt parents) k }
 {}
 
 /// Carriers of blocks that were added one after another carry what the blocks do: an id is there
@@ -66,9 +66,9 @@ pub fn marks_are_right()
 #[tactic(auto, using(crate::proofs::Carrying::none_carried, crate::proofs::Carrying::block_carried, crate::proofs::Firsts::first_is_own))]
 pub fn blocks_are_carried()
     ensures none { Carries [] nothing }
-    ensures block { (parents : List (List ℕ)) (blocks : List (List Transaction)) (k : Carried)
+    ensures block { (table : Numbered) (blocks : List (List Transaction)) (k : Carried)
         (txs : List Transaction) → IsCarried k → Carries blocks k →
-        Carries (blocks ++ txs ∷ []) (with_block parents k txs) }
+        Carries (blocks ++ txs ∷ []) (with_block table k txs) }
     ensures own { (blocks : List (List Transaction)) (t : Transaction) → ArePlain blocks →
         Contains (flat_map (λ b. b) blocks) t →
         payment_of (first_like (flat_map (λ b. b) blocks) t) ≡ payment_of t }
@@ -105,4 +105,14 @@ pub fn worked_examples()
     ensures above_its_source { state_in example.above_its_source 14 ≡ Accepted }
     ensures source_beside { state_in example.source_in_anticone 14 ≡ Rejected }
     ensures not_carried { state_in example.beside_its_source 19 ≡ Absent }
+{}
+
+/// The first blocks are left as they were, whatever blocks came after them; and where no block goes,
+/// all stays.
+#[tactic(auto, using(crate::proofs::Cutting::cut_before, crate::proofs::Cutting::cut_whole))]
+pub fn first_blocks_stay()
+    ensures whole { (carried : Carried) → IsCarried carried → cut_to carried carried.blocks ≡ carried }
+    ensures before { (table : Numbered) (carried : Carried) (txs : List Transaction) (n : ℕ) →
+        IsCarried carried → n ≤ carried.blocks →
+        cut_to (with_block table carried txs) n ≡ cut_to carried n }
 {}

@@ -25,8 +25,8 @@ fn worth_at(table: &Table, dag: &Dag, input: &Input) -> Option<u64>
     requires number { table.now.blocks < length dag.now.parents }
     requires numbered { IsNumbered dag.now }
     requires rows { All (λ (r : Carrier). r.block < length dag.now.parents) table.now.rows.items }
-    ensures { result ≡ worth_of (carried (ledger_of dag.now.parents (carried_of table.now))
-        (past (graph_of dag.now.parents) table.now.blocks)) (spent_by input.now) }
+    ensures { result ≡ worth_of (carried (ledger_of dag.now (carried_of table.now))
+        (past (graph_of dag.now) table.now.blocks)) (spent_by input.now) }
 {
     match output_below(table, dag, &input.from) {
         Some(output) => {
@@ -49,8 +49,8 @@ fn worth_below(table: &Table, dag: &Dag, inputs: &[Input]) -> Option<u128>
     requires numbered { IsNumbered dag.now }
     requires rows { All (λ (r : Carrier). r.block < length dag.now.parents) table.now.rows.items }
     requires few { length inputs.now ≤ 16 }
-    ensures { result ≡ worth_in (carried (ledger_of dag.now.parents (carried_of table.now))
-        (past (graph_of dag.now.parents) table.now.blocks)) inputs.now }
+    ensures { result ≡ worth_in (carried (ledger_of dag.now (carried_of table.now))
+        (past (graph_of dag.now) table.now.blocks)) inputs.now }
 {
     let mut worth: u128 = 0;
     'inputs: for input in inputs {
@@ -82,7 +82,7 @@ pub(crate) fn is_sound(table: &Table, dag: &Dag, tx: &Tx) -> bool
     requires number { table.now.blocks < length dag.now.parents }
     requires numbered { IsNumbered dag.now }
     requires rows { All (λ (r : Carrier). r.block < length dag.now.parents) table.now.rows.items }
-    ensures { result ≡ is_sound (ledger_of dag.now.parents (carried_of table.now))
+    ensures { result ≡ is_sound (ledger_of dag.now (carried_of table.now))
         table.now.blocks (payment_of tx.now) }
 {
     if table.blocks == 0 {

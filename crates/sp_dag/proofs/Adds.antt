@@ -9,7 +9,7 @@ use Rattle.sp_model.specs.Graph.{has, in_past}
 use Rattle.sp_bits.specs.Places.{places_where}
 use Rattle.sp_bits.specs.Members.{has-places_where}
 use Rattle.sp_bits.proofs.Sets.{places_same}
-use Rattle.sp_dag.specs.Numbered.{graph_of}
+use Rattle.sp_dag.specs.Shapes.{shape_of}
 use Rattle.sp_dag.specs.Rows.{is_reached}
 use Rattle.sp_dag.specs.Right.{AreRight}
 use Rattle.sp_dag.specs.Indexed.{AreIndexed, AreNewIndexed}
@@ -34,7 +34,7 @@ each_row rows row n right long old new z le =
           ap (λ (k : ℕ). get_or (rows ++ row ∷ []) k []) same ∙ get_or-append_seam rows row [] [] ∙ new ∙ ap right last)
     ]
 
-few_pass : (test : ℕ → Bool) (a n : ℕ) → length (filter test (range_with_len a n)) ≤ n
+pub few_pass : (test : ℕ → Bool) (a n : ℕ) → length (filter test (range_with_len a n)) ≤ n
 few_pass test a zero = omega arith
 few_pass test a (suc n) = at (test a) (few_pass test (a + 1) n)
   where
@@ -76,7 +76,7 @@ pub AreRight-push : (table pasts futures : List (List ℕ)) (pairs : List (ℕ �
     → AreRight (table ++ ps ∷ []) (pasts ++ past ∷ []) (later ++ [] ∷ []) more (indices ++ row ∷ [])
 AreRight-push table pasts futures pairs indices ps past later more row h adds =
     let n = length table in
-    let g = graph_of (table ++ ps ∷ []) in
+    let g = shape_of (table ++ ps ∷ []) in
     let grown : length (table ++ ps ∷ []) ≡ n + 1 = length-append table (ps ∷ []) in
     let is_row : past ≡ places_where (λ a. in_past g a n) =
     adds.is_past ∙ places_same (is_reached pasts ps) (λ a. in_past g a n) (λ a le. sym (past-new table pasts ps a h.order adds.before h.small le h.pasts_right)) in
@@ -95,7 +95,7 @@ AreRight-push table pasts futures pairs indices ps past later more row h adds =
       indices_long = length-append indices (row ∷ []) ∙ ap (λ (k : ℕ). k + 1) h.indices_long ∙ sym grown;
       pasts_right = λ z le.
           each_row pasts past n (λ z. places_where (λ a. in_past g a z)) h.pasts_long
-          (λ z le. h.pasts_right z le ∙ places_same (λ a. in_past (graph_of table) a z) (λ a. in_past g a z) (λ a _. sym (past_old table ps a z h.order le))) is_row z (omega (arith, grown, le));
+          (λ z le. h.pasts_right z le ∙ places_same (λ a. in_past (shape_of table) a z) (λ a. in_past g a z) (λ a _. sym (past_old table ps a z h.order le))) is_row z (omega (arith, grown, le));
       futures_right = λ z le.
           each_row later [] n (λ z. places_where (λ w. in_past g z w)) adds.long
           (λ a le. adds.rows a le ∙ future-grown table ps past (get_or futures a []) a h.order adds.room (has_past a le) (h.futures_right a le)) (future-new table ps h.order adds.before) z (omega (arith, grown, le));

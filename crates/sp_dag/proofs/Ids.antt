@@ -11,6 +11,7 @@ use Rattle.std.proofs.lemmas.Option.{slice_get-get_or}
 use Rattle.std.proofs.lemmas.List.Elements.{All-map}
 use Rattle.std.proofs.lemmas.List.Quantifiers.{position-Some}
 use Rattle.indexmap.specs.IndexSet.{insert_key}
+use Rattle.sp_model.specs.declared.profile.Profile.{Profile}
 use Rattle.sp_model.specs.Graph.{AreDistinct, has}
 use Rattle.sp_dag.specs.Numbered.{Numbered, IsNumbered, number_of, with_block}
 use Rattle.sp_dag.proofs.Bools.{eqb_flip, eqb_apart}
@@ -66,7 +67,7 @@ has-slice_get (x ∷ xs) id zero there =
     (let same : x ≡ id = ap (λ (o : Option ℕ). unwrap_or o 0) there in or_left (eqb x id) (has xs id) (eq-eqb x id same))
 has-slice_get (x ∷ xs) id (suc n) there = or_right (eqb x id) (has xs id) (has-slice_get xs id n there)
 
-one_place : (ids : List ℕ) (id m n : ℕ) → AreDistinct ids → slice_get ids m ≡ Some id → slice_get ids n ≡ Some id → m ≡ n
+pub one_place : (ids : List ℕ) (id m n : ℕ) → AreDistinct ids → slice_get ids m ≡ Some id → slice_get ids n ≡ Some id → m ≡ n
 one_place [] id m n h first second = cc
 one_place (x ∷ xs) id zero zero h first second = refl
 one_place (x ∷ xs) id zero (suc n) h first second =
@@ -126,17 +127,18 @@ AreDistinct-push (x ∷ xs) id h fresh =
     both false true e f = absurd (false≢true (sym f))
     both false false e f = refl
 
-abbrev pub numbered : List ℕ → List (List ℕ) → Numbered
-numbered ids parents = record { ids = ids; parents = parents }
+abbrev pub numbered : Profile → List ℕ → List ℕ → List (List ℕ) → Numbered
+numbered profile ids salts parents = record { profile = profile; ids = ids; salts = salts; parents = parents }
 
 -- the numbered blocks with one more
-pub IsNumbered-push : (ids : List ℕ) (parents : List (List ℕ)) (id : ℕ) (numbers : List ℕ) → IsNumbered (numbered ids parents)
+pub IsNumbered-push : (profile : Profile) (ids salts : List ℕ) (parents : List (List ℕ)) (id salt : ℕ) (numbers : List ℕ) → IsNumbered (numbered profile ids salts parents)
     → has ids id ≡ false → length parents < 512 → 0 < length numbers → All (λ p. p < length parents) numbers
-    → IsNumbered (numbered (ids ++ id ∷ []) (parents ++ numbers ∷ []))
-IsNumbered-push ids parents id numbers h fresh room some before = record {
+    → IsNumbered (numbered profile (ids ++ id ∷ []) (salts ++ salt ∷ []) (parents ++ numbers ∷ []))
+IsNumbered-push profile ids salts parents id salt numbers h fresh room some before = record {
   some = omega (arith, length-append parents (numbers ∷ []));
   small = omega (arith, length-append parents (numbers ∷ []));
   long = omega (arith, length-append parents (numbers ∷ []), length-append ids (id ∷ []), h.long);
+  salts_long = omega (arith, length-append parents (numbers ∷ []), length-append salts (salt ∷ []), h.salts_long);
   distinct = AreDistinct-push ids id h.distinct fresh;
   order = AreInOrder-push parents numbers h.order (AreBefore-all (length parents) numbers before);
   genesis = get_or-append parents (numbers ∷ []) [] 0 h.some ∙ h.genesis;
@@ -149,20 +151,22 @@ IsNumbered-push ids parents id numbers h fresh room some before = record {
 }
 
 -- the same, with the values as they are read
-pub IsNumbered-adds : (blocks : Numbered) (id : ℕ) (parents ids : List ℕ) (table : List (List ℕ)) (keys numbers : List ℕ) (new_table : List (List ℕ))
-    → numbered ids table ≡ blocks → IsNumbered (numbered ids table)
+pub IsNumbered-adds : (blocks : Numbered) (id salt : ℕ) (parents : List ℕ) (profile : Profile) (ids salts : List ℕ) (table : List (List ℕ)) (keys new_salts numbers : List ℕ) (new_table : List (List ℕ))
+    → numbered profile ids salts table ≡ blocks → IsNumbered (numbered profile ids salts table)
     → has blocks.ids id ≡ false → length blocks.parents < 512 → 0 < length parents
-    → numbers ≡ map (number_of ids) parents → keys ≡ insert_key eqb ids id → new_table ≡ table ++ numbers ∷ []
-    → IsNumbered (numbered keys new_table) × (numbered keys new_table ≡ with_block blocks id parents)
-IsNumbered-adds blocks id parents ids table keys numbers new_table view h fresh room some is_numbers is_keys is_table =
+    → numbers ≡ map (number_of ids) parents → keys ≡ insert_key eqb ids id → new_salts ≡ salts ++ salt ∷ [] → new_table ≡ table ++ numbers ∷ []
+    → IsNumbered (numbered profile keys new_salts new_table) × (numbered profile keys new_salts new_table ≡ with_block blocks id salt parents)
+IsNumbered-adds blocks id salt parents profile ids salts table keys new_salts numbers new_table view h fresh room some is_numbers is_keys is_salts is_table =
     let fresh_here : has ids id ≡ false = ap (λ (b : Numbered). has b.ids id) view ∙ fresh in
     let room_here : length table ≡ length blocks.parents = ap (λ (b : Numbered). length b.parents) view in
     let some_here : length numbers ≡ length parents = ap length is_numbers ∙ length-map parents (number_of ids) in
     let ids_some : 0 < length ids = omega (arith, h.some, h.long) in
     let pushed : keys ≡ ids ++ id ∷ [] = is_keys ∙ keys-fresh ids id fresh_here in
-    let new = IsNumbered-push ids table id numbers h fresh_here (omega arith) (omega arith) (numbers_below ids parents numbers (length table) ids_some h.long is_numbers) in
-    let is : numbered keys new_table ≡ numbered (ids ++ id ∷ []) (table ++ numbers ∷ []) =
-    ap (λ (l : List ℕ). numbered l new_table) pushed ∙ ap (λ (l : List (List ℕ)). numbered (ids ++ id ∷ []) l) is_table in (
+    let new =
+    IsNumbered-push profile ids salts table id salt numbers h fresh_here (omega arith) (omega arith)
+    (numbers_below ids parents numbers (length table) ids_some h.long is_numbers) in
+    let is : numbered profile keys new_salts new_table ≡ numbered profile (ids ++ id ∷ []) (salts ++ salt ∷ []) (table ++ numbers ∷ []) =
+    λ k. numbered profile (pushed k) (is_salts k) (is_table k) in (
       subst IsNumbered (sym is) new,
-      is ∙ ap (λ (l : List ℕ). numbered (ids ++ id ∷ []) (table ++ l ∷ [])) is_numbers ∙ ap (λ (b : Numbered). with_block b id parents) view,
+      is ∙ ap (λ (l : List ℕ). numbered profile (ids ++ id ∷ []) (salts ++ salt ∷ []) (table ++ l ∷ [])) is_numbers ∙ ap (λ (b : Numbered). with_block b id salt parents) view,
     )

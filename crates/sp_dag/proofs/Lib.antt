@@ -10,3 +10,6 @@ pub mod SoFar
 pub mod Whole
 pub mod Lookup
 pub mod Ids
+pub mod Fronts
+pub mod Ranked
+mod Cuts

@@ -4,7 +4,7 @@ use Rattle.std.specs.Prelude.{slice_get, IsNone, IfSome, ◌↔◌}
 use Rattle.std.proofs.lemmas.Bool.{cases_lt, eqb-true, eq-eqb, false≢true, or_left, or_right, or_cases}
 use Rattle.std.proofs.lemmas.List.{get_or_default}
 use Rattle.sp_model.specs.Graph.{Graph, in_past, related}
-use Rattle.sp_dag.specs.Numbered.{graph_of, pairs_of, IsPair}
+use Rattle.sp_dag.specs.Shapes.{shape_of, pairs_in, IsPairIn}
 use Rattle.sp_dag.specs.Indexed.{index_at}
 use Rattle.sp_dag.specs.Right.{AreRight}
 use Rattle.sp_dag.proofs.Bools.{eqb_flip, eqb_apart, or_comm}
@@ -18,11 +18,11 @@ related_flip g x y =
 
 -- whether two numbers are the same or related, by the lower and the higher
 abbrev pub are_joined : List (List ℕ) → ℕ → ℕ → Bool
-are_joined table x y = eqb x y || related (graph_of table) x y
+are_joined table x y = eqb x y || related (shape_of table) x y
 
 joined_flip : (table : List (List ℕ)) (x y : ℕ) → are_joined table x y ≡ are_joined table y x
 joined_flip table x y =
-    ap (λ (c : Bool). c || related (graph_of table) x y) (eqb_flip x y) ∙ ap (λ (c : Bool). eqb y x || c) (related_flip (graph_of table) x y)
+    ap (λ (c : Bool). c || related (shape_of table) x y) (eqb_flip x y) ∙ ap (λ (c : Bool). eqb y x || c) (related_flip (shape_of table) x y)
 
 pub joined_sorted : (table : List (List ℕ)) (x y : ℕ) → are_joined table (min x y) (max x y) ≡ are_joined table x y
 joined_sorted table x y =
@@ -39,18 +39,18 @@ pub none_where_joined : (table pasts futures : List (List ℕ)) (pairs : List (�
     → IsNone found ↔ (are_joined table low high ≡ true)
 none_where_joined table pasts futures pairs indices low high None h le inside is = (
   λ _. elim (cases_lt low high) [
-    | inl less ↦ or_right (eqb low high) (related (graph_of table) low high)
-        (ap (λ (c : Bool). not c && (in_past (graph_of table) low high || in_past (graph_of table) high low)) (eqb_apart low high less)
-        ∙ or_left (in_past (graph_of table) low high) (in_past (graph_of table) high low) (h.unlisted low high less inside (sym is)))
-    | inr same ↦ or_left (eqb low high) (related (graph_of table) low high) (eq-eqb low high (omega arith))
+    | inl less ↦ or_right (eqb low high) (related (shape_of table) low high)
+        (ap (λ (c : Bool). not c && (in_past (shape_of table) low high || in_past (shape_of table) high low)) (eqb_apart low high less)
+        ∙ or_left (in_past (shape_of table) low high) (in_past (shape_of table) high low) (h.unlisted low high less inside (sym is)))
+    | inr same ↦ or_left (eqb low high) (related (shape_of table) low high) (eq-eqb low high (omega arith))
   ],
   λ _. refl,
 )
 none_where_joined table pasts futures pairs indices low high (Some i) h le inside is =
-    let there : slice_get (pairs_of table) i ≡ Some (low, high) = ap (λ (l : List (ℕ × ℕ)). slice_get l i) (sym h.pairs_right) ∙ h.indexed.back i low high (sym is) in
-    let kind : IsPair table (low, high) = pair_kind table i (low, high) there in (
+    let there : slice_get (pairs_in table) i ≡ Some (low, high) = ap (λ (l : List (ℕ × ℕ)). slice_get l i) (sym h.pairs_right) ∙ h.indexed.back i low high (sym is) in
+    let kind : IsPairIn table (low, high) = pair_kind table i (low, high) there in (
       λ none. absurd (false≢true (sym none)),
-      λ joined. absurd (elim (or_cases (eqb low high) (related (graph_of table) low high) joined) [
+      λ joined. absurd (elim (or_cases (eqb low high) (related (shape_of table) low high) joined) [
         | inl same ↦ (let e : low ≡ high = eqb-true low high same in let less : low < high = kind.order in omega arith)
         | inr tied ↦ false≢true (sym kind.unrelated ∙ tied)
       ]),
@@ -59,7 +59,7 @@ none_where_joined table pasts futures pairs indices low high (Some i) h le insid
 -- an index that is found is that of the pair
 pub some_is_pair : (table pasts futures : List (List ℕ)) (pairs : List (ℕ × ℕ)) (indices : List (List (Option ℕ))) (low high : ℕ) (found : Option ℕ)
     → AreRight table pasts futures pairs indices → found ≡ index_at indices low high
-    → IfSome found (λ i. slice_get (pairs_of table) i ≡ Some (low, high))
+    → IfSome found (λ i. slice_get (pairs_in table) i ≡ Some (low, high))
 some_is_pair table pasts futures pairs indices low high None h is = tt
 some_is_pair table pasts futures pairs indices low high (Some i) h is =
     ap (λ (l : List (ℕ × ℕ)). slice_get l i) (sym h.pairs_right) ∙ h.indexed.back i low high (sym is)
@@ -67,7 +67,7 @@ some_is_pair table pasts futures pairs indices low high (Some i) h is =
 -- and no other index is one of the pair
 pub only_index : (table pasts futures : List (List ℕ)) (pairs : List (ℕ × ℕ)) (indices : List (List (Option ℕ))) (low high i : ℕ) (found : Option ℕ)
     → AreRight table pasts futures pairs indices → found ≡ index_at indices low high
-    → slice_get (pairs_of table) i ≡ Some (low, high) → found ≡ Some i
+    → slice_get (pairs_in table) i ≡ Some (low, high) → found ≡ Some i
 only_index table pasts futures pairs indices low high i found h is there =
     is ∙ h.indexed.there i low high (ap (λ (l : List (ℕ × ℕ)). slice_get l i) h.pairs_right ∙ there)
 

@@ -3,17 +3,18 @@ use Rattle.std.proofs.Common.{◌≡◌, ℕ, zero, suc, Bool, true, false, cond
 use Rattle.std.specs.Prelude.{find}
 use Rattle.std.specs.List.{list_any, list_all}
 use Rattle.std.proofs.lemmas.Bool.{or_cases, eq-eqb, false≢true, or_left, or_right}
+use Rattle.sp_model.specs.declared.profile.Profile.TheVariants.{One}
 use Rattle.sp_model.specs.Graph.{Graph, Block, has, keys, parents_or_none, parents_of, round, complete, reaches_within, in_past}
 use Rattle.sp_model.proofs.Sets.{any_same, all_at, all_from, has-filter, has-filter_from}
 use Rattle.sp_model.proofs.Pasts.{reaches_enough, complete_key, in_past_step, past_complete}
 use Rattle.sp_model.proofs.Paths.{complete_round, complete_least}
 
 abbrev graph : List Block → Graph
-graph blocks = record { blocks = blocks }
+graph blocks = record { profile = One; blocks = blocks }
 
 -- the graph with one block more
 abbrev pub push : Graph → Block → Graph
-push graph block = record { blocks = graph.blocks ++ block ∷ [] }
+push graph block = record { profile = graph.profile; blocks = graph.blocks ++ block ∷ [] }
 
 keys_push : (blocks : List Block) (b : Block) (z : ℕ) → has (keys (graph (blocks ++ b ∷ []))) z ≡ (has (keys (graph blocks)) z || eqb b.key z)
 keys_push [] b z = at (eqb b.key z)

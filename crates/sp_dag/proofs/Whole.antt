@@ -1,36 +1,37 @@
--- The numbered blocks as a graph of the model, and its rows and pairs.
+-- The graph of a table of parents, and its rows and pairs.
 use Rattle.std.proofs.Common.{◌≡◌, ℕ, zero, suc, ◌+◌, ◌<◌, ◌≤◌, Bool, true, false, cond, ◌||◌, ◌&&◌, not, List, [], ◌∷◌, length, map, get_or, refl, sym, ap, subst, ◌∙◌, inl, inr, eqb, Some, arith}
 use Rattle.std.specs.Prelude.{filter, All, slice_get}
 use Rattle.std.specs.List.{range_with_len, flat_map, list_any}
 use Rattle.std.proofs.lemmas.Bool.{cases_lt, or_cases, eqb-true, false≢true, not-true, false_from_ne_true}
 use Rattle.std.proofs.lemmas.List.Elements.{All-cons, All-append, All-map}
 use Rattle.std.proofs.lemmas.Option.{slice_get_within, get_or_from_slice_get}
-use Rattle.sp_model.specs.Graph.{Block, IsGraph, IsDownset, AreDistinct, has, keys, parents_of, complete, in_past, past, future, related}
+use Rattle.sp_model.specs.Graph.{Block, IsDownset, AreDistinct, has, keys, parents_of, complete, in_past, past, future, related}
 use Rattle.sp_model.proofs.Sets.{any_some}
 use Rattle.sp_model.proofs.Pasts.{complete_key, in_past_step, past_complete}
 use Rattle.sp_bits.specs.Places.{places_where}
 use Rattle.sp_bits.specs.Members.{has-filter}
-use Rattle.sp_dag.specs.Numbered.{Numbered, IsNumbered, AreInOrder, IsPair, graph_of, blocks_from, unrelated_below, pairs_of}
-use Rattle.sp_dag.proofs.Keys.{key_in, key_out, parents_of-graph_of, all_complete, in_past-absent}
+use Rattle.sp_dag.specs.Numbered.{AreInOrder, blocks_from, unrelated_below}
+use Rattle.sp_dag.specs.Shapes.{IsPairIn, no_rank, shape_of, pairs_in}
+use Rattle.sp_dag.proofs.Keys.{key_out, parents_of-shape_of, all_complete, in_past-absent}
 
-keys_from : (from : ℕ) (table : List (List ℕ)) → map (λ (b : Block). b.key) (blocks_from from table) ≡ range_with_len from (length table)
+keys_from : (from : ℕ) (table : List (List ℕ)) → map (λ (b : Block). b.key) (blocks_from no_rank from table) ≡ range_with_len from (length table)
 keys_from from [] = refl
 keys_from from (row ∷ table) = ap (λ (l : List ℕ). from ∷ l) (keys_from (from + 1) table)
 
 -- the keys are the numbers
-pub keys_are_numbers : (table : List (List ℕ)) → keys (graph_of table) ≡ range_with_len 0 (length table)
+pub keys_are_numbers : (table : List (List ℕ)) → keys (shape_of table) ≡ range_with_len 0 (length table)
 keys_are_numbers table = keys_from 0 table
 
 -- the parents of a number are those of the table
-pub parents_numbered : (table : List (List ℕ)) (z : ℕ) → z < length table → parents_of (graph_of table) z ≡ get_or table z []
-parents_numbered = parents_of-graph_of
+pub parents_numbered : (table : List (List ℕ)) (z : ℕ) → z < length table → parents_of (shape_of table) z ≡ get_or table z []
+parents_numbered = parents_of-shape_of
 
 -- each number is complete
-pub complete_numbered : (table : List (List ℕ)) (z : ℕ) → AreInOrder table → z < length table → has (complete (graph_of table)) z ≡ true
+pub complete_numbered : (table : List (List ℕ)) (z : ℕ) → AreInOrder table → z < length table → has (complete (shape_of table)) z ≡ true
 complete_numbered table z order le = all_complete table order z le
 
 -- what is a key is a number
-key_below : (table : List (List ℕ)) (z : ℕ) → has (keys (graph_of table)) z ≡ true → z < length table
+key_below : (table : List (List ℕ)) (z : ℕ) → has (keys (shape_of table)) z ≡ true → z < length table
 key_below table z there =
     elim (cases_lt z (length table)) [
       | inl less ↦ less
@@ -38,11 +39,11 @@ key_below table z there =
     ]
 
 -- all numbers together are a downset
-pub downset_numbered : (table : List (List ℕ)) → AreInOrder table → IsDownset (graph_of table) (keys (graph_of table))
+pub downset_numbered : (table : List (List ℕ)) → AreInOrder table → IsDownset (shape_of table) (keys (shape_of table))
 downset_numbered table order = record {
   all_complete = λ z there. all_complete table order z (key_below table z there);
   closed = λ z a there reached.
-      complete_key (graph_of table) a (past_complete (graph_of table) a z (all_complete table order z (key_below table z there)) reached);
+      complete_key (shape_of table) a (past_complete (shape_of table) a z (all_complete table order z (key_below table z there)) reached);
 }
 
 not_in_range : (a b n : ℕ) → a < b → has (range_with_len b n) a ≡ false
@@ -57,34 +58,18 @@ pub AreDistinct-range : (a n : ℕ) → AreDistinct (range_with_len a n)
 AreDistinct-range a zero = tt
 AreDistinct-range a (suc n) = (not_in_range a (a + 1) n (omega arith), AreDistinct-range (a + 1) n)
 
--- the numbered blocks are a graph, and block 0 is genesis
-pub IsGraph_numbered : (blocks : Numbered) → IsNumbered blocks → IsGraph (graph_of blocks.parents) 0
-IsGraph_numbered blocks h = record {
-  distinct = subst AreDistinct (sym (keys_are_numbers blocks.parents)) (AreDistinct-range 0 (length blocks.parents));
-  there = key_in blocks.parents 0 h.some;
-  rootless = parents_of-graph_of blocks.parents 0 h.some ∙ h.genesis;
-  one = λ z there none.
-      let inside : z < length blocks.parents = key_below blocks.parents z there in
-      elim (cases_lt 0 z) [
-        | inl less ↦ (let long : 0 < length (get_or blocks.parents z []) = h.rooted z less inside in
-            let short : length (get_or blocks.parents z []) ≡ 0 = ap length (sym (parents_of-graph_of blocks.parents z inside) ∙ none) in
-            absurd (omega arith))
-        | inr le ↦ omega arith
-      ];
-}
-
 -- ancestors have lower numbers
-pub ancestors_lower : (table : List (List ℕ)) (a z : ℕ) → AreInOrder table → z < length table → in_past (graph_of table) a z ≡ true → a < z
+pub ancestors_lower : (table : List (List ℕ)) (a z : ℕ) → AreInOrder table → z < length table → in_past (shape_of table) a z ≡ true → a < z
 ancestors_lower table a z order le reached = below (suc z) z (omega arith) le reached
   where
-    below : (k z : ℕ) → z < k → z < length table → in_past (graph_of table) a z ≡ true → a < z
+    below : (k z : ℕ) → z < k → z < length table → in_past (shape_of table) a z ≡ true → a < z
     below zero z less le reached = absurd (omega arith)
     below (suc k) z less le reached =
-        let step : list_any (λ p. eqb p a || in_past (graph_of table) a p) (parents_of (graph_of table) z) ≡ true =
-        sym (in_past_step (graph_of table) a z (all_complete table order z le)) ∙ reached in
-        let by = any_some (λ p. eqb p a || in_past (graph_of table) a p) (parents_of (graph_of table) z) step in
-        let parent : by.0 < z = order z by.0 (sym (ap (λ (l : List ℕ). has l by.0) (parents_of-graph_of table z le)) ∙ by.1) in
-        elim (or_cases (eqb by.0 a) (in_past (graph_of table) a by.0) by.2) [
+        let step : list_any (λ p. eqb p a || in_past (shape_of table) a p) (parents_of (shape_of table) z) ≡ true =
+        sym (in_past_step (shape_of table) a z (all_complete table order z le)) ∙ reached in
+        let by = any_some (λ p. eqb p a || in_past (shape_of table) a p) (parents_of (shape_of table) z) step in
+        let parent : by.0 < z = order z by.0 (sym (ap (λ (l : List ℕ). has l by.0) (parents_of-shape_of table z le)) ∙ by.1) in
+        elim (or_cases (eqb by.0 a) (in_past (shape_of table) a by.0) by.2) [
           | inl same ↦ (let e : by.0 ≡ a = eqb-true by.0 a same in omega arith)
           | inr there ↦ (let rest : a < by.0 = below k by.0 (omega arith) (omega arith) there in omega arith)
         ]
@@ -108,39 +93,39 @@ both false true h = h refl
 both false false h = refl
 
 row_is : (test : ℕ → Bool) (table : List (List ℕ)) → length table ≤ 512 → ((k : ℕ) → length table ≤ k → test k ≡ false)
-    → places_where test ≡ filter test (keys (graph_of table))
+    → places_where test ≡ filter test (keys (shape_of table))
 unfolding places_where
 row_is test table small h =
     filter_cut test 0 (length table) 512 small (λ k low. h k (omega arith)) ∙ ap (filter test) (sym (keys_are_numbers table))
 
 -- the row of a past is the model's
 pub past_row : (table : List (List ℕ)) (z : ℕ) → AreInOrder table → length table ≤ 512 → z < length table
-    → places_where (λ a. in_past (graph_of table) a z) ≡ past (graph_of table) z
+    → places_where (λ a. in_past (shape_of table) a z) ≡ past (shape_of table) z
 past_row table z order small le =
-    row_is (λ a. in_past (graph_of table) a z) table small
-    (λ k high. false_from_ne_true (in_past (graph_of table) k z) (λ reached. (let lower : k < z = ancestors_lower table k z order le reached in absurd (omega arith))))
+    row_is (λ a. in_past (shape_of table) a z) table small
+    (λ k high. false_from_ne_true (in_past (shape_of table) k z) (λ reached. (let lower : k < z = ancestors_lower table k z order le reached in absurd (omega arith))))
 
 -- and so is the row of a future
 pub future_row : (table : List (List ℕ)) (z : ℕ) → length table ≤ 512
-    → places_where (λ w. in_past (graph_of table) z w) ≡ future (graph_of table) (keys (graph_of table)) z
+    → places_where (λ w. in_past (shape_of table) z w) ≡ future (shape_of table) (keys (shape_of table)) z
 future_row table z small =
-    row_is (λ w. in_past (graph_of table) z w) table small (λ k high. in_past-absent (graph_of table) z k (key_out table k high))
+    row_is (λ w. in_past (shape_of table) z w) table small (λ k high. in_past-absent (shape_of table) z k (key_out table k high))
 
 -- the members of the rows are those that the graph says
-pub past_members : (table : List (List ℕ)) (a z : ℕ) → AreInOrder table → z < length table → has (past (graph_of table) z) a ≡ in_past (graph_of table) a z
+pub past_members : (table : List (List ℕ)) (a z : ℕ) → AreInOrder table → z < length table → has (past (shape_of table) z) a ≡ in_past (shape_of table) a z
 past_members table a z order le =
-    has-filter (λ a. in_past (graph_of table) a z) (keys (graph_of table)) a
-    ∙ both (has (keys (graph_of table)) a) (in_past (graph_of table) a z)
-    (λ reached. complete_key (graph_of table) a (past_complete (graph_of table) a z (all_complete table order z le) reached))
+    has-filter (λ a. in_past (shape_of table) a z) (keys (shape_of table)) a
+    ∙ both (has (keys (shape_of table)) a) (in_past (shape_of table) a z)
+    (λ reached. complete_key (shape_of table) a (past_complete (shape_of table) a z (all_complete table order z le) reached))
 
-pub future_members : (table : List (List ℕ)) (z w : ℕ) → has (future (graph_of table) (keys (graph_of table)) z) w ≡ in_past (graph_of table) z w
+pub future_members : (table : List (List ℕ)) (z w : ℕ) → has (future (shape_of table) (keys (shape_of table)) z) w ≡ in_past (shape_of table) z w
 future_members table z w =
-    has-filter (λ w. in_past (graph_of table) z w) (keys (graph_of table)) w
-    ∙ both (has (keys (graph_of table)) w) (in_past (graph_of table) z w) (there (has (keys (graph_of table)) w) refl)
+    has-filter (λ w. in_past (shape_of table) z w) (keys (shape_of table)) w
+    ∙ both (has (keys (shape_of table)) w) (in_past (shape_of table) z w) (there (has (keys (shape_of table)) w) refl)
   where
-    there : (c : Bool) → has (keys (graph_of table)) w ≡ c → in_past (graph_of table) z w ≡ true → c ≡ true
+    there : (c : Bool) → has (keys (shape_of table)) w ≡ c → in_past (shape_of table) z w ≡ true → c ≡ true
     there true e reached = refl
-    there false e reached = absurd (false≢true (sym (in_past-absent (graph_of table) z w e) ∙ reached))
+    there false e reached = absurd (false≢true (sym (in_past-absent (shape_of table) z w e) ∙ reached))
 
 All-filter_range : (P : ℕ → Type 0) (test : ℕ → Bool) (a n : ℕ) → ((k : ℕ) → a ≤ k → k < a + n → test k ≡ true → P k) → All P (filter test (range_with_len a n))
 All-filter_range P test a zero h = λ k d le. absurd (omega arith)
@@ -157,15 +142,15 @@ All-flat_range P f a (suc n) h =
     All-append P (f a) (flat_map f (range_with_len (a + 1) n)) (h a (omega arith) (omega arith))
     (All-flat_range P f (a + 1) n (λ y low high. h y (omega arith) (omega arith)))
 
-all_pairs : (table : List (List ℕ)) → All (IsPair table) (pairs_of table)
+all_pairs : (table : List (List ℕ)) → All (IsPairIn table) (pairs_in table)
 all_pairs table =
-    All-flat_range (IsPair table) (λ y. map (λ x. (x, y)) (unrelated_below (graph_of table) y)) 0 (length table)
-    (λ y low high. All-map (IsPair table) (λ x. (x, y)) (unrelated_below (graph_of table) y)
-    (All-filter_range (λ x. IsPair table (x, y)) (λ x. not (related (graph_of table) x y)) 0 y
-    (λ x first last apart. record { order = omega arith; within = omega arith; unrelated = not-true (related (graph_of table) x y) apart })))
+    All-flat_range (IsPairIn table) (λ y. map (λ x. (x, y)) (unrelated_below (shape_of table) y)) 0 (length table)
+    (λ y low high. All-map (IsPairIn table) (λ x. (x, y)) (unrelated_below (shape_of table) y)
+    (All-filter_range (λ x. IsPairIn table (x, y)) (λ x. not (related (shape_of table) x y)) 0 y
+    (λ x first last apart. record { order = omega arith; within = omega arith; unrelated = not-true (related (shape_of table) x y) apart })))
 
 -- each pair of the list is one of unrelated blocks
-pub pair_kind : (table : List (List ℕ)) (i : ℕ) (pair : ℕ × ℕ) → slice_get (pairs_of table) i ≡ Some pair → IsPair table pair
+pub pair_kind : (table : List (List ℕ)) (i : ℕ) (pair : ℕ × ℕ) → slice_get (pairs_in table) i ≡ Some pair → IsPairIn table pair
 pair_kind table i pair there =
-    subst (IsPair table) (get_or_from_slice_get (pairs_of table) i pair pair there)
-    (all_pairs table i pair (slice_get_within (pairs_of table) i pair there))
+    subst (IsPairIn table) (get_or_from_slice_get (pairs_in table) i pair pair there)
+    (all_pairs table i pair (slice_get_within (pairs_in table) i pair there))

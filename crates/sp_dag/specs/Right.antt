@@ -2,7 +2,8 @@
 use Rattle.std.specs.Prelude.{ℕ, ◌≡◌, ◌<◌, ◌≤◌, ◌+◌, ◌*◌, true, List, [], length, Option, None, slice_index_or}
 use Rattle.sp_model.specs.Graph.{in_past}
 use Rattle.sp_bits.specs.Places.{places_where}
-use Rattle.sp_dag.specs.Numbered.{graph_of, pairs_of, AreInOrder}
+use Rattle.sp_dag.specs.Numbered.{AreInOrder}
+use Rattle.sp_dag.specs.Shapes.{shape_of, pairs_in}
 use Rattle.sp_dag.specs.Indexed.{AreIndexed, index_at}
 
 -- the rows of the pasts and futures, the unrelated pairs and their indices are those of the graph
@@ -13,8 +14,8 @@ pub record AreRight (table pasts futures : List (List ℕ)) (pairs : List (ℕ �
   pub pasts_long : length pasts ≡ length table
   pub futures_long : length futures ≡ length table
   pub indices_long : length indices ≡ length table
-  pub pasts_right : (z : ℕ) → z < length table → slice_index_or pasts z [] ≡ places_where (λ a. in_past (graph_of table) a z)
-  pub futures_right : (z : ℕ) → z < length table → slice_index_or futures z [] ≡ places_where (λ w. in_past (graph_of table) z w)
-  pub pairs_right : pairs ≡ pairs_of table
+  pub pasts_right : (z : ℕ) → z < length table → slice_index_or pasts z [] ≡ places_where (λ a. in_past (shape_of table) a z)
+  pub futures_right : (z : ℕ) → z < length table → slice_index_or futures z [] ≡ places_where (λ w. in_past (shape_of table) z w)
+  pub pairs_right : pairs ≡ pairs_in table
   pub indexed : AreIndexed pairs indices
-  pub unlisted : (x y : ℕ) → x < y → y < length table → index_at indices x y ≡ None → in_past (graph_of table) x y ≡ true
+  pub unlisted : (x y : ℕ) → x < y → y < length table → index_at indices x y ≡ None → in_past (shape_of table) x y ≡ true

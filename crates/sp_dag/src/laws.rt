@@ -1,47 +1,57 @@
 //! Laws of graphs that are numbered in order, over the definitions alone. Each is the contract of a
 //! function that does nothing, so that the check proves it.
 
-ghost use Rattle.std.specs.Prelude.{◌≡◌, ◌<◌, ◌++◌, ◌∷◌, [], ℕ, List, IsTrue, Some, length, map, slice_get, slice_index_or};
+ghost use Rattle.std.specs.Prelude.{◌≡◌, ◌<◌, ◌≤◌, ◌++◌, ◌∷◌, [], ℕ, List, IsTrue, Some, length, map, slice_get, slice_index_or};
 ghost use Rattle.std.specs.List.{range_with_len};
-ghost use Rattle.sp_model.specs.Graph.{IsGraph, IsDownset, AreDistinct, has, keys, parents_of, complete, in_past, past, future};
-ghost use Rattle.sp_dag.specs.Numbered.{Numbered, IsNumbered, AreInOrder, graph_of, number_of, pairs_of, unrelated_below};
+ghost use Rattle.sp_model.specs.Graph.{IsGraph, IsDownset, AreDistinct, has, keys, parents_of, rank_of, complete, in_past, past, future};
+ghost use Rattle.sp_dag.specs.Numbered.{Numbered, IsNumbered, AreInOrder, graph_of, number_of, pairs_of, rank_at, unrelated_below, with_next};
 
-/// The numbered blocks are a graph: no number repeats, block 0 is the one without parents, and
-/// each is complete, so that the laws of the model speak of it.
-#[tactic(auto, using(crate::proofs::Whole::IsGraph_numbered, crate::proofs::Whole::keys_are_numbers, crate::proofs::Whole::complete_numbered, crate::proofs::Whole::parents_numbered, crate::proofs::Whole::downset_numbered))]
+/// The numbered blocks are a graph: no number and no rank repeats, block 0 is the one without
+/// parents, and each is complete, so that the laws of the model speak of it.
+#[tactic(auto, using(crate::proofs::Ranked::IsGraph_numbered, crate::proofs::Ranked::keys_are_numbers, crate::proofs::Ranked::complete_numbered, crate::proofs::Ranked::parents_numbered, crate::proofs::Ranked::rank_numbered, crate::proofs::Ranked::downset_numbered))]
 pub fn numbered_is_graph()
-    ensures graph { (blocks : Numbered) → IsNumbered blocks → IsGraph (graph_of blocks.parents) 0 }
-    ensures keys { (table : List (List ℕ)) →
-        keys (graph_of table) ≡ range_with_len 0 (length table) }
-    ensures parents { (table : List (List ℕ)) (z : ℕ) → z < length table →
-        parents_of (graph_of table) z ≡ slice_index_or table z [] }
-    ensures complete { (table : List (List ℕ)) (z : ℕ) → AreInOrder table → z < length table →
-        IsTrue (has (complete (graph_of table)) z) }
-    ensures downset { (table : List (List ℕ)) → AreInOrder table →
-        IsDownset (graph_of table) (keys (graph_of table)) }
+    ensures graph { (blocks : Numbered) → IsNumbered blocks → IsGraph (graph_of blocks) 0 }
+    ensures keys { (blocks : Numbered) →
+        keys (graph_of blocks) ≡ range_with_len 0 (length blocks.parents) }
+    ensures parents { (blocks : Numbered) (z : ℕ) → z < length blocks.parents →
+        parents_of (graph_of blocks) z ≡ slice_index_or blocks.parents z [] }
+    ensures ranks { (blocks : Numbered) (z : ℕ) → z < length blocks.parents →
+        rank_of (graph_of blocks) z ≡ rank_at blocks z }
+    ensures complete { (blocks : Numbered) (z : ℕ) → AreInOrder blocks.parents →
+        z < length blocks.parents → IsTrue (has (complete (graph_of blocks)) z) }
+    ensures downset { (blocks : Numbered) → AreInOrder blocks.parents →
+        IsDownset (graph_of blocks) (keys (graph_of blocks)) }
 {}
 
 /// An ancestor has a lower number, and the rows have just the blocks that the graph says.
-#[tactic(auto, using(crate::proofs::Whole::ancestors_lower, crate::proofs::Whole::past_members, crate::proofs::Whole::future_members))]
+#[tactic(auto, using(crate::proofs::Ranked::ancestors_lower, crate::proofs::Ranked::past_members, crate::proofs::Ranked::future_members))]
 pub fn ancestors()
-    ensures lower { (table : List (List ℕ)) (a z : ℕ) → AreInOrder table → z < length table →
-        IsTrue (in_past (graph_of table) a z) → a < z }
-    ensures past { (table : List (List ℕ)) (a z : ℕ) → AreInOrder table → z < length table →
-        has (past (graph_of table) z) a ≡ in_past (graph_of table) a z }
-    ensures future { (table : List (List ℕ)) (z w : ℕ) →
-        has (future (graph_of table) (keys (graph_of table)) z) w ≡ in_past (graph_of table) z w }
+    ensures lower { (blocks : Numbered) (a z : ℕ) → AreInOrder blocks.parents →
+        z < length blocks.parents → IsTrue (in_past (graph_of blocks) a z) → a < z }
+    ensures past { (blocks : Numbered) (a z : ℕ) → AreInOrder blocks.parents →
+        z < length blocks.parents → has (past (graph_of blocks) z) a ≡ in_past (graph_of blocks) a z }
+    ensures future { (blocks : Numbered) (z w : ℕ) →
+        has (future (graph_of blocks) (keys (graph_of blocks)) z) w ≡ in_past (graph_of blocks) z w }
 {}
 
-/// A block that is added changes no past, and its pairs stand behind those from before.
-#[tactic(auto, using(crate::proofs::Grown::past_old, crate::proofs::Grown::pairs_behind))]
+/// A block that is added changes no past and no rank, and its pairs stand behind those from before:
+/// pairs stand by their higher numbers.
+#[tactic(auto, using(crate::proofs::Ranked::past_old, crate::proofs::Ranked::rank_old, crate::proofs::Ranked::pairs_behind, crate::proofs::Ranked::pairs_ascend))]
 pub fn pasts_stay()
-    ensures past { (table : List (List ℕ)) (parents : List ℕ) (a z : ℕ) →
-        AreInOrder table → z < length table →
-        in_past (graph_of (table ++ parents ∷ [])) a z ≡ in_past (graph_of table) a z }
-    ensures pairs { (table : List (List ℕ)) (parents : List ℕ) → AreInOrder table →
-        let below = unrelated_below (graph_of (table ++ parents ∷ [])) (length table) in
-        pairs_of (table ++ parents ∷ [])
-        ≡ pairs_of table ++ map (λ x. (x, length table)) below }
+    ensures past { (blocks : Numbered) (id salt : ℕ) (parents : List ℕ) (a z : ℕ) →
+        AreInOrder blocks.parents → z < length blocks.parents →
+        in_past (graph_of (with_next blocks id salt parents)) a z ≡ in_past (graph_of blocks) a z }
+    ensures rank { (blocks : Numbered) (id salt : ℕ) (parents : List ℕ) (z : ℕ) →
+        IsNumbered blocks → z < length blocks.parents →
+        rank_at (with_next blocks id salt parents) z ≡ rank_at blocks z }
+    ensures pairs { (blocks : Numbered) (id salt : ℕ) (parents : List ℕ) →
+        AreInOrder blocks.parents →
+        let more = with_next blocks id salt parents in
+        let below = unrelated_below (graph_of more) (length blocks.parents) in
+        pairs_of more ≡ pairs_of blocks ++ map (λ x. (x, length blocks.parents)) below }
+    ensures order { (blocks : Numbered) (i j : ℕ) (pair later : ℕ × ℕ) →
+        AreInOrder blocks.parents → i ≤ j → slice_get (pairs_of blocks) i ≡ Some pair →
+        slice_get (pairs_of blocks) j ≡ Some later → pair.1 ≤ later.1 }
 {}
 
 /// Ids and numbers name one another, and a block that is added changes no number.

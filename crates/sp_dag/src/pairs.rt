@@ -1,6 +1,6 @@
 //! The pairs that a new block brings.
 
-ghost use Rattle.std.specs.Prelude.{◌≡◌, ◌<◌, ◌≤◌, ◌+◌, ◌^◌, ◌++◌, not, [], map, filter, vec_len, vec_capacity};
+ghost use Rattle.std.specs.Prelude.{◌≡◌, ◌<◌, ◌≤◌, ◌+◌, ◌^◌, ◌++◌, ℕ, not, [], length, map, filter, slice_get, Some, vec_len, vec_capacity};
 ghost use Rattle.std.specs.List.{range_with_len};
 ghost use Rattle.sp_bits.specs.Places.{has};
 ghost use Rattle.sp_dag.specs.Indexed.{AreNewIndexed};
@@ -33,4 +33,19 @@ pub(crate) fn push_unrelated(
             pairs.push_reserved((lower, number));
         }
     }
+}
+
+// How many pairs are left where those are taken off the end that have a block from `count` on.
+pub(crate) fn pairs_below(pairs: &[(u16, u16)], count: u16) -> usize
+    ensures within { result ≤ length pairs.now }
+    ensures last { (i : ℕ) (pair : ℕ × ℕ) → i + 1 ≡ result → slice_get pairs.now i ≡ Some pair →
+        pair.1 < count }
+    ensures others { (i : ℕ) (pair : ℕ × ℕ) → result ≤ i → slice_get pairs.now i ≡ Some pair →
+        count ≤ pair.1 }
+{
+    let mut left = pairs.len();
+    'pairs: while 0 < left && count <= pairs[left - 1].1 {
+        left -= 1;
+    }
+    left
 }

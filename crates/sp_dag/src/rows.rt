@@ -2,7 +2,7 @@
 //! futures of the blocks in it.
 
 ghost use Rattle.std.specs.Prelude.{◌≡◌, ◌<◌, ◌≤◌, ◌||◌, ◌==◌, ℕ, [], length, All, slice_index_or, vec_len, vec_capacity, if◌then◌else◌};
-ghost use Rattle.sp_bits.specs.Places.{has, places_where};
+ghost use Rattle.sp_bits.specs.Places.{has, members_below, places_where};
 ghost use Rattle.sp_dag.specs.Rows.{is_reached};
 
 use sp_bits::Row;
@@ -36,5 +36,16 @@ pub(crate) fn set_in_futures(futures: &mut Vec<Row>, past: &Row, number: u16)
         if past.test(earlier) {
             futures[earlier as usize].set(number);
         }
+    }
+}
+
+// Takes the blocks from `count` on out of all futures.
+pub(crate) fn cut_futures(futures: &mut Vec<Row>, count: u16)
+    ensures len { vec_len futures.new ≡ vec_len futures.old }
+    ensures rows { (a : ℕ) → a < vec_len futures.old → slice_index_or futures.new.items a []
+        ≡ members_below (slice_index_or futures.old.items a []) count }
+{
+    'futures: for earlier in 0..futures.len() {
+        futures[earlier].clear_from(count);
     }
 }

@@ -1,14 +1,14 @@
 //! The parents of the present blocks by number, with all that is read from them. It stands apart
 //! from the ids: contracts see the parents alone.
 
-ghost use Rattle.std.specs.Prelude.{◌≡◌, ◌<◌, ◌≤◌, ◌++◌, ◌∷◌, ◌||◌, ◌==◌, ◌↔◌, [], ℕ, length, All, IfOk, OnOk, OnErr, IfSome, IsNone, IsTrue, slice_get, Some, min, max, vec_capacity, vec_len};
+ghost use Rattle.std.specs.Prelude.{◌≡◌, ◌<◌, ◌≤◌, ◌++◌, ◌∷◌, ◌||◌, ◌==◌, ◌↔◌, [], ℕ, length, All, IfOk, OnOk, OnErr, IfSome, IsNone, IsTrue, slice_get, Some, min, max, take, vec_capacity, vec_len};
 ghost use Rattle.sp_model.specs.Graph.{in_past, keys, past, future, related};
-ghost use Rattle.sp_dag.specs.Numbered.{graph_of, pairs_of, IsPair};
+ghost use Rattle.sp_dag.specs.Shapes.{shape_of, pairs_in, IsPairIn};
 
 use crate::indices::Indices;
 use crate::numbers::Numbers;
-use crate::pairs::push_unrelated;
-use crate::rows::{row_of, set_in_futures};
+use crate::pairs::{pairs_below, push_unrelated};
+use crate::rows::{cut_futures, row_of, set_in_futures};
 use sp_bits::Row;
 use sp_ids::Memory;
 use std::alloc::{AllocError, Global};
@@ -113,6 +113,21 @@ impl Table {
         Ok(number)
     }
 
+    // Leaves the first blocks.
+    pub(crate) fn cut(&mut self, count: u16)
+        requires { count ≤ length self.old }
+        ensures { self.new ≡ take count self.old }
+    {
+        let len = count as usize;
+        let pairs = pairs_below(&self.pairs, count);
+        self.parents.truncate(len);
+        self.pasts.truncate(len);
+        self.futures.truncate(len);
+        self.indices.truncate(len);
+        self.pairs.truncate(pairs);
+        cut_futures(&mut self.futures, count);
+    }
+
     pub(crate) fn len(&self) -> u16
         ensures value { result ≡ length self.now }
         ensures bound { length self.now ≤ 512 }
@@ -122,14 +137,14 @@ impl Table {
 
     pub(crate) fn past(&self, number: u16) -> &Row
         requires { number < length self.now }
-        ensures { result.now ≡ past (graph_of self.now) number }
+        ensures { result.now ≡ past (shape_of self.now) number }
     {
         &self.pasts[number as usize]
     }
 
     pub(crate) fn future(&self, number: u16) -> &Row
         requires { number < length self.now }
-        ensures { result.now ≡ future (graph_of self.now) (keys (graph_of self.now)) number }
+        ensures { result.now ≡ future (shape_of self.now) (keys (shape_of self.now)) number }
     {
         &self.futures[number as usize]
     }
@@ -137,22 +152,22 @@ impl Table {
     pub(crate) fn in_past(&self, a: u16, b: u16) -> bool
         requires a_in { a < length self.now }
         requires b_in { b < length self.now }
-        ensures { result ≡ in_past (graph_of self.now) a b }
+        ensures { result ≡ in_past (shape_of self.now) a b }
     {
         self.pasts[b as usize].test(a)
     }
 
     pub(crate) fn pair_count(&self) -> u32
-        ensures value { result ≡ length (pairs_of self.now) }
+        ensures value { result ≡ length (pairs_in self.now) }
         ensures bound { result ≤ 130816 }
     {
         self.pairs.len() as u32
     }
 
     pub(crate) fn pair(&self, index: u32) -> (u16, u16)
-        requires { index < length (pairs_of self.now) }
-        ensures pair { slice_get (pairs_of self.now) index ≡ Some result }
-        ensures kind { IsPair self.now result }
+        requires { index < length (pairs_in self.now) }
+        ensures pair { slice_get (pairs_in self.now) index ≡ Some result }
+        ensures kind { IsPairIn self.now result }
     {
         self.pairs[index as usize]
     }
@@ -161,10 +176,10 @@ impl Table {
         requires x_in { x < length self.now }
         requires y_in { y < length self.now }
         ensures some { IfSome result (λ i.
-            slice_get (pairs_of self.now) i ≡ Some (min x y, max x y)) }
-        ensures only { (i : ℕ) → slice_get (pairs_of self.now) i ≡ Some (min x y, max x y) →
+            slice_get (pairs_in self.now) i ≡ Some (min x y, max x y)) }
+        ensures only { (i : ℕ) → slice_get (pairs_in self.now) i ≡ Some (min x y, max x y) →
             result ≡ Some i }
-        ensures none { IsNone result ↔ IsTrue ((x == y) || related (graph_of self.now) x y) }
+        ensures none { IsNone result ↔ IsTrue ((x == y) || related (shape_of self.now) x y) }
     {
         let low = x.min(y);
         let high = x.max(y);

@@ -7,14 +7,17 @@ use Rattle.std.specs.List.{list_all}
 use Rattle.sp_tx.specs.Parts.{Transaction}
 use Rattle.sp_tx.specs.Spending.{id_of}
 use Rattle.sp_block.specs.Block.{ReadBlock}
-use Rattle.sp_model.specs.Graph.{AreDistinct, has, keys, parents_of, round}
+use Rattle.sp_model.specs.Graph.{AreDistinct, has, keys, parents_of, round, IsDownset, rank_of}
+use Rattle.sp_model.specs.declared.profile.Profile.{Profile}
+use Rattle.sp_model.specs.declared.profile.Profile.TheVariants.{One}
 use Rattle.sp_model.specs.Renaming.{AreRenamed, IsRenamed}
 use Rattle.sp_model.specs.Votes.{word}
 use Rattle.sp_model.proofs.Pasts.{complete_downset}
 use Rattle.sp_model.proofs.Paths.{complete_least, complete_round}
 use Rattle.sp_model.proofs.Renamed.{word_renamed}
 use Rattle.sp_model.proofs.Sets.{same_truth}
-use Rattle.sp_pool.specs.Kept.{graph_of, ids_of, present}
+use Rattle.sp_pool.proofs.Profiles.{downset_in}
+use Rattle.sp_pool.specs.Kept.{graph_in, graph_of, ids_of, present}
 use Rattle.sp_pool.proofs.Growth.{present_kept, round_from, round_parts}
 use Rattle.sp_pool.proofs.Parents.{keys-graph_of}
 use Rattle.sp_carry.specs.Payment.{Payment, payment_of}
@@ -30,7 +33,7 @@ use Rattle.sp_engine.specs.Transactions.{ledger_of, state_of, tx_ids, tx_ids_in,
 use Rattle.sp_engine.proofs.ByIds.{states_agree}
 use Rattle.sp_engine.proofs.Counts.{AreDistinct-present, same_length}
 use Rattle.sp_engine.proofs.OrderOfAll.{has_once, in_order}
-use Rattle.sp_engine.proofs.OwnBlocks.{block_of_id, id_in, own_parents, own_txs}
+use Rattle.sp_engine.proofs.OwnBlocks.{own_rank, block_of_id, id_in, own_parents, own_txs}
 use Rattle.sp_engine.proofs.SameKept.{AreAlike}
 
 turned : (kept others : List ReadBlock) → AreAlike kept others → AreAlike others kept
@@ -53,6 +56,12 @@ module _ (kept others : List ReadBlock) (alike : AreAlike kept others) where
       ap (parents_of (graph_of others)) (sym b.2) ∙ own_parents others b.0 alike.other_apart (alike.into b.0 b.1)
       ∙ sym (own_parents kept b.0 alike.apart b.1) ∙ ap (parents_of (graph_of kept)) b.2
 
+  rank_same : (z : ℕ) → has (ids_of kept) z ≡ true → rank_of (graph_of others) z ≡ rank_of (graph_of kept) z
+  rank_same z h =
+      let b : (b : ReadBlock) × IsIn kept b × (b.id ≡ z) = block_of_id kept z h in
+      ap (rank_of (graph_of others)) (sym b.2) ∙ own_rank others b.0 alike.other_apart (alike.into b.0 b.1)
+      ∙ sym (own_rank kept b.0 alike.apart b.1) ∙ ap (rank_of (graph_of kept)) b.2
+
   own_same : (z : ℕ) → has (ids_of kept) z ≡ true → txs_of others z ≡ txs_of kept z
   own_same z h =
       let b : (b : ReadBlock) × IsIn kept b × (b.id ≡ z) = block_of_id kept z h in
@@ -68,14 +77,14 @@ module _ (kept others : List ReadBlock) (alike : AreAlike kept others) where
           complete_round (graph_of others) z
           (round_from others (present others) z (ids_into z parts.0) (ap (list_all (has (present others))) (parents_same z parts.0) ∙ parts.1))
 
-  txs_same : (z : ℕ) → has (present kept) z ≡ true → (ledger_of others).txs z ≡ (ledger_of kept).txs z
+  txs_same : (z : ℕ) → has (present kept) z ≡ true → (ledger_of One others).txs z ≡ (ledger_of One kept).txs z
   txs_same z h = ap (map payment_of) (own_same z (present_kept kept z h))
 
-  carried_into : (t : Payment) → IsIn (carried (ledger_of kept) (present kept)) t → IsIn (carried (ledger_of others) (present others)) t
+  carried_into : (t : Payment) → IsIn (carried (ledger_of One kept) (present kept)) t → IsIn (carried (ledger_of One others) (present others)) t
   carried_into t h =
-      let w : (w : ℕ) × IsIn (present kept) w × IsIn ((ledger_of kept).txs w) t = in_flat_map (ledger_of kept).txs (present kept) t h in
+      let w : (w : ℕ) × IsIn (present kept) w × IsIn ((ledger_of One kept).txs w) t = in_flat_map (ledger_of One kept).txs (present kept) t h in
       let there : has (present kept) w.0 ≡ true = from_in (present kept) w.0 w.1 in
-      carried_in (ledger_of others) (present others) w.0 t (present_into w.0 there) (subst (λ (ts : List Payment). IsIn ts t) (sym (txs_same w.0 there)) w.2)
+      carried_in (ledger_of One others) (present others) w.0 t (present_into w.0 there) (subst (λ (ts : List Payment). IsIn ts t) (sym (txs_same w.0 there)) w.2)
 
   tx_ids_into : (id : ℕ) → has (tx_ids kept) id ≡ true → has (tx_ids others) id ≡ true
   tx_ids_into id h =
@@ -118,24 +127,29 @@ module _ (kept others : List ReadBlock) (alike : AreAlike kept others) where
   key_id : (z : ℕ) → has (keys (graph_of kept)) z ≡ true → has (ids_of kept) z ≡ true
   key_id z h = sym (ap (λ (l : List ℕ). has l z) (keys-graph_of kept)) ∙ h
 
-  renamed : IsRenamed (λ k. k) (graph_of kept) (graph_of others)
-  renamed = record {
+  renamed : (profile : Profile) → IsRenamed (λ k. k) (graph_in profile kept) (graph_in profile others)
+  renamed profile = record {
     one_to_one = λ a b there too e. e;
     distinct = subst (λ (l : List ℕ). AreDistinct l) (sym (keys-graph_of kept)) alike.apart;
     other_distinct = subst (λ (l : List ℕ). AreDistinct l) (sym (keys-graph_of others)) alike.other_apart;
     into = λ k h. ap (λ (l : List ℕ). has l k) (keys-graph_of others) ∙ ids_into kept others alike k (key_id k h);
     parents = λ k h. parents_same kept others alike k (key_id k h) ∙ sym (map-id (parents_of (graph_of kept) k));
+    ranks = λ k h. rank_same kept others alike k (key_id k h);
+    profile = refl;
   }
+
+  down : (profile : Profile) → IsDownset (graph_in profile kept) (present kept)
+  down profile = downset_in profile kept (present kept) (complete_downset (graph_of kept))
 
   sets : AreRenamed (λ k. k) (present kept) (present others)
   sets = record { into = λ k h. sym (same_present k) ∙ h; onto = λ k h. (k, same_present k ∙ h, refl) }
 
-  pub same_word : (x y : ℕ) → word (graph_of others) (present others) x y ≡ word (graph_of kept) (present kept) x y
-  same_word x y = elim (cases_Bool (has (present kept) x)) [
+  pub same_word : (profile : Profile) (x y : ℕ) → word (graph_in profile others) (present others) x y ≡ word (graph_in profile kept) (present kept) x y
+  same_word profile x y = elim (cases_Bool (has (present kept) x)) [
     | inr e ↦ (let other : has (present others) x ≡ false = sym (same_present x) ∙ e in rw (e, other) refl)
     | inl e ↦ elim (cases_Bool (has (present kept) y)) [
       | inr f ↦ (let here : has (present others) x ≡ true = sym (same_present x) ∙ e in let other : has (present others) y ≡ false = sym (same_present y) ∙ f in rw (e, f, here, other) refl)
-      | inl f ↦ word_renamed (λ k. k) (graph_of kept) (graph_of others) renamed (present kept) (present others) x y (complete_downset (graph_of kept)) sets once other_once (key x e) (key y f)
+      | inl f ↦ word_renamed (λ k. k) (graph_in profile kept) (graph_in profile others) (renamed profile) (present kept) (present others) x y (down profile) sets once other_once (key x e) (key y f)
     ]
   ]
     where
@@ -144,61 +158,61 @@ module _ (kept others : List ReadBlock) (alike : AreAlike kept others) where
 
   -- ---- and of transactions
 
-  pub same_plain : IsPlain (ledger_of kept) (present kept) → IsPlain (ledger_of others) (present others)
+  pub same_plain : IsPlain (ledger_of One kept) (present kept) → IsPlain (ledger_of One others) (present others)
   same_plain plain t u at_t at_u e = plain t u (back t at_t) (back u at_u) e
     where
-      back : (t : Payment) → Contains (carried (ledger_of others) (present others)) t → Contains (carried (ledger_of kept) (present kept)) t
+      back : (t : Payment) → Contains (carried (ledger_of One others) (present others)) t → Contains (carried (ledger_of One kept) (present kept)) t
       back t h =
-          contains_from_in (carried (ledger_of kept) (present kept)) t
-          (carried_into others kept (turned kept others alike) t (in_from_contains (carried (ledger_of others) (present others)) t h))
+          contains_from_in (carried (ledger_of One kept) (present kept)) t
+          (carried_into others kept (turned kept others alike) t (in_from_contains (carried (ledger_of One others) (present others)) t h))
 
-  pub same_accepts : (z : ℕ) (t : Payment) → IsPlain (ledger_of kept) (present kept) → has (present kept) z ≡ true
-      → accepts (ledger_of others) (present others) z t ≡ accepts (ledger_of kept) (present kept) z t
-  same_accepts z t plain there =
-      accepts_renamed (λ k. k) (ledger_of kept) (ledger_of others) (present kept) (present others) z t renamed (complete_downset (graph_of kept)) sets once other_once
+  pub same_accepts : (profile : Profile) (z : ℕ) (t : Payment) → IsPlain (ledger_of profile kept) (present kept) → has (present kept) z ≡ true
+      → accepts (ledger_of profile others) (present others) z t ≡ accepts (ledger_of profile kept) (present kept) z t
+  same_accepts profile z t plain there =
+      accepts_renamed (λ k. k) (ledger_of profile kept) (ledger_of profile others) (present kept) (present others) z t (renamed profile) (down profile) sets once other_once
       (txs_same kept others alike) plain there
 
-  pub same_accepted : (id : ℕ) → IsPlain (ledger_of kept) (present kept) → is_accepted (ledger_of others) (present others) id ≡ is_accepted (ledger_of kept) (present kept) id
-  same_accepted id plain =
-      accepted_renamed (λ k. k) (ledger_of kept) (ledger_of others) (present kept) (present others) id renamed (complete_downset (graph_of kept)) sets once other_once
+  pub same_accepted : (profile : Profile) (id : ℕ) → IsPlain (ledger_of profile kept) (present kept) → is_accepted (ledger_of profile others) (present others) id ≡ is_accepted (ledger_of profile kept) (present kept) id
+  same_accepted profile id plain =
+      accepted_renamed (λ k. k) (ledger_of profile kept) (ledger_of profile others) (present kept) (present others) id (renamed profile) (down profile) sets once other_once
       (txs_same kept others alike) plain
 
-  pub same_state : (id : ℕ) → IsPlain (ledger_of kept) (present kept) → state_of others id ≡ state_of kept id
-  same_state id plain =
-      states_agree others alike.other_apart (same_plain plain) id
-      ∙ state_renamed (λ k. k) (ledger_of kept) (ledger_of others) (present kept) (present others) id renamed (complete_downset (graph_of kept)) sets once other_once
+  pub same_state : (profile : Profile) (id : ℕ) → IsPlain (ledger_of profile kept) (present kept) → state_of profile others id ≡ state_of profile kept id
+  same_state profile id plain =
+      states_agree profile others alike.other_apart (same_plain plain) id
+      ∙ state_renamed (λ k. k) (ledger_of profile kept) (ledger_of profile others) (present kept) (present others) id (renamed profile) (down profile) sets once other_once
       (txs_same kept others alike) plain
-      ∙ sym (states_agree kept alike.apart plain id)
+      ∙ sym (states_agree profile kept alike.apart plain id)
 
 -- ---- and of money
 
-module _ (kept others : List ReadBlock) (alike : AreAlike kept others) (plain : IsPlain (ledger_of kept) (present kept)) where
-  carrier_into : (t : Payment) → IsIn (accepted_carriers (ledger_of kept) (present kept)) t → IsIn (accepted_carriers (ledger_of others) (present others)) t
+module _ (profile : Profile) (kept others : List ReadBlock) (alike : AreAlike kept others) (plain : IsPlain (ledger_of profile kept) (present kept)) where
+  carrier_into : (t : Payment) → IsIn (accepted_carriers (ledger_of profile kept) (present kept)) t → IsIn (accepted_carriers (ledger_of profile others) (present others)) t
   carrier_into t h =
-      let w : (w : ℕ) × (has (present kept) w ≡ true) × IsIn ((ledger_of kept).txs w) t × (accepts (ledger_of kept) (present kept) w t ≡ true) =
-      accepted_from (ledger_of kept) (present kept) t h in
-      from_accepted (ledger_of others) (present others) w.0 t (present_into kept others alike w.0 w.1)
-      (subst (λ (ts : List Payment). IsIn ts t) (sym (txs_same kept others alike w.0 w.1)) w.2) (same_accepts kept others alike w.0 t plain w.1 ∙ w.3)
+      let w : (w : ℕ) × (has (present kept) w ≡ true) × IsIn ((ledger_of profile kept).txs w) t × (accepts (ledger_of profile kept) (present kept) w t ≡ true) =
+      accepted_from (ledger_of profile kept) (present kept) t h in
+      from_accepted (ledger_of profile others) (present others) w.0 t (present_into kept others alike w.0 w.1)
+      (subst (λ (ts : List Payment). IsIn ts t) (sym (txs_same kept others alike w.0 w.1)) w.2) (same_accepts kept others alike profile w.0 t plain w.1 ∙ w.3)
 
-  carrier_carried : (t : Payment) → IsIn (accepted_carriers (ledger_of others) (present others)) t → Contains (carried (ledger_of others) (present others)) t
+  carrier_carried : (t : Payment) → IsIn (accepted_carriers (ledger_of profile others) (present others)) t → Contains (carried (ledger_of profile others) (present others)) t
   carrier_carried t h =
-      let w : (w : ℕ) × (has (present others) w ≡ true) × IsIn ((ledger_of others).txs w) t × (accepts (ledger_of others) (present others) w t ≡ true) =
-      accepted_from (ledger_of others) (present others) t h in
-      contains_from_in (carried (ledger_of others) (present others)) t (carried_in (ledger_of others) (present others) w.0 t w.1 w.2)
+      let w : (w : ℕ) × (has (present others) w ≡ true) × IsIn ((ledger_of profile others).txs w) t × (accepts (ledger_of profile others) (present others) w t ≡ true) =
+      accepted_from (ledger_of profile others) (present others) t h in
+      contains_from_in (carried (ledger_of profile others) (present others)) t (carried_in (ledger_of profile others) (present others) w.0 t w.1 w.2)
 
   -- the first of an accepted id is the transaction itself
-  accepted_into : (t : Payment) → IsIn (accepted_txs (ledger_of kept) (present kept)) t → IsIn (accepted_txs (ledger_of others) (present others)) t
+  accepted_into : (t : Payment) → IsIn (accepted_txs (ledger_of profile kept) (present kept)) t → IsIn (accepted_txs (ledger_of profile others) (present others)) t
   accepted_into t h =
-      let here : IsIn (accepted_carriers (ledger_of others) (present others)) t = carrier_into t (firsts_in (accepted_carriers (ledger_of kept) (present kept)) t h) in
-      let u : (u : Payment) × IsIn (accepted_txs (ledger_of others) (present others)) u × (u.id ≡ t.id) =
-      firsts_has (accepted_carriers (ledger_of others) (present others)) t here in
+      let here : IsIn (accepted_carriers (ledger_of profile others) (present others)) t = carrier_into t (firsts_in (accepted_carriers (ledger_of profile kept) (present kept)) t h) in
+      let u : (u : Payment) × IsIn (accepted_txs (ledger_of profile others) (present others)) u × (u.id ≡ t.id) =
+      firsts_has (accepted_carriers (ledger_of profile others) (present others)) t here in
       let same : u.0 ≡ t =
-      same_plain kept others alike plain u.0 t (carrier_carried u.0 (firsts_in (accepted_carriers (ledger_of others) (present others)) u.0 u.1)) (carrier_carried t here) u.2 in
-      subst (λ (v : Payment). IsIn (accepted_txs (ledger_of others) (present others)) v) same u.1
+      same_plain kept others alike plain u.0 t (carrier_carried u.0 (firsts_in (accepted_carriers (ledger_of profile others) (present others)) u.0 u.1)) (carrier_carried t here) u.2 in
+      subst (λ (v : Payment). IsIn (accepted_txs (ledger_of profile others) (present others)) v) same u.1
 
-pub same_balance : (kept others : List ReadBlock) (lock : ℕ) → AreAlike kept others → IsPlain (ledger_of kept) (present kept)
-    → balance (ledger_of others) (present others) lock ≡ balance (ledger_of kept) (present kept) lock
-same_balance kept others lock alike plain =
-    balance_same (accepted_txs (ledger_of others) (present others)) (accepted_txs (ledger_of kept) (present kept)) lock
-    (firsts_ids (accepted_carriers (ledger_of others) (present others))) (firsts_ids (accepted_carriers (ledger_of kept) (present kept)))
-    (accepted_into others kept (turned kept others alike) (same_plain kept others alike plain)) (accepted_into kept others alike plain)
+pub same_balance : (profile : Profile) (kept others : List ReadBlock) (lock : ℕ) → AreAlike kept others → IsPlain (ledger_of profile kept) (present kept)
+    → balance (ledger_of profile others) (present others) lock ≡ balance (ledger_of profile kept) (present kept) lock
+same_balance profile kept others lock alike plain =
+    balance_same (accepted_txs (ledger_of profile others) (present others)) (accepted_txs (ledger_of profile kept) (present kept)) lock
+    (firsts_ids (accepted_carriers (ledger_of profile others) (present others))) (firsts_ids (accepted_carriers (ledger_of profile kept) (present kept)))
+    (accepted_into profile others kept (turned kept others alike) (same_plain kept others alike plain)) (accepted_into profile kept others alike plain)

@@ -93,7 +93,7 @@ module _ {bits genesis : ℕ} {kept : List ReadBlock} {blocks : Numbered} {votes
   comes_fitting ids lent is h j = omega (arith, comes_few ids h j, ap length is)
 
   pub comes_engine : (new : List ReadBlock) (ids : List ℕ) (after : Numbered) (tallied : Tallied) → new ≡ keep kept b → Comes bits genesis kept blocks votes b → Joins kept b ids
-      → IsNumbered after → AreNumbered new after → after.ids ≡ blocks.ids ++ ids → AreVoted after.parents tallied
+      → IsNumbered after → AreNumbered new after → after.ids ≡ blocks.ids ++ ids → AreVoted after tallied
       → IsEngine bits new genesis after tallied
   comes_engine new ids after tallied e h j n are is v =
       subst (λ (k : List ReadBlock). IsEngine bits k genesis after tallied) (sym (kept_is new e h)) (record {
@@ -146,7 +146,7 @@ waits_of {kept = kept} {b = b} o e h = subst (λ (x : Offer). IsAnswer kept b x)
 
 -- a block that is taken comes to the engine
 pub comes_of : {bits genesis : ℕ} {kept : List ReadBlock} {blocks : Numbered} {votes : Tallied} {k : Carried} {a : Acceptance} {p : Purse} {broken : Bool} {l : Ledger} {inside b : ReadBlock}
-    → (let seen : Ledger = record { bits = bits; kept = kept; broken = broken; numbered = blocks; votes = votes } in seen) ≡ l
+    → (let seen : Ledger = record { profile = blocks.profile; bits = bits; kept = kept; broken = broken; numbered = blocks; votes = votes } in seen) ≡ l
     → (broken ≡ false → IsEngine bits kept genesis blocks votes × IsAccepting kept blocks k a × IsPaying k a p) → l.broken ≡ false
     → inside ≡ b → IsBlock inside → IsOther b → standing_of l.kept b.id ≡ Fresh → Comes bits genesis kept blocks votes b
 comes_of {b = b} view inv whole is block other fresh = record {

@@ -22,6 +22,7 @@ use Rattle.sp_carry.proofs.Balances.{balance_same}
 use Rattle.sp_carry.proofs.Conflicts.{in_from_has}
 use Rattle.sp_carry.proofs.Firsts.{found_in, likes_named, named, named_same}
 use Rattle.sp_carry.proofs.Grants.{firsts_ids}
+use Rattle.sp_carry.proofs.Sums.{Pairwise}
 use Rattle.sp_carry.proofs.Members.{any_of_member, contains_from_in, in_filter, in_flat_map, in_map, in_map_from, IsIn, list_in, member_meets, member_of_any}
 use Rattle.sp_accept.specs.Acceptance.{Acceptance, is_set}
 use Rattle.sp_money.specs.Accepted.{accepted_in}
@@ -143,12 +144,12 @@ module _ {bits genesis : ℕ} {kept : List ReadBlock} {blocks : Numbered} {votes
   flat_is = flat_map-map (λ (b : List Transaction). b) (txs_of kept) blocks.ids ∙ ap (txs_in kept) e.order
 
   -- what a present block carries by ids has a number
-  number_carried : (p : Payment) → IsIn (carried (ledger_by_id kept) (present kept)) p → (n : ℕ) × (n < length k.txs) × (payment_of (tx_at k n) ≡ p)
+  number_carried : (p : Payment) → IsIn (carried (ledger_by_id blocks.profile kept) (present kept)) p → (n : ℕ) × (n < length k.txs) × (payment_of (tx_at k n) ≡ p)
   number_carried p there =
-      let z : (z : ℕ) × IsIn (present kept) z × IsIn ((ledger_by_id kept).txs z) p = in_flat_map (ledger_by_id kept).txs (present kept) p there in
+      let z : (z : ℕ) × IsIn (present kept) z × IsIn ((ledger_by_id blocks.profile kept).txs z) p = in_flat_map (ledger_by_id blocks.profile kept).txs (present kept) p there in
       let w = contains_from_in blocks.ids z.0 (in_from_has blocks.ids z.0 (e.same z.0 ∙ has_in (present kept) z.0 z.1)) in
       let within : w.0 < length (map (txs_of kept) blocks.ids) = omega (arith, w.1, length-map blocks.ids (txs_of kept)) in
-      let theirs : payments_in k w.0 ≡ (ledger_by_id kept).txs z.0 =
+      let theirs : payments_in k w.0 ≡ (ledger_by_id blocks.profile kept).txs z.0 =
       h.carriers.theirs.theirs w.0 within
       ∙ ap (map (λ (t : Transaction). payment_of (first_like flat t))) (mapped_at (txs_of kept) blocks.ids w.0 [] z.0 w.1 ∙ ap (txs_of kept) w.2)
       ∙ ap (λ (all : List Transaction). map (λ (t : Transaction). payment_of (first_like all t)) (txs_of kept z.0)) flat_is in
@@ -163,43 +164,50 @@ module _ {bits genesis : ℕ} {kept : List ReadBlock} {blocks : Numbered} {votes
   tx_in n lt = list_in k.txs n (of_parts [] []) lt
 
   -- a number's payment is the one that is carried under its id
-  one_payment : (n : ℕ) (u : Payment) → n < length k.txs → IsIn (carried (ledger_by_id kept) (present kept)) u → u.id ≡ id_of (tx_at k n) → u ≡ payment_of (tx_at k n)
+  pub one_payment : (n : ℕ) (u : Payment) → n < length k.txs → IsIn (carried (ledger_by_id blocks.profile kept) (present kept)) u → u.id ≡ id_of (tx_at k n) → u ≡ payment_of (tx_at k n)
   one_payment n u lt there same =
       let m : (m : ℕ) × (m < length k.txs) × (payment_of (tx_at k m) ≡ u) = number_carried u there in
       sym m.2 ∙ ap payment_of (one_tx k.txs (tx_at k m.0) (tx_at k n) h.carriers.carried.linked.ids (tx_in m.0 m.1) (tx_in n lt) (ap id_in m.2 ∙ same))
 
-  -- any different payments that are just those of the numbers whose flag is set
-  pub balance_by_numbers : (xs : List Payment) (lock : ℕ) → AreDistinct (map id_in xs)
-      → ((n : ℕ) → n < length k.txs → is_set a.txs n ≡ true → IsIn xs (payment_of (tx_at k n)))
-      → ((p : Payment) → IsIn xs p → (n : ℕ) × (n < length k.txs) × (is_set a.txs n ≡ true) × (payment_of (tx_at k n) ≡ p))
-      → balance_of xs lock ≡ balance (ledger_by_id kept) (present kept) lock
-  balance_by_numbers xs lock once onto numbered =
-      balance_same xs (accepted_txs (ledger_by_id kept) (present kept)) lock (ids_apart xs once) (firsts_ids (accepted_carriers (ledger_by_id kept) (present kept))) into back
-    where
-      into : (p : Payment) → IsIn xs p → IsIn (accepted_txs (ledger_by_id kept) (present kept)) p
-      into p there =
-          let n : (n : ℕ) × (n < length k.txs) × (is_set a.txs n ≡ true) × (payment_of (tx_at k n) ≡ p) = numbered p there in
-          subst (λ (q : Payment). IsIn (accepted_txs (ledger_by_id kept) (present kept)) q) n.3
-          (is_among_accepted (ledger_by_id kept) (present kept) (payment_of (tx_at k n.0)) (sym (accepted_is e h n.0 n.1) ∙ n.2)
-          (λ u u_in same. one_payment n.0 u n.1 u_in same))
+  -- payments that are those of numbers whose flag is set are accepted
+  numbered_into : (xs : List Payment) → ((p : Payment) → IsIn xs p → (n : ℕ) × (n < length k.txs) × (is_set a.txs n ≡ true) × (payment_of (tx_at k n) ≡ p))
+      → (p : Payment) → IsIn xs p → IsIn (accepted_txs (ledger_by_id blocks.profile kept) (present kept)) p
+  numbered_into xs numbered p there =
+      let n : (n : ℕ) × (n < length k.txs) × (is_set a.txs n ≡ true) × (payment_of (tx_at k n) ≡ p) = numbered p there in
+      subst (λ (q : Payment). IsIn (accepted_txs (ledger_by_id blocks.profile kept) (present kept)) q) n.3
+      (is_among_accepted (ledger_by_id blocks.profile kept) (present kept) (payment_of (tx_at k n.0)) (sym (accepted_is e h n.0 n.1) ∙ n.2)
+      (λ u u_in same. one_payment n.0 u n.1 u_in same))
 
-      back : (p : Payment) → IsIn (accepted_txs (ledger_by_id kept) (present kept)) p → IsIn xs p
-      back p there =
-          let n : (n : ℕ) × (n < length k.txs) × (payment_of (tx_at k n) ≡ p) = number_carried p (carried_accepted (ledger_by_id kept) (present kept) p there) in
-          let accepted : is_set a.txs n.0 ≡ true =
-          accepted_is e h n.0 n.1 ∙ ap (is_accepted (ledger_by_id kept) (present kept)) (ap id_in n.2) ∙ id_accepted (ledger_by_id kept) (present kept) p there in
-          subst (λ (q : Payment). IsIn xs q) n.2 (onto n.0 n.1 accepted)
+  -- and each accepted one is among them, where they are all of those
+  numbered_back : (xs : List Payment) → ((n : ℕ) → n < length k.txs → is_set a.txs n ≡ true → IsIn xs (payment_of (tx_at k n)))
+      → (p : Payment) → IsIn (accepted_txs (ledger_by_id blocks.profile kept) (present kept)) p → IsIn xs p
+  numbered_back xs onto p there =
+      let n : (n : ℕ) × (n < length k.txs) × (payment_of (tx_at k n) ≡ p) = number_carried p (carried_accepted (ledger_by_id blocks.profile kept) (present kept) p there) in
+      let accepted : is_set a.txs n.0 ≡ true =
+      accepted_is e h n.0 n.1 ∙ ap (is_accepted (ledger_by_id blocks.profile kept) (present kept)) (ap id_in n.2) ∙ id_accepted (ledger_by_id blocks.profile kept) (present kept) p there in
+      subst (λ (q : Payment). IsIn xs q) n.2 (onto n.0 n.1 accepted)
 
-  -- the payments of the numbers whose flag is set, in order
+  -- the payments of the numbers whose flag is set, in order, are the accepted ones, each of them once
+  pub accepted_once : (flags : List Bool) → Pairwise (λ (t u : Payment). eqb t.id u.id ≡ false) (accepted_in k.txs flags)
+  accepted_once flags = ids_apart (accepted_in k.txs flags) (accepted_distinct k.txs flags h.carriers.carried.linked.ids)
+
+  pub accepted_into : (flags : List Bool) → ((n : ℕ) → n < length k.txs → slice_index_or flags n false ≡ is_set a.txs n)
+      → (p : Payment) → IsIn (accepted_in k.txs flags) p → IsIn (accepted_txs (ledger_by_id blocks.profile kept) (present kept)) p
+  accepted_into flags same =
+      numbered_into (accepted_in k.txs flags) (λ p there. (let r = in_accepted k.txs flags p there in (r.0, r.1, sym (same r.0 r.1) ∙ r.2, r.3)))
+
+  pub accepted_back : (flags : List Bool) → ((n : ℕ) → n < length k.txs → slice_index_or flags n false ≡ is_set a.txs n)
+      → (p : Payment) → IsIn (accepted_txs (ledger_by_id blocks.profile kept) (present kept)) p → IsIn (accepted_in k.txs flags) p
+  accepted_back flags same = numbered_back (accepted_in k.txs flags) (λ n lt flag. accepted_at k.txs flags n lt (same n lt ∙ flag))
+
   pub accepted_balance : (flags : List Bool) (lock : ℕ) → ((n : ℕ) → n < length k.txs → slice_index_or flags n false ≡ is_set a.txs n)
-      → balance_of (accepted_in k.txs flags) lock ≡ balance (ledger_by_id kept) (present kept) lock
+      → balance_of (accepted_in k.txs flags) lock ≡ balance (ledger_by_id blocks.profile kept) (present kept) lock
   accepted_balance flags lock same =
-      balance_by_numbers (accepted_in k.txs flags) lock (accepted_distinct k.txs flags h.carriers.carried.linked.ids)
-      (λ n lt flag. accepted_at k.txs flags n lt (same n lt ∙ flag))
-      (λ p there. (let r = in_accepted k.txs flags p there in (r.0, r.1, sym (same r.0 r.1) ∙ r.2, r.3)))
+      balance_same (accepted_in k.txs flags) (accepted_txs (ledger_by_id blocks.profile kept) (present kept)) lock (accepted_once flags)
+      (firsts_ids (accepted_carriers (ledger_by_id blocks.profile kept) (present kept))) (accepted_into flags same) (accepted_back flags same)
 
   pub accepted_balance_by_id : (flags : List Bool) (lock : ℕ) → ((n : ℕ) → n < length k.txs → slice_index_or flags n false ≡ is_set a.txs n)
-      → balance_of (accepted_in k.txs flags) lock ≡ balance_by_id kept lock
+      → balance_of (accepted_in k.txs flags) lock ≡ balance_by_id blocks.profile kept lock
   unfolding balance_by_id
   accepted_balance_by_id flags lock same = accepted_balance flags lock same
 
@@ -217,7 +225,7 @@ module _ {bits genesis : ℕ} {kept : List ReadBlock} {blocks : Numbered} {votes
   same_named : (ids : List ℕ) → map (named (txs_in kept (order_of kept))) ids ≡ map (named k.txs) ids
   same_named ids = ap (λ (all : List Transaction). map (named all) ids) (sym flat_is) ∙ named_same flat k.txs ids (λ id. sym (h.carriers.theirs.found id))
 
-  carried_named : carried (ledger_by_id kept) (order_of kept) ≡ map (named (txs_in kept (order_of kept))) (map id_of (txs_in kept (order_of kept)))
+  carried_named : carried (ledger_by_id blocks.profile kept) (order_of kept) ≡ map (named (txs_in kept (order_of kept))) (map id_of (txs_in kept (order_of kept)))
   carried_named =
       flat_of_maps (λ t. payment_of (first_like (txs_in kept (order_of kept)) t)) (txs_of kept) (order_of kept)
       ∙ sym (likes_named (txs_in kept (order_of kept)) (txs_in kept (order_of kept)) (λ t there. there))
@@ -228,7 +236,7 @@ module _ {bits genesis : ℕ} {kept : List ReadBlock} {blocks : Numbered} {votes
 
   locks_by_id : locks kept ≡ each_once (flat_map locks_named (map id_of (txs_in kept (order_of kept))))
   locks_by_id =
-      ap each_once (all_locks (carried (ledger_by_id kept) (order_of kept)) ∙ ap (flat_map own_locks) carried_named
+      ap each_once (all_locks (carried (ledger_by_id blocks.profile kept) (order_of kept)) ∙ ap (flat_map own_locks) carried_named
       ∙ flat_map-map own_locks (named (txs_in kept (order_of kept))) (map id_of (txs_in kept (order_of kept))))
 
   locks_by_number : locks_of k.txs ≡ each_once (flat_map locks_named (map id_of k.txs))

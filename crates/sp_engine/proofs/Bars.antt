@@ -8,10 +8,9 @@ use Rattle.std.proofs.lemmas.List.Elements.{filter-append}
 use Rattle.sp_bits.specs.Places.{IsGreatest}
 use Rattle.sp_bits.proofs.RowSets.{filter-filter, has_places}
 use Rattle.sp_bits.proofs.Sets.{places_same}
-use Rattle.sp_dag.specs.Numbered.{graph_of, AreInOrder}
-use Rattle.sp_dag.proofs.Grown.{past_old}
+use Rattle.sp_dag.specs.Numbered.{with_next, Numbered, graph_of, AreInOrder}
+use Rattle.sp_dag.proofs.Ranked.{past_old, ancestors_lower, complete_numbered, parents_numbered, past_members}
 use Rattle.sp_dag.proofs.NewPairs.{range_more}
-use Rattle.sp_dag.proofs.Whole.{ancestors_lower, complete_numbered, parents_numbered, past_members}
 use Rattle.sp_model.specs.Graph.{has, in_past, past, parents_of}
 use Rattle.sp_model.specs.Loose.{in_bar}
 use Rattle.sp_model.proofs.Pasts.{in_past_step, parent_in_past, past_trans}
@@ -86,27 +85,27 @@ pub tip_in : (table : List (List ℕ)) (n t : ℕ) → n ≤ length table → ha
 tip_in table n t le h = (let parts = tip_below (take n table) t h in (omega (arith, parts.0, take_long table n le), parts.1))
 
 -- the new block is one, and its parents are none anymore
-pub tips_more : (table : List (List ℕ)) (b : ℕ) → AreInOrder table → b + 1 ≡ length table
-    → tips_of (take (b + 1) table) ≡ filter (λ t. not (has (get_or table b []) t)) (tips_of (take b table)) ++ b ∷ []
+pub tips_more : (table : Numbered) (b : ℕ) → AreInOrder table.parents → b + 1 ≡ length table.parents
+    → tips_of (take (b + 1) table.parents) ≡ filter (λ t. not (has (get_or table.parents b []) t)) (tips_of (take b table.parents)) ++ b ∷ []
 tips_more table b order le =
-    let ps : List ℕ = get_or table b [] in
-    let old : List (List ℕ) = take b table in
-    let whole : take (b + 1) table ≡ old ++ ps ∷ [] = ap (λ (k : ℕ). take k table) (let e : b + 1 ≡ suc b = omega arith in e) ∙ take_suc table b (omega (arith, le)) in
-    let all : take (b + 1) table ≡ table = take_all (b + 1) table (omega (arith, le)) in
-    let count : length (take (b + 1) table) ≡ suc b = omega (arith, ap length all, le) in
-    let tests : (k : ℕ) → is_tip (take (b + 1) table) k ≡ (is_tip old k && not (has ps k)) =
+    let ps : List ℕ = get_or table.parents b [] in
+    let old : List (List ℕ) = take b table.parents in
+    let whole : take (b + 1) table.parents ≡ old ++ ps ∷ [] = ap (λ (k : ℕ). take k table.parents) (let e : b + 1 ≡ suc b = omega arith in e) ∙ take_suc table.parents b (omega (arith, le)) in
+    let all : take (b + 1) table.parents ≡ table.parents = take_all (b + 1) table.parents (omega (arith, le)) in
+    let count : length (take (b + 1) table.parents) ≡ suc b = omega (arith, ap length all, le) in
+    let tests : (k : ℕ) → is_tip (take (b + 1) table.parents) k ≡ (is_tip old k && not (has ps k)) =
     λ k. ap (λ (t : List (List ℕ)). is_tip t k) whole ∙ ap not (any-append (λ l. has l k) old (ps ∷ [])) ∙ apart (list_any (λ l. has l k) old) (has ps k) in
-    let last : is_tip (take (b + 1) table) b ≡ true =
+    let last : is_tip (take (b + 1) table.parents) b ≡ true =
     ap (λ (t : List (List ℕ)). is_tip t b) all
-    ∙ ap not (any_none (λ l. has l b) table (λ z lt. false_from_ne_true (has (get_or table z []) b) (λ h. (let less : b < z = order z b h in absurd (omega (arith, less, lt, le)))))) in
-    ap (λ (m : ℕ). filter (is_tip (take (b + 1) table)) (range_with_len 0 m)) count
-    ∙ ap (filter (is_tip (take (b + 1) table))) (range_more 0 b b (omega arith))
-    ∙ filter-append (is_tip (take (b + 1) table)) (range_with_len 0 b) (b ∷ [])
-    ∙ ap (λ (c : Bool). filter (is_tip (take (b + 1) table)) (range_with_len 0 b) ++ cond c (b ∷ []) []) last
+    ∙ ap not (any_none (λ l. has l b) table.parents (λ z lt. false_from_ne_true (has (get_or table.parents z []) b) (λ h. (let less : b < z = order z b h in absurd (omega (arith, less, lt, le)))))) in
+    ap (λ (m : ℕ). filter (is_tip (take (b + 1) table.parents)) (range_with_len 0 m)) count
+    ∙ ap (filter (is_tip (take (b + 1) table.parents))) (range_more 0 b b (omega arith))
+    ∙ filter-append (is_tip (take (b + 1) table.parents)) (range_with_len 0 b) (b ∷ [])
+    ∙ ap (λ (c : Bool). filter (is_tip (take (b + 1) table.parents)) (range_with_len 0 b) ++ cond c (b ∷ []) []) last
     ∙ ap (λ (l : List ℕ). l ++ b ∷ []) (
-    filter_test (is_tip (take (b + 1) table)) (λ k. is_tip old k && not (has ps k)) (range_with_len 0 b) tests
+    filter_test (is_tip (take (b + 1) table.parents)) (λ k. is_tip old k && not (has ps k)) (range_with_len 0 b) tests
     ∙ sym (filter-filter (is_tip old) (λ t. not (has ps t)) (range_with_len 0 b))
-    ∙ ap (λ (m : ℕ). filter (λ t. not (has ps t)) (filter (is_tip old) (range_with_len 0 m))) (sym (take_long table b (omega (arith, le))))
+    ∙ ap (λ (m : ℕ). filter (λ t. not (has ps t)) (filter (is_tip old) (range_with_len 0 m))) (sym (take_long table.parents b (omega (arith, le))))
     )
   where
     apart : (a c : Bool) → not (a || (c || false)) ≡ (not a && not c)
@@ -120,29 +119,29 @@ tips_more table b order le =
 
 -- ---- rows
 
-bar_old : (table : List (List ℕ)) (ps : List ℕ) (z : ℕ) → AreInOrder table → z < length table → bar_row (table ++ ps ∷ []) z ≡ bar_row table z
-bar_old table ps z order lt =
-    places_same (λ k. in_bar (graph_of (table ++ ps ∷ [])) k z) (λ k. in_bar (graph_of table) k z) (λ k _. ap (λ (c : Bool). eqb z k || c) (past_old table ps k z order lt))
+bar_old : (table : Numbered) (id salt : ℕ) (ps : List ℕ) (z : ℕ) → AreInOrder table.parents → z < length table.parents → bar_row (with_next table id salt ps) z ≡ bar_row table z
+bar_old table id salt ps z order lt =
+    places_same (λ k. in_bar (graph_of (with_next table id salt ps)) k z) (λ k. in_bar (graph_of table) k z) (λ k _. ap (λ (c : Bool). eqb z k || c) (past_old table id salt ps k z order lt))
 
 -- those of the tips stay where a block is added
-pub bars_stay : (table : List (List ℕ)) (ps : List ℕ) (n : ℕ) → AreInOrder table → n ≤ length table
-    → map (bar_row (table ++ ps ∷ [])) (tips_of (take n table)) ≡ map (bar_row table) (tips_of (take n table))
-bars_stay table ps n order le =
-    map_same (bar_row (table ++ ps ∷ [])) (bar_row table) (tips_of (take n table))
-    (λ t h. (let parts = tip_in table n t le h in bar_old table ps t order (omega (arith, parts.0, le))))
+pub bars_stay : (table : Numbered) (id salt : ℕ) (ps : List ℕ) (n : ℕ) → AreInOrder table.parents → n ≤ length table.parents
+    → map (bar_row (with_next table id salt ps)) (tips_of (take n table.parents)) ≡ map (bar_row table) (tips_of (take n table.parents))
+bars_stay table id salt ps n order le =
+    map_same (bar_row (with_next table id salt ps)) (bar_row table) (tips_of (take n table.parents))
+    (λ t h. (let parts = tip_in table.parents n t le h in bar_old table id salt ps t order (omega (arith, parts.0, le))))
 
-module _ (table : List (List ℕ)) (order : AreInOrder table) (small : length table ≤ 512) where
-  pub has_bar : (t k : ℕ) → t < length table → has (bar_row table t) k ≡ in_bar (graph_of table) k t
+module _ (table : Numbered) (order : AreInOrder table.parents) (small : length table.parents ≤ 512) where
+  pub has_bar : (t k : ℕ) → t < length table.parents → has (bar_row table t) k ≡ in_bar (graph_of table) k t
   has_bar t k lt = has_places (λ k. in_bar (graph_of table) k t) k (λ h. elim (or_cases (eqb t k) (in_past (graph_of table) k t) h) [
     | inl same ↦ (let e : t ≡ k = eqb-true t k same in omega (arith, e, lt, small))
     | inr below ↦ (let less : k < t = ancestors_lower table k t order lt below in omega (arith, less, lt, small))
   ])
 
-  pub own_bar : (t : ℕ) → t < length table → has (bar_row table t) t ≡ true
+  pub own_bar : (t : ℕ) → t < length table.parents → has (bar_row table t) t ≡ true
   own_bar t lt = has_bar t t lt ∙ or_left (eqb t t) (in_past (graph_of table) t t) (eq-eqb t t refl)
 
   -- a block is the highest of its row
-  pub top_of_bar : (t : ℕ) → t < length table → IsGreatest (bar_row table t) t
+  pub top_of_bar : (t : ℕ) → t < length table.parents → IsGreatest (bar_row table t) t
   top_of_bar t lt = record {
     member = own_bar t lt;
     most = λ k there. elim (or_cases (eqb t k) (in_past (graph_of table) k t) (sym (has_bar t k lt) ∙ there)) [
@@ -152,50 +151,50 @@ module _ (table : List (List ℕ)) (order : AreInOrder table) (small : length ta
   }
 
   -- so rows tell blocks apart
-  pub one_top : (row : List ℕ) (t n : ℕ) → t < length table → row ≡ bar_row table t → IsGreatest row n → n ≡ t
+  pub one_top : (row : List ℕ) (t n : ℕ) → t < length table.parents → row ≡ bar_row table t → IsGreatest row n → n ≡ t
   one_top row t n lt is top =
       let own : IsGreatest row t = subst (λ (l : List ℕ). IsGreatest l t) (sym is) (top_of_bar t lt) in
       omega (arith, top.most t own.member, own.most n top.member)
 
   -- an ancestor of one of the first blocks is a parent of one of them
-  child_below : (k t z n : ℕ) → z < k → z < n → n ≤ length table → in_past (graph_of table) t z ≡ true → list_any (λ l. has l t) (take n table) ≡ true
+  child_below : (k t z n : ℕ) → z < k → z < n → n ≤ length table.parents → in_past (graph_of table) t z ≡ true → list_any (λ l. has l t) (take n table.parents) ≡ true
   child_below zero t z n less lt le reached = absurd (omega (arith, less))
   child_below (suc k) t z n less lt le reached =
-      let here : z < length table = omega (arith, lt, le) in
+      let here : z < length table.parents = omega (arith, lt, le) in
       let step = any_some (λ p. eqb p t || in_past (graph_of table) t p) (parents_of (graph_of table) z) (sym (in_past_step (graph_of table) t z (complete_numbered table z order here)) ∙ reached) in
-      let parent : has (get_or table z []) step.0 ≡ true = ap (λ (l : List ℕ). has l step.0) (sym (parents_numbered table z here)) ∙ step.1 in
+      let parent : has (get_or table.parents z []) step.0 ≡ true = ap (λ (l : List ℕ). has l step.0) (sym (parents_numbered table z here)) ∙ step.1 in
       elim (or_cases (eqb step.0 t) (in_past (graph_of table) t step.0) step.2) [
-        | inl same ↦ any_at (λ l. has l t) table n z lt here (ap (has (get_or table z [])) (sym (eqb-true step.0 t same)) ∙ parent)
+        | inl same ↦ any_at (λ l. has l t) table.parents n z lt here (ap (has (get_or table.parents z [])) (sym (eqb-true step.0 t same)) ∙ parent)
         | inr above ↦ (let lower : step.0 < z = order z step.0 parent in child_below k t step.0 n (omega (arith, less, lower)) (omega (arith, lower, lt)) le above)
       ]
 
-  module _ (b : ℕ) (last : b + 1 ≡ length table) where
-    lt_b : b < length table
+  module _ (b : ℕ) (last : b + 1 ≡ length table.parents) where
+    lt_b : b < length table.parents
     lt_b = omega (arith, last)
 
     -- a tip in the past of the next block is a parent of it
-    parent_of : (t : ℕ) → is_tip (take b table) t ≡ true → in_past (graph_of table) t b ≡ true → has (get_or table b []) t ≡ true
+    parent_of : (t : ℕ) → is_tip (take b table.parents) t ≡ true → in_past (graph_of table) t b ≡ true → has (get_or table.parents b []) t ≡ true
     parent_of t tip reached =
         let step = any_some (λ p. eqb p t || in_past (graph_of table) t p) (parents_of (graph_of table) b) (sym (in_past_step (graph_of table) t b (complete_numbered table b order lt_b)) ∙ reached) in
-        let parent : has (get_or table b []) step.0 ≡ true = ap (λ (l : List ℕ). has l step.0) (sym (parents_numbered table b lt_b)) ∙ step.1 in
+        let parent : has (get_or table.parents b []) step.0 ≡ true = ap (λ (l : List ℕ). has l step.0) (sym (parents_numbered table b lt_b)) ∙ step.1 in
         elim (or_cases (eqb step.0 t) (in_past (graph_of table) t step.0) step.2) [
-          | inl same ↦ ap (has (get_or table b [])) (sym (eqb-true step.0 t same)) ∙ parent
+          | inl same ↦ ap (has (get_or table.parents b [])) (sym (eqb-true step.0 t same)) ∙ parent
           | inr above ↦
               let lower : step.0 < b = order b step.0 parent in
-              let child : list_any (λ l. has l t) (take b table) ≡ true = child_below (suc step.0) t step.0 b (omega arith) lower (omega (arith, last)) above in
+              let child : list_any (λ l. has l t) (take b table.parents) ≡ true = child_below (suc step.0) t step.0 b (omega arith) lower (omega (arith, last)) above in
               absurd (false≢true (sym (ap not child) ∙ tip))
         ]
 
     -- the row of a tip lies within the past of the next block exactly where that has it as a parent
-    pub covers : (t : ℕ) → t < b → is_tip (take b table) t ≡ true → list_all (has (past (graph_of table) b)) (bar_row table t) ≡ has (get_or table b []) t
-    covers t lt tip = elim (cases_Bool (has (get_or table b []) t)) [
+    pub covers : (t : ℕ) → t < b → is_tip (take b table.parents) t ≡ true → list_all (has (past (graph_of table) b)) (bar_row table t) ≡ has (get_or table.parents b []) t
+    covers t lt tip = elim (cases_Bool (has (get_or table.parents b []) t)) [
       | inl parent ↦ all_has (has (past (graph_of table) b)) (bar_row table t) (within parent) ∙ sym parent
       | inr none ↦ false_from_ne_true (list_all (has (past (graph_of table) b)) (bar_row table t)) (λ all.
           let reached : in_past (graph_of table) t b ≡ true = sym (past_members table t b order lt_b) ∙ has_all (has (past (graph_of table) b)) (bar_row table t) t all (own_bar t (omega (arith, lt, last))) in
           absurd (false≢true (sym none ∙ parent_of t tip reached))) ∙ sym none
     ]
       where
-        within : has (get_or table b []) t ≡ true → (k : ℕ) → has (bar_row table t) k ≡ true → has (past (graph_of table) b) k ≡ true
+        within : has (get_or table.parents b []) t ≡ true → (k : ℕ) → has (bar_row table t) k ≡ true → has (past (graph_of table) b) k ≡ true
         within parent k there =
             let up : in_past (graph_of table) t b ≡ true = parent_in_past (graph_of table) t b (complete_numbered table b order lt_b) (ap (λ (l : List ℕ). has l t) (parents_numbered table b lt_b) ∙ parent) in
             past_members table k b order lt_b ∙ elim (or_cases (eqb t k) (in_past (graph_of table) k t) (sym (has_bar t k (omega (arith, lt, last))) ∙ there)) [

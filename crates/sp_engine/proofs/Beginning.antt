@@ -1,7 +1,7 @@
 -- The votes of no blocks.
-use Rattle.std.proofs.Common.{◌≡◌, sym, subst, arith, List, ℕ, [], ◌∷◌, refl}
+use Rattle.std.proofs.Common.{◌≡◌, sym, subst, arith, List, [], ◌∷◌, refl}
 use Rattle.std.proofs.lemmas.Bool.{false≢true}
-use Rattle.sp_dag.specs.Numbered.{AreInOrder}
+use Rattle.sp_dag.specs.Numbered.{Numbered, AreInOrder}
 use Rattle.sp_frozen.specs.Voters.{FrozenRows}
 use Rattle.sp_rows.specs.Pool.{Counted, Pool}
 use Rattle.sp_view.specs.Stored.{count_of}
@@ -9,7 +9,7 @@ use Rattle.sp_view.specs.Views.{Viewed}
 use Rattle.sp_view.proofs.Starting.{view_nothing}
 use Rattle.sp_engine.specs.Votes.{HoldsVotes}
 
-pub holds_none : (table : List (List ℕ)) → AreInOrder table → (frozen : FrozenRows) (rows : Pool) (views : List Viewed)
+pub holds_none : (table : Numbered) → AreInOrder table.parents → (frozen : FrozenRows) (rows : Pool) (views : List Viewed)
     → frozen ≡ record { blocks = 0; pluses = []; minuses = [] } → rows.rows ≡ [] → views ≡ record { members = []; entries = [] } ∷ []
     → HoldsVotes table (record { frozen = frozen; rows = rows; views = views }) []
 holds_none table order frozen rows views f r v =

@@ -1,13 +1,13 @@
 -- Views that are held beside those of the votes stay views while a block joins, and while others are let go.
 use Rattle.std.proofs.Common.{◌≡◌, ℕ, ◌+◌, ◌*◌, ◌<◌, ◌≤◌, List, [], ◌∷◌, ◌++◌, length, sym, subst, ◌∙◌, arith, length-append}
-use Rattle.sp_dag.specs.Numbered.{pairs_of, AreInOrder}
+use Rattle.sp_dag.specs.Numbered.{IsNumbered, with_next, Numbered, pairs_of, AreInOrder}
 use Rattle.sp_rows.specs.Pool.{AreRows, Pool}
 use Rattle.sp_view.specs.Stored.{count_of, row_of, live}
 use Rattle.sp_view.specs.Views.{Viewed, held}
 use Rattle.sp_engine.specs.Votes.{AreShared, AreViews, held_by, Tallied}
 use Rattle.sp_engine.proofs.Sharing.{few_held_by, few_live, held_more, views_more, views_move, views_stay, views_up}
 
-module _ (table : List (List ℕ)) (pool : Pool) (n : ℕ) (views beside : List Viewed) (h : AreShared table pool n views beside) where
+module _ (table : Numbered) (pool : Pool) (n : ℕ) (views beside : List Viewed) (h : AreShared table pool n views beside) where
   pub counted : (r : ℕ) → held_by views r ≤ count_of pool r
   counted r = omega (arith, h.counts r)
 
@@ -26,8 +26,8 @@ module _ (table : List (List ℕ)) (pool : Pool) (n : ℕ) (views beside : List 
   shared_up m le = record { few = h.few; sound = views_up table pool n m beside le h.sound; counts = h.counts }
 
   -- beside a block more in the graph
-  pub shared_stays : (ps : List ℕ) → AreInOrder (table ++ ps ∷ []) → AreShared (table ++ ps ∷ []) pool n views beside
-  shared_stays ps order = record { few = h.few; sound = views_stay table pool n ps beside order h.sound; counts = h.counts }
+  pub shared_stays : (id salt : ℕ) (ps : List ℕ) → IsNumbered table → AreInOrder (table.parents ++ ps ∷ []) → AreShared (with_next table id salt ps) pool n views beside
+  shared_stays id salt ps numbered order = record { few = h.few; sound = views_stay table pool n id salt ps beside numbered order h.sound; counts = h.counts }
 
   -- a view is derived
   pub shared_derived : (pool' : Pool) (tip : Viewed) → ((r : ℕ) → count_of pool' r ≡ count_of pool r + held tip.entries r) → ((r : ℕ) → 0 < count_of pool r → row_of pool' r ≡ row_of pool r)
@@ -48,7 +48,7 @@ module _ (table : List (List ℕ)) (pool : Pool) (n : ℕ) (views beside : List 
   }
 
 -- a view among them grows
-pub shared_grown : (table : List (List ℕ)) (pool : Pool) (n : ℕ) (views beside : List Viewed) (tip tip' : Viewed) (pool' : Pool) → AreShared table pool n (tip ∷ views) beside
+pub shared_grown : (table : Numbered) (pool : Pool) (n : ℕ) (views beside : List Viewed) (tip tip' : Viewed) (pool' : Pool) → AreShared table pool n (tip ∷ views) beside
     → ((r : ℕ) → count_of pool' r + held tip.entries r ≡ count_of pool r + held tip'.entries r) → ((r : ℕ) → held tip.entries r < count_of pool r → row_of pool' r ≡ row_of pool r)
     → AreShared table pool' n (tip' ∷ views) beside
 shared_grown table pool n views beside tip tip' pool' h grown others = record {
@@ -58,12 +58,12 @@ shared_grown table pool n views beside tip tip' pool' h grown others = record {
 }
 
 -- the same views, as they are lent
-pub shared_lent : (table : List (List ℕ)) (v w : Tallied) (lent beside : List Viewed) → v ≡ w → lent ≡ v.views → AreShared table w.rows w.frozen.blocks w.views beside → AreShared table v.rows v.frozen.blocks lent beside
+pub shared_lent : (table : Numbered) (v w : Tallied) (lent beside : List Viewed) → v ≡ w → lent ≡ v.views → AreShared table w.rows w.frozen.blocks w.views beside → AreShared table v.rows v.frozen.blocks lent beside
 shared_lent table v w lent beside is views h =
     subst (λ (l : List Viewed). AreShared table v.rows v.frozen.blocks l beside) (sym views) (subst (λ (x : Tallied). AreShared table x.rows x.frozen.blocks x.views beside) (sym is) h)
 
 -- and behind the new tip's view, where that was made from them
-pub shared_tip : (table : List (List ℕ)) (v w : Tallied) (pool : Pool) (n : ℕ) (tip : Viewed) (lent views beside : List Viewed) → v ≡ w → lent ≡ views → views ≡ v.views
+pub shared_tip : (table : Numbered) (v w : Tallied) (pool : Pool) (n : ℕ) (tip : Viewed) (lent views beside : List Viewed) → v ≡ w → lent ≡ views → views ≡ v.views
     → (AreShared table v.rows v.frozen.blocks lent beside → AreShared table pool n (tip ∷ lent) beside) → AreShared table w.rows w.frozen.blocks w.views beside → AreShared table pool n (tip ∷ views) beside
 shared_tip table v w pool n tip lent views beside is same own made h =
     subst (λ (l : List Viewed). AreShared table pool n (tip ∷ l) beside) same (made (shared_lent table v w lent beside is (same ∙ own) h))

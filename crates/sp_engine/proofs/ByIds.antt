@@ -8,11 +8,13 @@ use Rattle.std.proofs.lemmas.List.Folds.{list_any-append}
 use Rattle.sp_tx.specs.Parts.{Transaction}
 use Rattle.sp_tx.specs.Spending.{id_of}
 use Rattle.sp_block.specs.Block.{ReadBlock}
+use Rattle.sp_model.specs.declared.profile.Profile.{Profile}
 use Rattle.sp_model.specs.Agreement.{AgreesOn}
-use Rattle.sp_model.specs.Graph.{AreDistinct, has, keys}
+use Rattle.sp_model.specs.Graph.{AreDistinct, has, IsDownset, keys}
 use Rattle.sp_model.proofs.Pasts.{complete_downset, complete_key}
 use Rattle.sp_model.proofs.Paths.{complete_round}
-use Rattle.sp_pool.specs.Kept.{AreApart, graph_of, ids_of, is_ready, present}
+use Rattle.sp_pool.specs.Kept.{AreApart, graph_in, graph_of, ids_of, is_ready, present}
+use Rattle.sp_pool.proofs.Profiles.{downset_in}
 use Rattle.sp_pool.proofs.Growth.{present_stays, round_from}
 use Rattle.sp_pool.proofs.KeptBlocks.{has-push}
 use Rattle.sp_pool.proofs.Parents.{found_id, found_parents, found_passes, keys-graph_of}
@@ -96,15 +98,15 @@ own_all all (t ∷ ts) h =
     ap (λ (p : Payment). p ∷ map (λ t. payment_of (first_like all t)) ts) (h t (inl refl))
     ∙ ap (λ (l : List Payment). payment_of t ∷ l) (own_all all ts (λ u there. h u (inr there)))
 
-module _ (kept : List ReadBlock) (apart : AreApart kept) (plain : IsPlain (ledger_of kept) (present kept)) where
-  paid_in : (z : ℕ) (t : Transaction) → has (present kept) z ≡ true → IsIn (txs_of kept z) t → IsIn (carried (ledger_of kept) (present kept)) (payment_of t)
-  paid_in z t there t_in = carried_in (ledger_of kept) (present kept) z (payment_of t) there (in_map_from payment_of (txs_of kept z) t t_in)
+module _ (profile : Profile) (kept : List ReadBlock) (apart : AreApart kept) (plain : IsPlain (ledger_of profile kept) (present kept)) where
+  paid_in : (z : ℕ) (t : Transaction) → has (present kept) z ≡ true → IsIn (txs_of kept z) t → IsIn (carried (ledger_of profile kept) (present kept)) (payment_of t)
+  paid_in z t there t_in = carried_in (ledger_of profile kept) (present kept) z (payment_of t) there (in_map_from payment_of (txs_of kept z) t t_in)
 
-  one_payment : (u t : Transaction) → IsIn (carried (ledger_of kept) (present kept)) (payment_of u) → IsIn (carried (ledger_of kept) (present kept)) (payment_of t)
+  one_payment : (u t : Transaction) → IsIn (carried (ledger_of profile kept) (present kept)) (payment_of u) → IsIn (carried (ledger_of profile kept) (present kept)) (payment_of t)
       → id_of u ≡ id_of t → payment_of u ≡ payment_of t
   one_payment u t u_in t_in same =
-      plain (payment_of u) (payment_of t) (contains_from_in (carried (ledger_of kept) (present kept)) (payment_of u) u_in)
-      (contains_from_in (carried (ledger_of kept) (present kept)) (payment_of t) t_in) same
+      plain (payment_of u) (payment_of t) (contains_from_in (carried (ledger_of profile kept) (present kept)) (payment_of u) u_in)
+      (contains_from_in (carried (ledger_of profile kept) (present kept)) (payment_of t) t_in) same
 
   stands_for_itself : (z : ℕ) (t : Transaction) → has (present kept) z ≡ true → IsIn (txs_of kept z) t
       → payment_of (first_like (txs_in kept (order_of kept)) t) ≡ payment_of t
@@ -119,20 +121,23 @@ module _ (kept : List ReadBlock) (apart : AreApart kept) (plain : IsPlain (ledge
             (paid_in z t there t_in) first.1)
       ]
 
-  pub txs_own : (z : ℕ) → has (present kept) z ≡ true → (ledger_by_id kept).txs z ≡ (ledger_of kept).txs z
+  pub txs_own : (z : ℕ) → has (present kept) z ≡ true → (ledger_by_id profile kept).txs z ≡ (ledger_of profile kept).txs z
   txs_own z there = own_all (txs_in kept (order_of kept)) (txs_of kept z) (λ t t_in. stands_for_itself z t there t_in)
+
+  down : IsDownset (graph_in profile kept) (present kept)
+  down = downset_in profile kept (present kept) (complete_downset (graph_of kept))
 
   keys_distinct : AreDistinct (keys (graph_of kept))
   keys_distinct = subst (λ (ids : List ℕ). AreDistinct ids) (sym (keys-graph_of kept)) apart
 
-  agrees : AgreesOn (present kept) (graph_of kept) (graph_of kept)
-  agrees = record { distinct = keys_distinct; other_distinct = keys_distinct; there = complete_key (graph_of kept); parents = λ z there. refl }
+  agrees : AgreesOn (present kept) (graph_in profile kept) (graph_in profile kept)
+  agrees = record { distinct = keys_distinct; other_distinct = keys_distinct; there = complete_key (graph_of kept); parents = λ z there. refl; ranks = λ z there. refl; profile = refl }
 
-  pub states_agree : (id : ℕ) → state_of kept id ≡ state (ledger_of kept) (present kept) id
+  pub states_agree : (id : ℕ) → state_of profile kept id ≡ state (ledger_of profile kept) (present kept) id
   unfolding state_of
   states_agree id =
-      state_restricted (ledger_of kept) (ledger_by_id kept) (present kept) id agrees (complete_downset (graph_of kept)) (AreDistinct-present kept apart) txs_own plain
+      state_restricted (ledger_of profile kept) (ledger_by_id profile kept) (present kept) id agrees down (AreDistinct-present kept apart) txs_own plain
 
-  pub acceptance_agrees : (id : ℕ) → is_accepted (ledger_by_id kept) (present kept) id ≡ is_accepted (ledger_of kept) (present kept) id
+  pub acceptance_agrees : (id : ℕ) → is_accepted (ledger_by_id profile kept) (present kept) id ≡ is_accepted (ledger_of profile kept) (present kept) id
   acceptance_agrees id =
-      accepted_restricted (ledger_of kept) (ledger_by_id kept) (present kept) id agrees (complete_downset (graph_of kept)) (AreDistinct-present kept apart) txs_own plain
+      accepted_restricted (ledger_of profile kept) (ledger_by_id profile kept) (present kept) id agrees down (AreDistinct-present kept apart) txs_own plain

@@ -34,13 +34,13 @@ flip a b = bool_same (eqb a b) (eqb b a) (λ e. eq-eqb b a (sym (eqb-true a b e)
 pub has_flipped : (ids : List ℕ) (id : ℕ) → has ids id ≡ list_any (eqb id) ids
 has_flipped ids id = any_agrees (λ k. eqb k id) (eqb id) ids (λ x there. flip x id)
 
-carrier_ids : (parents : List (List ℕ)) (k : Carried) (t : Transaction) → map id_of (with_carrier parents k t).txs ≡ with_id (map id_of k.txs) (id_of t)
-carrier_ids parents k t = at (number_of k (id_of t)) refl
+carrier_ids : (table : Numbered) (k : Carried) (t : Transaction) → map id_of (with_carrier table k t).txs ≡ with_id (map id_of k.txs) (id_of t)
+carrier_ids table k t = at (number_of k (id_of t)) refl
   where
     chosen : (c : Bool) → has (map id_of k.txs) (id_of t) ≡ c → cond c (map id_of k.txs) (map id_of k.txs ++ id_of t ∷ []) ≡ with_id (map id_of k.txs) (id_of t)
     chosen c e = ap (λ (b : Bool). cond b (map id_of k.txs) (map id_of k.txs ++ id_of t ∷ [])) (sym e)
 
-    at : (o : Option ℕ) → number_of k (id_of t) ≡ o → map id_of (carried_by parents k t o).txs ≡ with_id (map id_of k.txs) (id_of t)
+    at : (o : Option ℕ) → number_of k (id_of t) ≡ o → map id_of (carried_by table k t o).txs ≡ with_id (map id_of k.txs) (id_of t)
     at None e =
         map-append id_of k.txs (t ∷ [])
         ∙ chosen false (has_flipped (map id_of k.txs) (id_of t) ∙ none_found (map id_of k.txs) (id_of t) e)
@@ -48,9 +48,9 @@ carrier_ids parents k t = at (number_of k (id_of t)) refl
         chosen true (any_of_member (λ i. eqb i (id_of t)) (map id_of k.txs) (id_of (tx_at k n)) (in_map_from id_of k.txs (tx_at k n) (list_in k.txs n (of_parts [] []) (number_within k (id_of t) n e)))
         (eq-eqb (id_of (tx_at k n)) (id_of t) (number_id k (id_of t) n e)))
 
-carriers_ids : (parents : List (List ℕ)) (k : Carried) (ts : List Transaction) → map id_of (with_carriers parents k ts).txs ≡ fold with_id (map id_of k.txs) (map id_of ts)
-carriers_ids parents k [] = refl
-carriers_ids parents k (t ∷ ts) = carriers_ids parents (with_carrier parents k t) ts ∙ ap (λ (ids : List ℕ). fold with_id ids (map id_of ts)) (carrier_ids parents k t)
+carriers_ids : (table : Numbered) (k : Carried) (ts : List Transaction) → map id_of (with_carriers table k ts).txs ≡ fold with_id (map id_of k.txs) (map id_of ts)
+carriers_ids table k [] = refl
+carriers_ids table k (t ∷ ts) = carriers_ids table (with_carrier table k t) ts ∙ ap (λ (ids : List ℕ). fold with_id ids (map id_of ts)) (carrier_ids table k t)
 
 -- the ids of one block more
 ids_more : (kept : List ReadBlock) (blocks : List ℕ) (id : ℕ) → each_once (tx_ids_in kept (blocks ++ id ∷ [])) ≡ fold with_id (each_once (tx_ids_in kept blocks)) (map id_of (txs_of kept id))
@@ -68,24 +68,24 @@ few_txs b h = (only_spelling b.bytes h.genesis (parts_of b) h.bytes h.spells).0.
 pub carried_count : (kept : List ReadBlock) (blocks : Numbered) (k : Carried) → IsNumbered blocks → AreCarried kept blocks k → k.blocks ≡ length blocks.parents
 carried_count kept blocks k n h = h.theirs.count ∙ length-map blocks.ids (txs_of kept) ∙ n.long
 
-pub AreCarried-more : (kept : List ReadBlock) (blocks after : Numbered) (k new : Carried) (id : ℕ) (parents : List ℕ) (b : ReadBlock) → IsNumbered blocks → IsNumbered after
-    → AreCarried kept blocks k → find (λ (x : ReadBlock). eqb x.id id) kept ≡ Some b → after ≡ numbered_with blocks id parents → IsCarried new
-    → new ≡ with_block after.parents k b.txs → AreCarried kept after new
-AreCarried-more kept blocks after k new id parents b n m h found e is added =
+pub AreCarried-more : (kept : List ReadBlock) (blocks after : Numbered) (k new : Carried) (id salt : ℕ) (parents : List ℕ) (b : ReadBlock) → IsNumbered blocks → IsNumbered after
+    → AreCarried kept blocks k → find (λ (x : ReadBlock). eqb x.id id) kept ≡ Some b → after ≡ numbered_with blocks id salt parents → IsCarried new
+    → new ≡ with_block after k b.txs → AreCarried kept after new
+AreCarried-more kept blocks after k new id salt parents b n m h found e is added =
     record {
       carried = is;
       theirs =
           subst (λ (x : Carried). Carries (map (txs_of kept) after.ids) x) (sym added)
-          (subst (λ (l : List (List Transaction)). Carries l (with_block after.parents k b.txs)) (sym lists)
-          (block_carried after.parents (map (txs_of kept) blocks.ids) k b.txs h.carried h.theirs));
+          (subst (λ (l : List (List Transaction)). Carries l (with_block after k b.txs)) (sym lists)
+          (block_carried after (map (txs_of kept) blocks.ids) k b.txs h.carried h.theirs));
       ids =
-          ap (λ (x : Carried). map id_of x.txs) added ∙ carriers_ids after.parents k b.txs
+          ap (λ (x : Carried). map id_of x.txs) added ∙ carriers_ids after k b.txs
           ∙ ap (λ (ids : List ℕ). fold with_id ids (map id_of b.txs)) h.ids
           ∙ ap (λ (ts : List Transaction). fold with_id (each_once (tx_ids_in kept blocks.ids)) (map id_of ts)) (sym theirs)
           ∙ sym (ids_more kept blocks.ids id) ∙ ap (λ (a : Numbered). each_once (tx_ids_in kept a.ids)) (sym e);
       sound =
-          subst (λ (x : Carried). AreSound after.parents x) (sym added)
-          (sound_block after.parents k b.txs h.carried m.order (omega (arith, count, longer)) before);
+          subst (λ (x : Carried). AreSound after x) (sym added)
+          (sound_block after k b.txs h.carried m.order (omega (arith, count, longer)) before);
     }
   where
     theirs : txs_of kept id ≡ b.txs
@@ -101,9 +101,10 @@ AreCarried-more kept blocks after k new id parents b n m h found e is added =
     longer = ap length table ∙ (let one : length (blocks.parents ++ map (number_in blocks.ids) parents ∷ []) ≡ suc (length blocks.parents) =
         omega (arith, length-append blocks.parents (map (number_in blocks.ids) parents ∷ [])) in one)
 
-    before : AreSound after.parents k
-    before = subst (λ (t : List (List ℕ)). AreSound t k) (sym table)
-        (grown_sound blocks.parents (map (number_in blocks.ids) parents) k n.order (omega (arith, count)) h.carried h.sound)
+    before : AreSound after k
+    before =
+        subst (λ (t : Numbered). AreSound t k) (sym e)
+        (grown_sound blocks id salt (map (number_in blocks.ids) parents) k n.order (omega (arith, count)) h.carried h.sound)
 
     lists : map (txs_of kept) after.ids ≡ map (txs_of kept) blocks.ids ++ b.txs ∷ []
     lists =
@@ -155,21 +156,21 @@ AreCarried-kept kept b blocks k n h =
 -- ---- genesis alone
 
 pub carried_alone : (kept : List ReadBlock) (blocks : Numbered) (k : Carried) (id : ℕ) (ts : List Transaction) → txs_of kept id ≡ ts → blocks.ids ≡ id ∷ [] → blocks.parents ≡ [] ∷ []
-    → IsCarried nothing → IsNumbered blocks → k ≡ with_block blocks.parents nothing ts → IsCarried k → AreCarried kept blocks k
+    → IsCarried nothing → IsNumbered blocks → k ≡ with_block blocks nothing ts → IsCarried k → AreCarried kept blocks k
 carried_alone kept blocks k id ts theirs ids parents none n added is =
     record {
       carried = is;
       theirs =
           subst (λ (x : Carried). Carries (map (txs_of kept) blocks.ids) x) (sym added)
-          (subst (λ (l : List (List Transaction)). Carries l (with_block blocks.parents nothing ts)) (sym lists) (block_carried blocks.parents [] nothing ts none none_carried));
+          (subst (λ (l : List (List Transaction)). Carries l (with_block blocks nothing ts)) (sym lists) (block_carried blocks [] nothing ts none none_carried));
       ids =
-          ap (λ (x : Carried). map id_of x.txs) added ∙ carriers_ids blocks.parents nothing ts
+          ap (λ (x : Carried). map id_of x.txs) added ∙ carriers_ids blocks nothing ts
           ∙ ap (λ (l : List Transaction). fold with_id [] (map id_of l)) (sym theirs)
           ∙ ap each_once (sym (append-nil (map id_of (txs_of kept id))))
           ∙ ap (λ (l : List ℕ). each_once (tx_ids_in kept l)) (sym ids);
       sound =
-          subst (λ (x : Carried). AreSound blocks.parents x) (sym added)
-          (sound_block blocks.parents nothing ts none n.order (let some : 0 < length blocks.parents = n.some in some) (λ i d lt. absurd (omega (arith, lt))));
+          subst (λ (x : Carried). AreSound blocks x) (sym added)
+          (sound_block blocks nothing ts none n.order (let some : 0 < length blocks.parents = n.some in some) (λ i d lt. absurd (omega (arith, lt))));
     }
   where
     lists : map (txs_of kept) blocks.ids ≡ [] ++ ts ∷ []
@@ -177,5 +178,5 @@ carried_alone kept blocks k id ts theirs ids parents none n added is =
 
 -- ---- the blocks of the carriers
 
-pub are_of : (kept : List ReadBlock) (blocks : Numbered) (k : Carried) → IsNumbered blocks → AreCarried kept blocks k → AreOf blocks.parents k
+pub are_of : (kept : List ReadBlock) (blocks : Numbered) (k : Carried) → IsNumbered blocks → AreCarried kept blocks k → AreOf blocks k
 are_of kept blocks k n h = record { long = sym (carried_count kept blocks k n h); order = n.order; sound = h.sound }

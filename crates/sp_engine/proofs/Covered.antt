@@ -1,6 +1,7 @@
 -- One of some views is let go.
 use Rattle.std.proofs.Common.{◌≡◌, ℕ, zero, suc, ◌+◌, ◌<◌, ◌≤◌, Bool, true, false, cond, List, [], ◌∷◌, ◌++◌, length, get_or, take, drop, refl, sym, ap, subst, ◌∙◌, arith}
 use Rattle.std.specs.Prelude.{filter}
+use Rattle.sp_dag.specs.Numbered.{Numbered}
 use Rattle.sp_rows.specs.Pool.{Pool}
 use Rattle.sp_view.specs.Stored.{count_of, row_of}
 use Rattle.sp_view.specs.Views.{Viewed, held}
@@ -12,7 +13,7 @@ held_rest [] i d r lt = absurd (omega (arith, lt))
 held_rest (v ∷ vs) zero d r lt = omega arith
 held_rest (v ∷ vs) (suc i) d r lt = (let rest = held_rest vs i d r (omega (arith, lt)) in omega (arith, rest))
 
-views_rest : (table : List (List ℕ)) (pool : Pool) (n : ℕ) (xs : List Viewed) (i : ℕ) → AreViews table pool n xs → AreViews table pool n (take i xs ++ drop (suc i) xs)
+views_rest : (table : Numbered) (pool : Pool) (n : ℕ) (xs : List Viewed) (i : ℕ) → AreViews table pool n xs → AreViews table pool n (take i xs ++ drop (suc i) xs)
 views_rest table pool n [] zero are = tt
 views_rest table pool n [] (suc i) are = tt
 views_rest table pool n (v ∷ vs) zero are = are.2
@@ -27,7 +28,7 @@ module _ (xs new : List Viewed) (i : ℕ) (d : Viewed) (is : new ≡ take i xs +
   held_without r = held_rest xs i d r lt ∙ ap (λ (l : List Viewed). held_by l r + held (get_or xs i d).entries r) (sym (one_more xs i new is))
 
   -- the others stay
-  pub views_without : (table : List (List ℕ)) (pool pool' : Pool) (n : ℕ) → ((r : ℕ) → held_by new r ≤ count_of pool' r)
+  pub views_without : (table : Numbered) (pool pool' : Pool) (n : ℕ) → ((r : ℕ) → held_by new r ≤ count_of pool' r)
       → ((r : ℕ) → 0 < held_by new r → row_of pool' r ≡ row_of pool r) → AreViews table pool n xs → AreViews table pool' n new
   views_without table pool pool' n counts rows are =
       views_move table pool n pool' new counts rows (subst (λ (l : List Viewed). AreViews table pool n l) (sym (one_more xs i new is)) (views_rest table pool n xs i are))

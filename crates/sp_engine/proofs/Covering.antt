@@ -8,8 +8,8 @@ use Rattle.std.proofs.lemmas.List.{append_assoc, length-map, map-append}
 use Rattle.std.proofs.lemmas.List.Elements.{filter-append}
 use Rattle.std.proofs.lemmas.Option.{slice_get-map, slice_get_within}
 use Rattle.sp_bits.specs.Places.{IsGreatest}
-use Rattle.sp_dag.specs.Numbered.{graph_of, AreInOrder}
-use Rattle.sp_dag.proofs.Whole.{ancestors_lower, past_members}
+use Rattle.sp_dag.specs.Numbered.{Numbered, graph_of, AreInOrder}
+use Rattle.sp_dag.proofs.Ranked.{ancestors_lower, past_members}
 use Rattle.sp_model.specs.Graph.{has, past}
 use Rattle.sp_rows.specs.Pool.{Pool}
 use Rattle.sp_view.specs.Views.{AreKeptIds, IsBest, Viewed}
@@ -100,15 +100,15 @@ all_is v front all view is h =
 -- ---- the tips' views
 
 -- the view at a place before the last is that of a tip
-pub of_tip : (table : List (List ℕ)) (n : ℕ) (views : List Viewed) (i : ℕ) (view : Viewed) → AreOfTips table n views → n ≤ length table → slice_get views i ≡ Some view → i + 1 < length views
-    → (t : ℕ) × (t < n) × (is_tip (take n table) t ≡ true) × (view.members ≡ bar_row table t)
+pub of_tip : (table : Numbered) (n : ℕ) (views : List Viewed) (i : ℕ) (view : Viewed) → AreOfTips table n views → n ≤ length table.parents → slice_get views i ≡ Some view → i + 1 < length views
+    → (t : ℕ) × (t < n) × (is_tip (take n table.parents) t ≡ true) × (view.members ≡ bar_row table t)
 of_tip table n views i view are le at lt =
     let short : i < length are.tips = omega (arith, lt, ap length are.is, length-append are.tips (are.all ∷ [])) in
     let here : slice_get are.tips i ≡ Some view = sym (in_front are.tips (are.all ∷ []) i short) ∙ ap (λ (l : List Viewed). slice_get l i) (sym are.is) ∙ at in
-    let mapped : slice_get (map (bar_row table) (tips_of (take n table))) i ≡ Some view.members =
+    let mapped : slice_get (map (bar_row table) (tips_of (take n table.parents))) i ≡ Some view.members =
     ap (λ (l : List (List ℕ)). slice_get l i) (sym are.each) ∙ slice_get-map (λ (v : Viewed). v.members) are.tips i ∙ ap (option_map (λ (v : Viewed). v.members)) here in
-    let one = from_map (tips_of (take n table)) i view.members mapped in
-    let parts = tip_in table n one.0 le one.1 in
+    let one = from_map (tips_of (take n table.parents)) i view.members mapped in
+    let parts = tip_in table.parents n one.0 le one.1 in
     (one.0, parts.0, parts.1, one.2)
   where
     from_map : (ts : List ℕ) (i : ℕ) (row : List ℕ) → slice_get (map (bar_row table) ts) i ≡ Some row → (t : ℕ) × (has ts t ≡ true) × (row ≡ bar_row table t)
@@ -117,12 +117,12 @@ of_tip table n views i view are le at lt =
     from_map (t ∷ ts) (suc i) row at = (let rest = from_map ts i row at in (rest.0, or_right (eqb t rest.0) (has ts rest.0) rest.1, rest.2))
 
 -- and each tip has one
-pub tip_view_there : (table : List (List ℕ)) (n : ℕ) (views : List Viewed) (t : ℕ) → AreOfTips table n views → has (tips_of (take n table)) t ≡ true
+pub tip_view_there : (table : Numbered) (n : ℕ) (views : List Viewed) (t : ℕ) → AreOfTips table n views → has (tips_of (take n table.parents)) t ≡ true
     → (i : ℕ) × (view : Viewed) × (slice_get views i ≡ Some view) × (i + 1 < length views) × (view.members ≡ bar_row table t)
 tip_view_there table n views t are there =
-    let place = place_of (tips_of (take n table)) t there in
+    let place = place_of (tips_of (take n table.parents)) t there in
     let row : slice_get (map (λ (v : Viewed). v.members) are.tips) place.0 ≡ Some (bar_row table t) =
-    ap (λ (l : List (List ℕ)). slice_get l place.0) are.each ∙ slice_get-map (bar_row table) (tips_of (take n table)) place.0 ∙ ap (option_map (bar_row table)) place.1 in
+    ap (λ (l : List (List ℕ)). slice_get l place.0) are.each ∙ slice_get-map (bar_row table) (tips_of (take n table.parents)) place.0 ∙ ap (option_map (bar_row table)) place.1 in
     let one = from_map are.tips place.0 (bar_row table t) row in
     let short : place.0 < length are.tips = slice_get_within are.tips place.0 one.0 one.1 in
     (place.0, one.0, ap (λ (l : List Viewed). slice_get l place.0) are.is ∙ in_front are.tips (are.all ∷ []) place.0 short ∙ one.1, omega (arith, short, ap length are.is, length-append are.tips (are.all ∷ [])), one.2)
@@ -140,7 +140,7 @@ tip_view_there table n views t are there =
     from_map (v ∷ vs) zero row at = (v, refl, (let e : v.members ≡ row = cc in e))
     from_map (v ∷ vs) (suc i) row at = from_map vs i row at
 
-module _ (table : List (List ℕ)) (order : AreInOrder table) (small : length table ≤ 512) (b : ℕ) (last : b + 1 ≡ length table) (old items new : List Viewed) (tip : Viewed)
+module _ (table : Numbered) (order : AreInOrder table.parents) (small : length table.parents ≤ 512) (b : ℕ) (last : b + 1 ≡ length table.parents) (old items new : List Viewed) (tip : Viewed)
     (were : AreOfTips table b old) (put : IsPut table b old tip items) (own : tip.members ≡ bar_row table b) (rest : new ≡ filter (is_beyond (past (graph_of table) b)) items) where
   -- block b isn't in its past
   not_past : has (past (graph_of table) b) b ≡ false
@@ -174,11 +174,11 @@ module _ (table : List (List ℕ)) (order : AreInOrder table) (small : length ta
         filter_map (λ row. not (list_all (has (past (graph_of table) b)) row)) put.front
         ∙ ap (λ (l : List Viewed). filter (λ row. not (list_all (has (past (graph_of table) b)) row)) (map (λ (v : Viewed). v.members) l)) front_is
         ∙ ap (filter (λ row. not (list_all (has (past (graph_of table) b)) row))) were.each
-        ∙ filter_rows (λ row. not (list_all (has (past (graph_of table) b)) row)) (bar_row table) (λ t. not (has (get_or table b []) t)) (tips_of (take b table))
-        (λ t there. (let parts = tip_in table b t (omega (arith, last)) there in ap not (covers table order small b last t parts.0 parts.1)))
+        ∙ filter_rows (λ row. not (list_all (has (past (graph_of table) b)) row)) (bar_row table) (λ t. not (has (get_or table.parents b []) t)) (tips_of (take b table.parents))
+        (λ t there. (let parts = tip_in table.parents b t (omega (arith, last)) there in ap not (covers table order small b last t parts.0 parts.1)))
         )
-        ∙ ap (λ (row : List ℕ). map (bar_row table) (filter (λ t. not (has (get_or table b []) t)) (tips_of (take b table))) ++ row ∷ []) own
-        ∙ sym (map-append (bar_row table) (filter (λ t. not (has (get_or table b []) t)) (tips_of (take b table))) (b ∷ []))
+        ∙ ap (λ (row : List ℕ). map (bar_row table) (filter (λ t. not (has (get_or table.parents b []) t)) (tips_of (take b table.parents))) ++ row ∷ []) own
+        ∙ sym (map-append (bar_row table) (filter (λ t. not (has (get_or table.parents b []) t)) (tips_of (take b table.parents))) (b ∷ []))
         ∙ ap (map (bar_row table)) (sym (tips_more table b order last));
     members = put.members;
   }
@@ -212,7 +212,7 @@ module _ (table : List (List ℕ)) (order : AreInOrder table) (small : length ta
               let e : view ≡ tip = cc in e
         ]
 
-    other_stays : (n : ℕ) (view : Viewed) → n < b → IsOfTip table v n view → has (get_or table b []) n ≡ false → IsOfTip table v' n view
+    other_stays : (n : ℕ) (view : Viewed) → n < b → IsOfTip table v n view → has (get_or table.parents b []) n ≡ false → IsOfTip table v' n view
     other_stays n view lt h none =
         let front : List Viewed = filter (is_beyond (past (graph_of table) b)) put.front in
         let at : slice_get old h.0 ≡ Some view = ap (λ (l : List Viewed). slice_get l h.0) (sym views_are) ∙ h.1 in
@@ -221,7 +221,7 @@ module _ (table : List (List ℕ)) (order : AreInOrder table) (small : length ta
         let same : n ≡ one.0 = one_top table order small view.members one.0 n (omega (arith, one.1, last)) one.3 (subst (λ (l : List ℕ). IsGreatest l n) (sym h.3) (top_of_bar table order small n (omega (arith, lt, last)))) in
         let stays_too : is_beyond (past (graph_of table) b) view ≡ true =
         ap (λ (l : List ℕ). not (list_all (has (past (graph_of table) b)) l)) one.3 ∙ ap not (covers table order small b last one.0 one.1 one.2)
-        ∙ ap not (ap (has (get_or table b [])) (sym same) ∙ none) in
+        ∙ ap not (ap (has (get_or table.parents b [])) (sym same) ∙ none) in
         let short : h.0 < length put.front = omega (arith, within, ap length put.old_is, length-append put.front (put.all ∷ [])) in
         let in_it : slice_get put.front h.0 ≡ Some view = sym (in_front put.front (put.all ∷ []) h.0 short) ∙ ap (λ (l : List Viewed). slice_get l h.0) (sym put.old_is) ∙ at in
         let found = passes (is_beyond (past (graph_of table) b)) put.front h.0 view in_it stays_too in
@@ -245,11 +245,11 @@ module _ (table : List (List ℕ)) (order : AreInOrder table) (small : length ta
     }
 
 -- there are no more views than blocks and one
-pub few_views : (table : List (List ℕ)) (n : ℕ) (views : List Viewed) → AreOfTips table n views → n ≤ length table → length views ≤ n + 1
+pub few_views : (table : Numbered) (n : ℕ) (views : List Viewed) → AreOfTips table n views → n ≤ length table.parents → length views ≤ n + 1
 few_views table n views are le =
-    let tips : length are.tips ≡ length (tips_of (take n table)) =
-    sym (length-map are.tips (λ (v : Viewed). v.members)) ∙ ap length are.each ∙ length-map (tips_of (take n table)) (bar_row table) in
-    omega (arith, tips, short (is_tip (take n table)) (range_with_len 0 (length (take n table))), length-range 0 (length (take n table)), taken table n le, ap length are.is, length-append are.tips (are.all ∷ []))
+    let tips : length are.tips ≡ length (tips_of (take n table.parents)) =
+    sym (length-map are.tips (λ (v : Viewed). v.members)) ∙ ap length are.each ∙ length-map (tips_of (take n table.parents)) (bar_row table) in
+    omega (arith, tips, short (is_tip (take n table.parents)) (range_with_len 0 (length (take n table.parents))), length-range 0 (length (take n table.parents)), taken table.parents n le, ap length are.is, length-append are.tips (are.all ∷ []))
   where
     short : (p : ℕ → Bool) (xs : List ℕ) → length (filter p xs) ≤ length xs
     short p [] = omega arith

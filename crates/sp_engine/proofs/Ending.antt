@@ -3,8 +3,8 @@ use Rattle.std.proofs.Common.{◌≡◌, ℕ, ◌+◌, ◌-◌, ◌<◌, true, f
 use Rattle.std.specs.List.{range_with_len}
 use Rattle.std.proofs.lemmas.Bool.{cases_lt, false≢true}
 use Rattle.sp_bits.specs.Places.{places_where}
-use Rattle.sp_dag.specs.Numbered.{graph_of, AreInOrder}
-use Rattle.sp_dag.proofs.Whole.{ancestors_lower}
+use Rattle.sp_dag.specs.Numbered.{Numbered, graph_of, AreInOrder}
+use Rattle.sp_dag.proofs.Ranked.{ancestors_lower}
 use Rattle.sp_model.specs.Graph.{has, in_past}
 use Rattle.sp_rows.specs.Pool.{Pool}
 use Rattle.sp_view.specs.Stored.{count_of, row_of}
@@ -38,11 +38,11 @@ pub record IsAtEnd (b k : ℕ) (views : List Viewed) (view : Viewed) : Type 0 wh
   pub ends : EndsWith b views view
 
 -- there is one, whatever the last block's number is
-pub some_there : (table : List (List ℕ)) (len : ℕ) (views : List Viewed) → len ≡ length table → 0 < length table → ((b : ℕ) → b + 1 ≡ length table → IsLast b views) → 0 < length views
+pub some_there : (table : Numbered) (len : ℕ) (views : List Viewed) → len ≡ length table.parents → 0 < length table.parents → ((b : ℕ) → b + 1 ≡ length table.parents → IsLast b views) → 0 < length views
 some_there table len views is some last = last_long (len - 1) views (last (len - 1) (omega (arith, is, some)))
 
-pub at_end : (table : List (List ℕ)) (len long : ℕ) (views : List Viewed) (view : Viewed) → len ≡ length table → 0 < length table → long ≡ length views
-    → ((b : ℕ) → b + 1 ≡ length table → IsLast b views) → view ≡ get_or views (long - 1) view → IsAtEnd (len - 1) (long - 1) views view
+pub at_end : (table : Numbered) (len long : ℕ) (views : List Viewed) (view : Viewed) → len ≡ length table.parents → 0 < length table.parents → long ≡ length views
+    → ((b : ℕ) → b + 1 ≡ length table.parents → IsLast b views) → view ≡ get_or views (long - 1) view → IsAtEnd (len - 1) (long - 1) views view
 at_end table len long views view is some all last at =
     let own : IsLast (len - 1) views = last (len - 1) (omega (arith, is, some)) in
     let place : long - 1 + 1 ≡ length views = omega (arith, all, last_long (len - 1) views own) in
@@ -71,7 +71,7 @@ put_before n views k view new tip ends le =
     ∙ ap (λ (l : List Viewed). l ++ tip ∷ drop (length ends.front) (ends.front ++ new ∷ [])) (take_front ends.front (new ∷ []))
     ∙ ap (λ (l : List Viewed). ends.front ++ tip ∷ l) (drop_front ends.front (new ∷ []))
 
-module _ (table : List (List ℕ)) (pool : Pool) (b n : ℕ) (views : List Viewed) (view tip : Viewed) (ends : EndsWith b views view) (are : AreViews table pool n (tip ∷ views)) where
+module _ (table : Numbered) (pool : Pool) (b n : ℕ) (views : List Viewed) (view tip : Viewed) (ends : EndsWith b views view) (are : AreViews table pool n (tip ∷ views)) where
   in_parts : AreViews table pool n ends.front × AreViews table pool n (view ∷ [])
   in_parts = views_parts table pool n ends.front (view ∷ []) (subst (λ (l : List Viewed). AreViews table pool n l) ends.is are.2)
 
@@ -84,7 +84,7 @@ module _ (table : List (List ℕ)) (pool : Pool) (b n : ℕ) (views : List Viewe
   pub last_new : has view.members b ≡ false
   last_new = ap (λ (l : List ℕ). has l b) ends.members ∙ past_range 0 b b (omega arith)
 
-  pub last_past : AreInOrder table → b < length table → (z : ℕ) → in_past (graph_of table) z b ≡ true → has view.members z ≡ true
+  pub last_past : AreInOrder table.parents → b < length table.parents → (z : ℕ) → in_past (graph_of table) z b ≡ true → has view.members z ≡ true
   last_past order lt z r = (let less : z < b = ancestors_lower table z b order lt r in ap (λ (l : List ℕ). has l z) ends.members ∙ in_range 0 b z (omega arith) (omega (arith, less)))
 
   parts_held : (r : ℕ) → held_by (tip ∷ views) r ≡ held tip.entries r + (held_by ends.front r + held view.entries r)

@@ -8,7 +8,7 @@ use Rattle.std.proofs.lemmas.Bool.{and_parts, eq-eqb, false≢true, or_cases, eq
 use Rattle.sp_block.specs.Block.{ReadBlock}
 use Rattle.sp_model.specs.Graph.{has}
 use Rattle.sp_model.specs.Votes.{virt, word, word_of}
-use Rattle.sp_pool.specs.Kept.{AreKept, graph_of, ids_of, IsNext, present}
+use Rattle.sp_pool.specs.Kept.{AreKept, graph_in, ids_of, IsNext, present}
 use Rattle.sp_pool.proofs.KeptBlocks.{AreDistinct-push, has-push}
 use Rattle.sp_dag.specs.Numbered.{graph_of as numbered_graph, IsNumbered, Numbered}
 use Rattle.sp_carry.specs.Carried.{Carried}
@@ -22,7 +22,7 @@ use Rattle.sp_engine.proofs.NumberedBlocks.{next_fresh, next_kept}
 use Rattle.sp_engine.proofs.WordsByNumbers.{word_by_vote}
 
 abbrev seen : ℕ → List ReadBlock → Bool → Numbered → Tallied → Ledger
-seen bits kept broken blocks votes = record { bits = bits; kept = kept; broken = broken; numbered = blocks; votes = votes }
+seen bits kept broken blocks votes = record { profile = blocks.profile; bits = bits; kept = kept; broken = broken; numbered = blocks; votes = votes }
 
 module _ {bits genesis : ℕ} {kept : List ReadBlock} {blocks : Numbered} {votes : Tallied} where
   -- what is kept, of the value that contracts see
@@ -51,7 +51,7 @@ module _ {bits genesis : ℕ} {kept : List ReadBlock} {blocks : Numbered} {votes
       omega (arith, few, same, e.in_order.long)
 
   pub voted : (x y m n : ℕ) → IsEngine bits kept genesis blocks votes → slice_get blocks.ids m ≡ Some x → slice_get blocks.ids n ≡ Some y → m < length blocks.parents → n < length blocks.parents → (m ≡ n → ⊥)
-      → word_of (virt (numbered_graph blocks.parents) (numbers blocks) m n) ≡ word (graph_of kept) (present kept) x y
+      → word_of (virt (numbered_graph blocks) (numbers blocks) m n) ≡ word (graph_in blocks.profile kept) (present kept) x y
   voted x y m n e at_x at_y lm ln apart = sym (word_by_vote kept blocks x y m n e.all_kept e.in_order e.numbered e.same at_x at_y lm ln apart)
 
 -- the first block is found by its id

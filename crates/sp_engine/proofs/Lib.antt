@@ -44,3 +44,6 @@ pub mod AnyOrder
 pub mod PaidLocks
 pub mod BalancesOwn
 pub mod AllKept
+pub mod NamedCoins
+pub mod NamedOutputs
+pub mod Leaving

@@ -3,14 +3,16 @@ use Rattle.std.proofs.Common.{◌≡◌, ℕ, zero, suc, ◌<◌, Bool, true, fa
 use Rattle.std.specs.Prelude.{find, slice_get, unwrap_or}
 use Rattle.std.specs.List.{list_all}
 use Rattle.std.proofs.Math.ListN.{get_or-append}
+use Rattle.std.proofs.Math.Seq.{get_or-append_seam}
 use Rattle.std.proofs.lemmas.Bool.{and_parts, cases_lt, eqb-true, eq-eqb, false≢true, or_cases, or_left, or_right}
 use Rattle.std.proofs.lemmas.List.{get_or-append_right}
 use Rattle.std.proofs.lemmas.List.Folds.{list_any-append}
 use Rattle.std.proofs.lemmas.Option.{slice_get_within}
 use Rattle.sp_block.specs.Block.{ReadBlock}
-use Rattle.sp_model.specs.Graph.{has, parents_of}
+use Rattle.sp_model.specs.Graph.{has, parents_of, Rank, rank_of}
 use Rattle.sp_model.proofs.Sets.{all_at, all_from}
 use Rattle.sp_pool.specs.Kept.{AreApart, AreKept, graph_of, ids_of, is_ready, IsNext}
+use Rattle.sp_pool.proofs.Ranks.{found_rank, rank-push}
 use Rattle.sp_pool.proofs.Parents.{found_id, found_parents, found_passes, has-ids-push, parents-new, parents-push}
 use Rattle.sp_dag.specs.Numbered.{IsNumbered, number_of, Numbered, with_block}
 use Rattle.sp_dag.proofs.Ids.{number_of_stays}
@@ -64,6 +66,7 @@ AreNumbered-kept kept b blocks fresh some h =
             omega (arith, same, some))
       ];
       parents = λ n id at. h.parents n id at ∙ ap (map (number_of blocks.ids)) (sym (parents-push kept b id (h.there id (has_there blocks.ids id n at))));
+      salts = λ n id at. h.salts n id at ∙ sym (ap (λ (r : Rank). r.salt) (rank-push kept b id (h.there id (has_there blocks.ids id n at))));
     }
 
 -- ---- a block is numbered
@@ -73,6 +76,12 @@ pub found_by : (kept : List ReadBlock) (id : ℕ) (b : ReadBlock) → AreApart k
 found_by kept id b apart found =
     ap (parents_of (graph_of kept)) (sym (eqb-true b.id id (found_passes (λ (x : ReadBlock). eqb x.id id) kept b found)))
     ∙ found_parents (λ (x : ReadBlock). eqb x.id id) kept b apart found
+
+-- and its salt
+pub found_salt : (kept : List ReadBlock) (id : ℕ) (b : ReadBlock) → AreApart kept → find (λ (x : ReadBlock). eqb x.id id) kept ≡ Some b → (rank_of (graph_of kept) id).salt ≡ b.salt
+found_salt kept id b apart found =
+    ap (λ (i : ℕ). (rank_of (graph_of kept) i).salt) (sym (eqb-true b.id id (found_passes (λ (x : ReadBlock). eqb x.id id) kept b found)))
+    ∙ ap (λ (r : Rank). r.salt) (found_rank (λ (x : ReadBlock). eqb x.id id) kept b apart found)
 
 module _ {kept : List ReadBlock} {set : List ℕ} {id : ℕ} where
   pub next_parents : AreApart kept → (h : IsNext kept set id) → parents_of (graph_of kept) id ≡ h.block.parents
@@ -104,9 +113,9 @@ map_same f g (x ∷ xs) h =
 numbers_stay : (ids : List ℕ) (id : ℕ) (ps : List ℕ) → list_all (has ids) ps ≡ true → map (number_of ids) ps ≡ map (number_of (ids ++ id ∷ [])) ps
 numbers_stay ids id ps all = map_same (number_of ids) (number_of (ids ++ id ∷ [])) ps (λ p there. sym (number_of_stays ids p id (all_at (has ids) ps p all there)))
 
-pub AreNumbered-more : (kept : List ReadBlock) (blocks after : Numbered) (id : ℕ) (parents : List ℕ) → AreKept kept → IsNumbered blocks → AreNumbered kept blocks → IsNext kept blocks.ids id
-    → parents_of (graph_of kept) id ≡ parents → after ≡ with_block blocks id parents → AreNumbered kept after
-AreNumbered-more kept blocks after id parents k n h next is e = subst (λ (x : Numbered). AreNumbered kept x) (sym e) grown
+pub AreNumbered-more : (kept : List ReadBlock) (blocks after : Numbered) (id salt : ℕ) (parents : List ℕ) → AreKept kept → IsNumbered blocks → AreNumbered kept blocks → IsNext kept blocks.ids id
+    → parents_of (graph_of kept) id ≡ parents → (rank_of (graph_of kept) id).salt ≡ salt → after ≡ with_block blocks id salt parents → AreNumbered kept after
+AreNumbered-more kept blocks after id salt parents k n h next is is_salt e = subst (λ (x : Numbered). AreNumbered kept x) (sym e) grown
   where
     closed_more : (ps : List ℕ) → list_all (has blocks.ids) ps ≡ true → list_all (has (blocks.ids ++ id ∷ [])) ps ≡ true
     closed_more ps all = all_from (has (blocks.ids ++ id ∷ [])) ps (λ p there. stays blocks.ids id p (all_at (has blocks.ids) ps p all there))
@@ -129,7 +138,19 @@ AreNumbered-more kept blocks after id parents k n h next is e = subst (λ (x : N
           ∙ ap (map (number_of blocks.ids)) (sym is ∙ ap (parents_of (graph_of kept)) same))
     ]
 
-    grown : AreNumbered kept (with_block blocks id parents)
+    salt_at : (m z : ℕ) → slice_get (blocks.ids ++ id ∷ []) m ≡ Some z → get_or (blocks.salts ++ salt ∷ []) m 0 ≡ (rank_of (graph_of kept) z).salt
+    salt_at m z at = elim (cases_lt m (length blocks.ids)) [
+      | inl less ↦ (let inside : m < length blocks.salts = omega (arith, n.long, n.salts_long) in
+          get_or-append blocks.salts (salt ∷ []) 0 m inside ∙ h.salts m z (slice_get-shorter blocks.ids (id ∷ []) m z at less))
+      | inr high ↦ (let within : m < length (blocks.ids ++ id ∷ []) = slice_get_within (blocks.ids ++ id ∷ []) m z at in
+          let last : m ≡ length blocks.ids = omega (arith, length-append blocks.ids (id ∷ [])) in
+          let at_end : m ≡ length blocks.salts = omega (arith, last, n.long, n.salts_long) in
+          let same : id ≡ z = ap (λ (o : Option ℕ). unwrap_or o 0) (sym (slice_get-last blocks.ids id m last) ∙ at) in
+          ap (λ (i : ℕ). get_or (blocks.salts ++ salt ∷ []) i 0) at_end ∙ get_or-append_seam blocks.salts salt [] 0
+          ∙ sym is_salt ∙ ap (λ (i : ℕ). (rank_of (graph_of kept) i).salt) same)
+    ]
+
+    grown : AreNumbered kept (with_block blocks id salt parents)
     grown = record {
       there = λ z there. elim (old_or_new blocks.ids id z there) [
         | inl old ↦ h.there z old
@@ -137,5 +158,6 @@ AreNumbered-more kept blocks after id parents k n h next is e = subst (λ (x : N
       ];
       closed = λ z there. closed_more (parents_of (graph_of kept) z) (all_closed z there);
       others = λ z in_kept absent. h.others z in_kept (not_before blocks.ids id z absent);
+      salts = salt_at;
       parents = λ m z at. entry m z at ∙ numbers_stay blocks.ids id (parents_of (graph_of kept) z) (all_closed z (has_there (blocks.ids ++ id ∷ []) z m at));
     }

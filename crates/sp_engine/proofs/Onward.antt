@@ -1,7 +1,7 @@
 -- The votes stay where a block is added to the graph, before its own votes join.
 use Rattle.std.proofs.Common.{◌≡◌, ◌≤◌, ◌<◌, ◌+◌, ℕ, zero, suc, List, [], ◌∷◌, ◌++◌, length, map, take, Some, refl, sym, ap, subst, ◌∙◌, arith}
 use Rattle.std.specs.Prelude.{slice_get}
-use Rattle.sp_dag.specs.Numbered.{AreInOrder, graph_of, Numbered}
+use Rattle.sp_dag.specs.Numbered.{AreInOrder, graph_of, IsNumbered, Numbered, with_next}
 use Rattle.sp_frozen.proofs.Growth.{frozen_stays}
 use Rattle.sp_model.specs.Graph.{past}
 use Rattle.sp_view.specs.Views.{IsBest, Viewed}
@@ -15,28 +15,30 @@ take_more xs ys zero le = refl
 take_more [] ys (suc n) le = absurd (omega (arith, le))
 take_more {X} (x ∷ xs) ys (suc n) le = ap (λ (l : List X). x ∷ l) (take_more xs ys n (omega (arith, le)))
 
-tips_stay : (table : List (List ℕ)) (ps : List ℕ) (n : ℕ) (v : Tallied) → AreInOrder table → n ≤ length table → AreOfTips table n v.views → AreOfTips (table ++ ps ∷ []) n v.views
-tips_stay table ps n v order le are = record {
+tips_stay : (table : Numbered) (id salt : ℕ) (ps : List ℕ) (n : ℕ) (v : Tallied) → AreInOrder table.parents → n ≤ length table.parents → AreOfTips table n v.views
+    → AreOfTips (with_next table id salt ps) n v.views
+tips_stay table id salt ps n v order le are = record {
   tips = are.tips;
   all = are.all;
   is = are.is;
-  each = are.each ∙ sym (bars_stay table ps n order le) ∙ ap (λ (t : List (List ℕ)). map (bar_row (table ++ ps ∷ [])) (tips_of t)) (sym (take_more table (ps ∷ []) n le));
+  each = are.each ∙ sym (bars_stay table id salt ps n order le)
+      ∙ ap (λ (t : List (List ℕ)). map (bar_row (with_next table id salt ps)) (tips_of t)) (sym (take_more table.parents (ps ∷ []) n le));
   members = are.members;
 }
 
-pub votes_stay : (table more : List (List ℕ)) (ps : List ℕ) (v : Tallied) (beside : List Viewed) → more ≡ table ++ ps ∷ [] → AreInOrder table → AreInOrder more → v.frozen.blocks ≤ length table
-    → HoldsVotes table v beside → HoldsVotes more v beside
-votes_stay table more ps v beside is order order' le h =
-    let after : AreInOrder (table ++ ps ∷ []) = subst (λ (t : List (List ℕ)). AreInOrder t) is order' in
-    subst (λ (t : List (List ℕ)). HoldsVotes t v beside) (sym is) (record {
-      frozen = frozen_stays table ps order after v.frozen h.frozen;
-      views = views_stay table v.rows v.frozen.blocks ps v.views after h.views;
-      shared = shared_stays table v.rows v.frozen.blocks v.views beside h.shared ps after;
-      tips = tips_stay table ps v.frozen.blocks v order le h.tips;
+pub votes_stay : (table more : Numbered) (id salt : ℕ) (ps : List ℕ) (v : Tallied) (beside : List Viewed) → more ≡ with_next table id salt ps → IsNumbered table → AreInOrder more.parents
+    → v.frozen.blocks ≤ length table.parents → HoldsVotes table v beside → HoldsVotes more v beside
+votes_stay table more id salt ps v beside is numbered order' le h =
+    let after : AreInOrder (table.parents ++ ps ∷ []) = subst (λ (t : Numbered). AreInOrder t.parents) is order' in
+    subst (λ (t : Numbered). HoldsVotes t v beside) (sym is) (record {
+      frozen = frozen_stays table id salt ps numbered after v.frozen h.frozen;
+      views = views_stay table v.rows v.frozen.blocks id salt ps v.views numbered after h.views;
+      shared = shared_stays table v.rows v.frozen.blocks v.views beside h.shared id salt ps numbered after;
+      tips = tips_stay table id salt ps v.frozen.blocks v numbered.order le h.tips;
     })
 
 -- only the views count for how votes grew
-pub grew_by_views : (table : List (List ℕ)) (b : ℕ) (old old' new new' : Tallied) → old'.views ≡ old.views → new'.views ≡ new.views → Grew table b old new → Grew table b old' new'
+pub grew_by_views : (table : Numbered) (b : ℕ) (old old' new new' : Tallied) → old'.views ≡ old.views → new'.views ≡ new.views → Grew table b old new → Grew table b old' new'
 grew_by_views table b old old' new new' was now g = record {
   all = λ view view' h h'. g.all view view' (subst (λ (l : List Viewed). (i : ℕ) × (slice_get l i ≡ Some view) × (i + 1 ≡ length l)) was h) (subst (λ (l : List Viewed). (i : ℕ) × (slice_get l i ≡ Some view') × (i + 1 ≡ length l)) now h');
   tip = λ i base view best h. g.tip i base view (subst (λ (l : List Viewed). IsBest l (past (graph_of table) b) i base) was best) (tip_in new' new now b view h);
@@ -47,9 +49,9 @@ grew_by_views table b old old' new new' was now g = record {
     tip_in v w same n view h = subst (λ (l : List Viewed). (i : ℕ) × (slice_get l i ≡ Some view) × (i + 1 < length l) × (view.members ≡ bar_row table n)) same h
 
 -- the first block that joins is the only one so far
-pub one_more : (before now after : Numbered) (v v' v'' : Tallied) → now ≡ before → v' ≡ v → length after.parents ≡ length now.parents + 1 → Grew after.parents (length now.parents) v' v''
-    → (length after.parents ≡ length before.parents + 1) × Grew after.parents (length before.parents) v v''
+pub one_more : (before now after : Numbered) (v v' v'' : Tallied) → now ≡ before → v' ≡ v → length after.parents ≡ length now.parents + 1 → Grew after (length now.parents) v' v''
+    → (length after.parents ≡ length before.parents + 1) × Grew after (length before.parents) v v''
 one_more before now after v v' v'' same same' long grew = (
   long ∙ ap (λ (n : Numbered). length n.parents + 1) same,
-  subst (λ (n : Numbered). Grew after.parents (length n.parents) v v'') same (subst (λ (w : Tallied). Grew after.parents (length now.parents) w v'') same' grew),
+  subst (λ (n : Numbered). Grew after (length n.parents) v v'') same (subst (λ (w : Tallied). Grew after (length now.parents) w v'') same' grew),
 )

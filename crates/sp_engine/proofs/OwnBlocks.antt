@@ -4,9 +4,10 @@ use Rattle.std.specs.Prelude.{find}
 use Rattle.std.proofs.lemmas.Bool.{eqb-true, eq-eqb, false≢true}
 use Rattle.std.proofs.lemmas.Option.{same_Some}
 use Rattle.sp_block.specs.Block.{ReadBlock}
-use Rattle.sp_model.specs.Graph.{has, parents_of}
-use Rattle.sp_pool.specs.Kept.{AreApart, graph_of, ids_of}
+use Rattle.sp_model.specs.Graph.{has, parents_of, rank_of}
+use Rattle.sp_pool.specs.Kept.{AreApart, graph_of, ids_of, rank_in}
 use Rattle.sp_pool.proofs.Parents.{found_parents}
+use Rattle.sp_pool.proofs.Ranks.{found_rank}
 use Rattle.sp_carry.proofs.Members.{any_of_member, in_map, in_map_from, IsIn, member_of_any}
 use Rattle.sp_engine.specs.Transactions.{txs_of, txs_or_none}
 
@@ -38,6 +39,9 @@ one_of_id bs a b apart there too same =
 
 pub own_parents : (bs : List ReadBlock) (b : ReadBlock) → AreApart bs → IsIn bs b → parents_of (graph_of bs) b.id ≡ b.parents
 own_parents bs b apart h = found_parents (λ (x : ReadBlock). eqb x.id b.id) bs b apart (found_own bs b apart h)
+
+pub own_rank : (bs : List ReadBlock) (b : ReadBlock) → AreApart bs → IsIn bs b → rank_of (graph_of bs) b.id ≡ rank_in b
+own_rank bs b apart h = found_rank (λ (x : ReadBlock). eqb x.id b.id) bs b apart (found_own bs b apart h)
 
 pub own_txs : (bs : List ReadBlock) (b : ReadBlock) → AreApart bs → IsIn bs b → txs_of bs b.id ≡ b.txs
 own_txs bs b apart h = ap txs_or_none (found_own bs b apart h)

@@ -6,6 +6,7 @@ use Rattle.std.proofs.lemmas.Bool.{cases_eq, cases_lt}
 use Rattle.std.proofs.Math.ListN.{get_or-append}
 use Rattle.std.proofs.Math.Seq.{get_or-append_right}
 use Rattle.std.proofs.lemmas.List.{append-nil, get_or_past}
+use Rattle.sp_dag.specs.Numbered.{Numbered}
 use Rattle.sp_tx.specs.Parts.{Transaction}
 use Rattle.sp_tx.specs.Spending.{id_of}
 use Rattle.sp_carry.specs.declared.carrier.Flip.{Flip}
@@ -24,21 +25,21 @@ goes_nowhere xs = ([], sym (append-nil xs))
 pub goes_then : (xs ys zs : List Transaction) → GoesOn xs ys → GoesOn ys zs → GoesOn xs zs
 goes_then xs ys zs a b = (a.0 ++ b.0, b.1 ∙ ap (λ (l : List Transaction). l ++ b.0) a.1 ∙ append_assoc xs a.0 b.0)
 
-carrier_goes : (parents : List (List ℕ)) (k : Carried) (t : Transaction) → GoesOn k.txs (with_carrier parents k t).txs
-carrier_goes parents k t = at (number_of k (id_of t))
+carrier_goes : (table : Numbered) (k : Carried) (t : Transaction) → GoesOn k.txs (with_carrier table k t).txs
+carrier_goes table k t = at (number_of k (id_of t))
   where
-    at : (o : Option ℕ) → GoesOn k.txs (carried_by parents k t o).txs
+    at : (o : Option ℕ) → GoesOn k.txs (carried_by table k t o).txs
     at None = (t ∷ [], refl)
     at (Some n) = goes_nowhere k.txs
 
-carriers_go : (parents : List (List ℕ)) (k : Carried) (ts : List Transaction) → GoesOn k.txs (with_carriers parents k ts).txs
-carriers_go parents k [] = goes_nowhere k.txs
-carriers_go parents k (t ∷ ts) =
-    goes_then k.txs (with_carrier parents k t).txs (with_carriers parents (with_carrier parents k t) ts).txs (carrier_goes parents k t) (carriers_go parents (with_carrier parents k t) ts)
+carriers_go : (table : Numbered) (k : Carried) (ts : List Transaction) → GoesOn k.txs (with_carriers table k ts).txs
+carriers_go table k [] = goes_nowhere k.txs
+carriers_go table k (t ∷ ts) =
+    goes_then k.txs (with_carrier table k t).txs (with_carriers table (with_carrier table k t) ts).txs (carrier_goes table k t) (carriers_go table (with_carrier table k t) ts)
 
 -- a block's transactions come behind the others
-pub block_goes : (parents : List (List ℕ)) (k new : Carried) (ts : List Transaction) → new ≡ with_block parents k ts → GoesOn k.txs new.txs
-block_goes parents k new ts e = subst (λ (c : Carried). GoesOn k.txs c.txs) (sym e) (carriers_go parents k ts)
+pub block_goes : (table : Numbered) (k new : Carried) (ts : List Transaction) → new ≡ with_block table k ts → GoesOn k.txs new.txs
+block_goes table k new ts e = subst (λ (c : Carried). GoesOn k.txs c.txs) (sym e) (carriers_go table k ts)
 
 pub front_of : (xs ys : List Transaction) → GoesOn xs ys → take (length xs) ys ≡ xs
 front_of xs ys on = ap (take (length xs)) on.1 ∙ front xs on.0

@@ -2,7 +2,7 @@
 use Rattle.std.proofs.Common.{◌≡◌, ℕ, zero, suc, ◌+◌, ◌*◌, ◌<◌, ◌≤◌, Bool, true, cond, List, [], ◌∷◌, ◌++◌, length, Option, Some, None, refl, ap, subst, eqb, inl, inr, arith}
 use Rattle.std.proofs.lemmas.Bool.{cases_eq, eq-eqb, ne_eqb}
 use Rattle.std.specs.Prelude.{slice_get}
-use Rattle.sp_dag.specs.Numbered.{pairs_of, AreInOrder}
+use Rattle.sp_dag.specs.Numbered.{IsNumbered, with_next, Numbered, pairs_of, AreInOrder}
 use Rattle.sp_model.specs.Graph.{has}
 use Rattle.sp_rows.specs.Pool.{AreRows, Counted, Pool}
 use Rattle.sp_rows.specs.Pool as counted
@@ -12,7 +12,7 @@ use Rattle.sp_view.proofs.Staying.{view_stays, view_moves}
 use Rattle.sp_engine.specs.Votes.{held_by, AreViews}
 
 -- each is a view of blocks below the number
-pub view_of : (table : List (List ℕ)) (pool : Pool) (n : ℕ) (views : List Viewed) (i : ℕ) (view : Viewed) → AreViews table pool n views → slice_get views i ≡ Some view
+pub view_of : (table : Numbered) (pool : Pool) (n : ℕ) (views : List Viewed) (i : ℕ) (view : Viewed) → AreViews table pool n views → slice_get views i ≡ Some view
     → IsView table view pool × ((z : ℕ) → has view.members z ≡ true → z < n)
 view_of table pool n [] i view are at = cc
 view_of table pool n (v ∷ vs) zero view are at = (let e : v ≡ view = cc in subst (λ (w : Viewed). IsView table w pool × ((z : ℕ) → has w.members z ≡ true → z < n)) e (are.0, are.1))
@@ -28,7 +28,7 @@ pub held_more : (xs ys : List Viewed) (r : ℕ) → held_by (xs ++ ys) r ≡ hel
 held_more [] ys r = omega arith
 held_more (v ∷ xs) ys r = (let rest = held_more xs ys r in omega (arith, rest))
 
-module _ (table : List (List ℕ)) (pool : Pool) (n : ℕ) where
+module _ (table : Numbered) (pool : Pool) (n : ℕ) where
   pub views_more : (xs ys : List Viewed) → AreViews table pool n xs → AreViews table pool n ys → AreViews table pool n (xs ++ ys)
   views_more [] ys one two = two
   views_more (v ∷ xs) ys one two = (one.0, one.1, views_more xs ys one.2 two)
@@ -53,9 +53,10 @@ module _ (table : List (List ℕ)) (pool : Pool) (n : ℕ) where
   )
 
   -- beside a block more
-  pub views_stay : (ps : List ℕ) (views : List Viewed) → AreInOrder (table ++ ps ∷ []) → AreViews table pool n views → AreViews (table ++ ps ∷ []) pool n views
-  views_stay ps [] order are = tt
-  views_stay ps (v ∷ vs) order are = (view_stays table ps v pool order are.0, are.1, views_stay ps vs order are.2)
+  pub views_stay : (id salt : ℕ) (ps : List ℕ) (views : List Viewed) → IsNumbered table → AreInOrder (table.parents ++ ps ∷ []) → AreViews table pool n views
+      → AreViews (with_next table id salt ps) pool n views
+  views_stay id salt ps [] numbered order are = tt
+  views_stay id salt ps (v ∷ vs) numbered order are = (view_stays table id salt ps v pool numbered order are.0, are.1, views_stay id salt ps vs numbered order are.2)
 
   -- each view holds a row once at most
   pub few_held_by : (views : List Viewed) (r : ℕ) → AreViews table pool n views → held_by views r ≤ length views
@@ -131,7 +132,7 @@ total_held (e ∷ es) rows are =
     let sum : total (λ r. holds e r + held es r) rows ≡ total (holds e) rows + total (held es) rows = total_add (holds e) (held es) rows in
     omega (arith, rest, sum, total_holds e rows are)
 
-module _ (table : List (List ℕ)) (pool : Pool) (n : ℕ) (small : length (pairs_of table) ≤ 130816) where
+module _ (table : Numbered) (pool : Pool) (n : ℕ) (small : length (pairs_of table) ≤ 130816) where
   total_held_by : (views : List Viewed) (rows : List Counted) → AreRows 0 rows → AreViews table pool n views → total (held_by views) rows ≤ 261632 * length views
   total_held_by [] rows sound are = (let none : total (λ r. 0) rows ≡ 0 = total_zero (λ r. 0) rows (λ r. refl) in omega (arith, none))
   total_held_by (v ∷ vs) rows sound are =

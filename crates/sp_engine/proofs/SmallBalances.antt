@@ -9,6 +9,7 @@ use Rattle.sp_tx.specs.Format.{sum_so_far}
 use Rattle.sp_tx.specs.Parts.{Transaction}
 use Rattle.sp_tx.specs.Spelling.{IsOutput, IsTx}
 use Rattle.sp_block.specs.Block.{IsBlock, ReadBlock}
+use Rattle.sp_model.specs.declared.profile.Profile.{Profile}
 use Rattle.sp_model.specs.Graph.{has}
 use Rattle.sp_model.proofs.Pasts.{complete_key}
 use Rattle.sp_pool.specs.Kept.{AreKept, graph_of, ids_of, present}
@@ -80,7 +81,7 @@ left_at_most txs lock =
 
 -- ---- all of them
 
-module _ (kept : List ReadBlock) (h : AreKept kept) where
+module _ (profile : Profile) (kept : List ReadBlock) (h : AreKept kept) where
   -- the first transaction of an id is one of a kept block too
   stood_for : (z : ℕ) (t : Transaction) → IsIn (txs_of kept z) t → IsTx (first_like (txs_in kept (order_of kept)) t)
   stood_for z t there =
@@ -106,35 +107,35 @@ module _ (kept : List ReadBlock) (h : AreKept kept) where
       (λ z there. ap (λ (ks : List ℕ). has ks z) (sym (keys-graph_of kept)) ∙ complete_key (graph_of kept) z there) in
       omega (arith, within, length-map kept (λ (b : ReadBlock). b.id), h.few)
 
-  paid_by : (t : Payment) (z : ℕ) → IsIn ((ledger_by_id kept).txs z) t → paid t ≤ 2 ^ 63
+  paid_by : (t : Payment) (z : ℕ) → IsIn ((ledger_by_id profile kept).txs z) t → paid t ≤ 2 ^ 63
   paid_by t z there =
       let s : (s : Transaction) × IsIn (txs_of kept z) s × (payment_of (first_like (txs_in kept (order_of kept)) s) ≡ t) =
       in_map (λ s. payment_of (first_like (txs_in kept (order_of kept)) s)) (txs_of kept z) t there in
       subst (λ (p : Payment). paid p ≤ 2 ^ 63) s.2 (paid_small (first_like (txs_in kept (order_of kept)) s.0) (stood_for z s.0 s.1))
 
-  block_small : (z : ℕ) → sums paid ((ledger_by_id kept).txs z) ≤ 2 ^ 71
+  block_small : (z : ℕ) → sums paid ((ledger_by_id profile kept).txs z) ≤ 2 ^ 71
   block_small z =
-      let all : sums paid ((ledger_by_id kept).txs z) ≤ length ((ledger_by_id kept).txs z) * 2 ^ 63 =
-      sums_bounded paid (2 ^ 63) ((ledger_by_id kept).txs z) (λ t there. paid_by t z there) in
+      let all : sums paid ((ledger_by_id profile kept).txs z) ≤ length ((ledger_by_id profile kept).txs z) * 2 ^ 63 =
+      sums_bounded paid (2 ^ 63) ((ledger_by_id profile kept).txs z) (λ t there. paid_by t z there) in
       omega (arith, all, few_in_block z, length-map (txs_of kept z) (λ s. payment_of (first_like (txs_in kept (order_of kept)) s)))
 
-  accepted_small : sums paid (accepted_carriers (ledger_by_id kept) (present kept)) ≤ 2 ^ 80
+  accepted_small : sums paid (accepted_carriers (ledger_by_id profile kept) (present kept)) ≤ 2 ^ 80
   accepted_small =
-      let each : sums paid (accepted_carriers (ledger_by_id kept) (present kept))
-      ≡ sums (λ z. sums paid (filter (λ t. accepts (ledger_by_id kept) (present kept) z t) ((ledger_by_id kept).txs z))) (present kept) =
-      sums-flat_map paid (λ z. filter (λ t. accepts (ledger_by_id kept) (present kept) z t) ((ledger_by_id kept).txs z)) (present kept) in
-      let all : sums (λ z. sums paid (filter (λ t. accepts (ledger_by_id kept) (present kept) z t) ((ledger_by_id kept).txs z))) (present kept) ≤ length (present kept) * 2 ^ 71 =
-      sums_bounded (λ z. sums paid (filter (λ t. accepts (ledger_by_id kept) (present kept) z t) ((ledger_by_id kept).txs z))) (2 ^ 71) (present kept)
-      (λ z there. let fewer : sums paid (filter (λ t. accepts (ledger_by_id kept) (present kept) z t) ((ledger_by_id kept).txs z)) ≤ sums paid ((ledger_by_id kept).txs z) =
-      sums_filter paid (λ t. accepts (ledger_by_id kept) (present kept) z t) ((ledger_by_id kept).txs z) in omega (arith, fewer, block_small z)) in
+      let each : sums paid (accepted_carriers (ledger_by_id profile kept) (present kept))
+      ≡ sums (λ z. sums paid (filter (λ t. accepts (ledger_by_id profile kept) (present kept) z t) ((ledger_by_id profile kept).txs z))) (present kept) =
+      sums-flat_map paid (λ z. filter (λ t. accepts (ledger_by_id profile kept) (present kept) z t) ((ledger_by_id profile kept).txs z)) (present kept) in
+      let all : sums (λ z. sums paid (filter (λ t. accepts (ledger_by_id profile kept) (present kept) z t) ((ledger_by_id profile kept).txs z))) (present kept) ≤ length (present kept) * 2 ^ 71 =
+      sums_bounded (λ z. sums paid (filter (λ t. accepts (ledger_by_id profile kept) (present kept) z t) ((ledger_by_id profile kept).txs z))) (2 ^ 71) (present kept)
+      (λ z there. let fewer : sums paid (filter (λ t. accepts (ledger_by_id profile kept) (present kept) z t) ((ledger_by_id profile kept).txs z)) ≤ sums paid ((ledger_by_id profile kept).txs z) =
+      sums_filter paid (λ t. accepts (ledger_by_id profile kept) (present kept) z t) ((ledger_by_id profile kept).txs z) in omega (arith, fewer, block_small z)) in
       omega (arith, each, all, few_present)
 
-  pub small_balance : (lock : ℕ) → balance_by_id kept lock < 2 ^ 81
+  pub small_balance : (lock : ℕ) → balance_by_id profile kept lock < 2 ^ 81
   unfolding balance_by_id
   small_balance lock =
-      let txs : List Payment = accepted_txs (ledger_by_id kept) (present kept) in
+      let txs : List Payment = accepted_txs (ledger_by_id profile kept) (present kept) in
       let is : sum_by amount_of (filter (λ (c : Coin). eqb c.lock lock) (unspent txs)) ≡ sums amount_of (filter (λ (c : Coin). eqb c.lock lock) (unspent txs)) =
       sum_by_is amount_of (filter (λ (c : Coin). eqb c.lock lock) (unspent txs)) in
       let most : sums amount_of (filter (λ (c : Coin). eqb c.lock lock) (unspent txs)) ≤ sums paid txs = left_at_most txs lock in
-      let once : sums paid txs ≤ sums paid (accepted_carriers (ledger_by_id kept) (present kept)) = sums_firsts paid (accepted_carriers (ledger_by_id kept) (present kept)) in
+      let once : sums paid txs ≤ sums paid (accepted_carriers (ledger_by_id profile kept) (present kept)) = sums_firsts paid (accepted_carriers (ledger_by_id profile kept) (present kept)) in
       omega (arith, is, most, once, accepted_small)

@@ -10,7 +10,7 @@ use Rattle.sp_block.specs.Block.{ReadBlock}
 use Rattle.sp_model.specs.Graph.{AreDistinct, has, IsDownset}
 use Rattle.sp_pool.specs.Kept.{present}
 use Rattle.sp_dag.specs.Numbered.{graph_of as numbered_graph, Numbered}
-use Rattle.sp_dag.proofs.Whole.{downset_numbered, IsGraph_numbered, keys_are_numbers}
+use Rattle.sp_dag.proofs.Ranked.{downset_numbered, IsGraph_numbered, keys_are_numbers}
 use Rattle.sp_engine.specs.Votes.{Tallied}
 use Rattle.sp_carry.specs.declared.state.TxState.{TxState}
 use Rattle.sp_carry.specs.declared.state.TxState.TheVariants.{Absent}
@@ -56,36 +56,36 @@ module _ {bits genesis : ℕ} {kept : List ReadBlock} {blocks : Numbered} {votes
 
   -- ---- what the present blocks carry stands in the lists of the numbered ones
 
-  flat_carried : (t : Transaction) → IsIn flat t → IsIn (carried (ledger_of kept) (present kept)) (payment_of t)
+  flat_carried : (t : Transaction) → IsIn flat t → IsIn (carried (ledger_of blocks.profile kept) (present kept)) (payment_of t)
   flat_carried t there =
       let l : (l : List Transaction) × IsIn lists l × IsIn l t = in_flat_map (λ b. b) lists t there in
       let z : (z : ℕ) × IsIn blocks.ids z × (txs_of kept z ≡ l.0) = in_map (txs_of kept) blocks.ids l.0 l.1 in
-      carried_in (ledger_of kept) (present kept) z.0 (payment_of t) (sym (e.same z.0) ∙ has_from_in blocks.ids z.0 z.1)
+      carried_in (ledger_of blocks.profile kept) (present kept) z.0 (payment_of t) (sym (e.same z.0) ∙ has_from_in blocks.ids z.0 z.1)
       (in_map_from payment_of (txs_of kept z.0) t (subst (λ (ts : List Transaction). IsIn ts t) (sym z.2) l.2))
 
-  carried_flat : (p : Payment) → IsIn (carried (ledger_of kept) (present kept)) p → (t : Transaction) × IsIn flat t × (payment_of t ≡ p)
+  carried_flat : (p : Payment) → IsIn (carried (ledger_of blocks.profile kept) (present kept)) p → (t : Transaction) × IsIn flat t × (payment_of t ≡ p)
   carried_flat p there =
-      let z : (z : ℕ) × IsIn (present kept) z × IsIn (map payment_of (txs_of kept z)) p = in_flat_map (ledger_of kept).txs (present kept) p there in
+      let z : (z : ℕ) × IsIn (present kept) z × IsIn (map payment_of (txs_of kept z)) p = in_flat_map (ledger_of blocks.profile kept).txs (present kept) p there in
       let t : (t : Transaction) × IsIn (txs_of kept z.0) t × (payment_of t ≡ p) = in_map payment_of (txs_of kept z.0) p z.2 in
       let numbered : IsIn blocks.ids z.0 = in_from_has blocks.ids z.0 (e.same z.0 ∙ has_from_in (present kept) z.0 z.1) in
       (t.0, in_flat_map_from (λ b. b) lists (txs_of kept z.0) t.0 (in_map_from (txs_of kept) blocks.ids z.0 numbered) t.1, t.2)
 
   -- an id is carried where a number has it
-  carried_is : (id : ℕ) → is_carried (ledger_of kept) (present kept) id ≡ has (map id_of k.txs) id
-  carried_is id = bool_same (is_carried (ledger_of kept) (present kept) id) (has (map id_of flat) id) there back ∙ sym (h.carriers.theirs.ids id)
+  carried_is : (id : ℕ) → is_carried (ledger_of blocks.profile kept) (present kept) id ≡ has (map id_of k.txs) id
+  carried_is id = bool_same (is_carried (ledger_of blocks.profile kept) (present kept) id) (has (map id_of flat) id) there back ∙ sym (h.carriers.theirs.ids id)
     where
-      there : is_carried (ledger_of kept) (present kept) id ≡ true → has (map id_of flat) id ≡ true
+      there : is_carried (ledger_of blocks.profile kept) (present kept) id ≡ true → has (map id_of flat) id ≡ true
       there c =
-          let p : (p : Payment) × IsIn (carried (ledger_of kept) (present kept)) p × (eqb p.id id ≡ true) =
-          member_of_any (λ (p : Payment). eqb p.id id) (carried (ledger_of kept) (present kept)) c in
+          let p : (p : Payment) × IsIn (carried (ledger_of blocks.profile kept) (present kept)) p × (eqb p.id id ≡ true) =
+          member_of_any (λ (p : Payment). eqb p.id id) (carried (ledger_of blocks.profile kept) (present kept)) c in
           let t : (t : Transaction) × IsIn flat t × (payment_of t ≡ p.0) = carried_flat p.0 p.1 in
           any_of_member (λ i. eqb i id) (map id_of flat) (id_of t.0) (in_map_from id_of flat t.0 t.1) (ap (λ (q : Payment). eqb q.id id) t.2 ∙ p.2)
 
-      back : has (map id_of flat) id ≡ true → is_carried (ledger_of kept) (present kept) id ≡ true
+      back : has (map id_of flat) id ≡ true → is_carried (ledger_of blocks.profile kept) (present kept) id ≡ true
       back c =
           let i : (i : ℕ) × IsIn (map id_of flat) i × (eqb i id ≡ true) = member_of_any (λ i. eqb i id) (map id_of flat) c in
           let t : (t : Transaction) × IsIn flat t × (id_of t ≡ i.0) = in_map id_of flat i.0 i.1 in
-          any_of_member (λ (p : Payment). eqb p.id id) (carried (ledger_of kept) (present kept)) (payment_of t.0) (flat_carried t.0 t.1)
+          any_of_member (λ (p : Payment). eqb p.id id) (carried (ledger_of blocks.profile kept) (present kept)) (payment_of t.0) (flat_carried t.0 t.1)
           (ap (λ (j : ℕ). eqb j id) t.2 ∙ i.2)
 
   -- ---- no number, no carrier
@@ -98,14 +98,14 @@ module _ {bits genesis : ℕ} {kept : List ReadBlock} {blocks : Numbered} {votes
       any_of_member (λ i. eqb i id) (map id_of k.txs) (id_of (tx_at k n)) (in_map_from id_of k.txs (tx_at k n) (list_in k.txs n (of_parts [] []) (number_within k id n e)))
       (eq-eqb (id_of (tx_at k n)) id (number_id k id n e))
 
-  pub absent_is : (id : ℕ) (r : TxState) → r ≡ state_by_number k a.txs id → (r ≡ Absent) ↔ IsFalse (is_carried (ledger_of kept) (present kept) id)
+  pub absent_is : (id : ℕ) (r : TxState) → r ≡ state_by_number k a.txs id → (r ≡ Absent) ↔ IsFalse (is_carried (ledger_of blocks.profile kept) (present kept) id)
   absent_is id r is = at (number_of k id) refl
     where
       flagged : (b : Bool) → state_of_flag b ≡ Absent → ⊥
       flagged true e = cc
       flagged false e = cc
 
-      at : (o : Option ℕ) → number_of k id ≡ o → (r ≡ Absent) ↔ IsFalse (is_carried (ledger_of kept) (present kept) id)
+      at : (o : Option ℕ) → number_of k id ≡ o → (r ≡ Absent) ↔ IsFalse (is_carried (ledger_of blocks.profile kept) (present kept) id)
       at None e = (λ _. carried_is id ∙ number_none id e, λ _. is ∙ ap (state_of_number a.txs) e)
       at (Some n) e = (
         λ absent. absurd (flagged (is_set a.txs n) (sym (ap (state_of_number a.txs) e) ∙ sym is ∙ absent)),
@@ -126,37 +126,37 @@ module _ {bits genesis : ℕ} {kept : List ReadBlock} {blocks : Numbered} {votes
   all_txs : flat ≡ txs_in kept (order_of kept)
   all_txs = flat_of_map (txs_of kept) blocks.ids ∙ ap (txs_in kept) e.order
 
-  txs_are : (w : ℕ) → has (numbers blocks) w ≡ true → (ledger_by_id kept).txs (get_or blocks.ids w 0) ≡ (numbered_ledger blocks.parents k).txs w
+  txs_are : (w : ℕ) → has (numbers blocks) w ≡ true → (ledger_by_id blocks.profile kept).txs (get_or blocks.ids w 0) ≡ (numbered_ledger blocks k).txs w
   txs_are w there =
       let small : w < length blocks.ids = (let s : w < length blocks.parents = number_small w there in omega (arith, s, count)) in
       sym (h.carriers.theirs.theirs w (omega (arith, small, length-map blocks.ids (txs_of kept)))
       ∙ ap (map (λ (t : Transaction). payment_of (first_like flat t))) (get_or-map (txs_of kept) blocks.ids w [] small)
       ∙ ap (λ (all : List Transaction). map (λ (t : Transaction). payment_of (first_like all t)) (txs_of kept (get_or blocks.ids w 0))) all_txs)
 
-  down : IsDownset (numbered_graph blocks.parents) (numbers blocks)
-  down = subst (λ (l : List ℕ). IsDownset (numbered_graph blocks.parents) l) (keys_are_numbers blocks.parents) (downset_numbered blocks.parents e.in_order.order)
+  down : IsDownset (numbered_graph blocks) (numbers blocks)
+  down = subst (λ (l : List ℕ). IsDownset (numbered_graph blocks) l) (keys_are_numbers blocks) (downset_numbered blocks e.in_order.order)
 
   once : AreDistinct (numbers blocks)
-  once = subst (λ (l : List ℕ). AreDistinct l) (keys_are_numbers blocks.parents) (IsGraph_numbered blocks e.in_order).distinct
+  once = subst (λ (l : List ℕ). AreDistinct l) (keys_are_numbers blocks) (IsGraph_numbered blocks e.in_order).distinct
 
-  pub state_is : (id : ℕ) (r : TxState) → r ≡ state_by_number k a.txs id → r ≡ state_of kept id
+  pub state_is : (id : ℕ) (r : TxState) → r ≡ state_by_number k a.txs id → r ≡ state_of blocks.profile kept id
   unfolding state_of
   state_is id r is =
-      is ∙ sym (states blocks.parents k a h.carriers.carried (are_of kept blocks k e.in_order h.carriers) h.right h.all id)
-      ∙ ap (λ (s : List ℕ). state (numbered_ledger blocks.parents k) s id) set_is
-      ∙ sym (state_renamed (λ n. get_or blocks.ids n 0) (numbered_ledger blocks.parents k) (ledger_by_id kept) (numbers blocks) (present kept) id
+      is ∙ sym (states blocks k a h.carriers.carried (are_of kept blocks k e.in_order h.carriers) h.right h.all id)
+      ∙ ap (λ (s : List ℕ). state (numbered_ledger blocks k) s id) set_is
+      ∙ sym (state_renamed (λ n. get_or blocks.ids n 0) (numbered_ledger blocks k) (ledger_by_id blocks.profile kept) (numbers blocks) (present kept) id
       (IsRenamed-ids kept blocks e.all_kept e.in_order e.numbered) down (AreRenamed-ids kept blocks e.all_kept e.in_order e.numbered e.same)
-      once (AreDistinct-present kept e.all_kept.apart) txs_are (numbered_plain blocks.parents k (numbers blocks) h.carriers.carried))
+      once (AreDistinct-present kept e.all_kept.apart) txs_are (numbered_plain blocks k (numbers blocks) h.carriers.carried))
 
-  pub plain_state_is : (id : ℕ) (r : TxState) → r ≡ state_by_number k a.txs id → IsPlain (ledger_of kept) (present kept) → r ≡ state (ledger_of kept) (present kept) id
-  plain_state_is id r is plain = state_is id r is ∙ states_agree kept e.all_kept.apart plain id
+  pub plain_state_is : (id : ℕ) (r : TxState) → r ≡ state_by_number k a.txs id → IsPlain (ledger_of blocks.profile kept) (present kept) → r ≡ state (ledger_of blocks.profile kept) (present kept) id
+  plain_state_is id r is plain = state_is id r is ∙ states_agree blocks.profile kept e.all_kept.apart plain id
 
   -- ---- transactions in order
 
   pub ids_are : tx_ids kept ≡ map id_of k.txs
   ids_are = ap (λ (l : List ℕ). each_once (tx_ids_in kept l)) (sym e.order) ∙ sym h.carriers.ids
 
-  pub ids_carried : (id : ℕ) → has (tx_ids kept) id ≡ is_carried (ledger_of kept) (present kept) id
+  pub ids_carried : (id : ℕ) → has (tx_ids kept) id ≡ is_carried (ledger_of blocks.profile kept) (present kept) id
   ids_carried id = ap (λ (l : List ℕ). has l id) ids_are ∙ sym (carried_is id)
 
   pub ids_once : AreDistinct (tx_ids kept)
@@ -168,14 +168,14 @@ module _ {bits genesis : ℕ} {kept : List ReadBlock} {blocks : Numbered} {votes
   pub id_of_number : (i : ℕ) → i < length k.txs → slice_get (tx_ids kept) i ≡ Some (id_of (tx_at k i))
   id_of_number i lt = ap (λ (l : List ℕ). slice_get l i) ids_are ∙ id_at k.txs i lt
 
-  pub accepted_is : (i : ℕ) → i < length k.txs → is_set a.txs i ≡ is_accepted (ledger_by_id kept) (present kept) (id_of (tx_at k i))
+  pub accepted_is : (i : ℕ) → i < length k.txs → is_set a.txs i ≡ is_accepted (ledger_by_id blocks.profile kept) (present kept) (id_of (tx_at k i))
   accepted_is i lt =
       h.right.txs i lt
-      ∙ ap (λ (s : List ℕ). is_accepted (numbered_ledger blocks.parents k) s (id_of (tx_at k i))) set_is
-      ∙ sym (accepted_renamed (λ n. get_or blocks.ids n 0) (numbered_ledger blocks.parents k) (ledger_by_id kept) (numbers blocks) (present kept) (id_of (tx_at k i))
+      ∙ ap (λ (s : List ℕ). is_accepted (numbered_ledger blocks k) s (id_of (tx_at k i))) set_is
+      ∙ sym (accepted_renamed (λ n. get_or blocks.ids n 0) (numbered_ledger blocks k) (ledger_by_id blocks.profile kept) (numbers blocks) (present kept) (id_of (tx_at k i))
       (IsRenamed-ids kept blocks e.all_kept e.in_order e.numbered) down (AreRenamed-ids kept blocks e.all_kept e.in_order e.numbered e.same)
-      once (AreDistinct-present kept e.all_kept.apart) txs_are (numbered_plain blocks.parents k (numbers blocks) h.carriers.carried))
+      once (AreDistinct-present kept e.all_kept.apart) txs_are (numbered_plain blocks k (numbers blocks) h.carriers.carried))
 
-  pub plain_accepted_is : (i : ℕ) → i < length k.txs → IsPlain (ledger_of kept) (present kept)
-      → is_set a.txs i ≡ is_accepted (ledger_of kept) (present kept) (id_of (tx_at k i))
-  plain_accepted_is i lt plain = accepted_is i lt ∙ acceptance_agrees kept e.all_kept.apart plain (id_of (tx_at k i))
+  pub plain_accepted_is : (i : ℕ) → i < length k.txs → IsPlain (ledger_of blocks.profile kept) (present kept)
+      → is_set a.txs i ≡ is_accepted (ledger_of blocks.profile kept) (present kept) (id_of (tx_at k i))
+  plain_accepted_is i lt plain = accepted_is i lt ∙ acceptance_agrees blocks.profile kept e.all_kept.apart plain (id_of (tx_at k i))

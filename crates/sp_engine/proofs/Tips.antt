@@ -3,9 +3,9 @@ use Rattle.std.proofs.Common.{◌≡◌, ℕ, ◌+◌, ◌<◌, ◌≤◌, Bool,
 use Rattle.std.proofs.lemmas.Bool.{false_from_ne_true}
 use Rattle.sp_bits.specs.Places.{IsRow, places_where}
 use Rattle.sp_bits.proofs.Sets.{places_same}
-use Rattle.sp_dag.specs.Numbered.{graph_of, AreInOrder}
+use Rattle.sp_dag.specs.Numbered.{Numbered, graph_of, AreInOrder}
 use Rattle.sp_dag.proofs.Bools.{eqb_flip, or_comm}
-use Rattle.sp_dag.proofs.Whole.{ancestors_lower, complete_numbered, past_members}
+use Rattle.sp_dag.proofs.Ranked.{ancestors_lower, complete_numbered, past_members}
 use Rattle.sp_model.specs.Graph.{Graph, has, in_past, past, IsDownset}
 use Rattle.sp_model.specs.Loose.{in_bar}
 use Rattle.sp_model.proofs.Pasts.{has-past, past_downset}
@@ -16,7 +16,7 @@ use Rattle.sp_view.specs.Views.{AreKeptIds, entry_at, held, KeepIds, Viewed}
 use Rattle.sp_engine.specs.Votes.{AreKeptIdsBy, AreViews, bar_row, held_by, KeepIdsBy}
 use Rattle.sp_engine.proofs.Sharing.{views_move, views_up}
 
-module _ (table : List (List ℕ)) (b : ℕ) (order : AreInOrder table) (lt : b < length table) (row : List ℕ) (is : row ≡ past (graph_of table) b) where
+module _ (table : Numbered) (b : ℕ) (order : AreInOrder table.parents) (lt : b < length table.parents) (row : List ℕ) (is : row ≡ past (graph_of table) b) where
   pub past_asked : IsRow row → IsAsked (graph_of table) row
   past_asked r = record { row = r; down = subst (λ (l : List ℕ). IsDownset (graph_of table) l) (sym is) (past_downset (graph_of table) b (complete_numbered table b order lt)) }
 
@@ -36,7 +36,7 @@ module _ (table : List (List ℕ)) (b : ℕ) (order : AreInOrder table) (lt : b 
       ∙ or_comm (in_past (graph_of table) k b) (eqb k b) ∙ ap (λ (c : Bool). c || in_past (graph_of table) k b) (eqb_flip k b))
 
 -- the other views stay where one is derived, and then grows by a block
-pub others_stay : (table : List (List ℕ)) (pool mid pool' : Pool) (n : ℕ) (views : List Viewed) (tip tip' : Viewed)
+pub others_stay : (table : Numbered) (pool mid pool' : Pool) (n : ℕ) (views : List Viewed) (tip tip' : Viewed)
     → ((r : ℕ) → held_by views r ≤ count_of pool r)
     → ((r : ℕ) → count_of mid r ≡ count_of pool r + held tip.entries r) → ((r : ℕ) → 0 < count_of pool r → row_of mid r ≡ row_of pool r)
     → ((r : ℕ) → count_of pool' r + held tip.entries r ≡ count_of mid r + held tip'.entries r) → ((r : ℕ) → held tip.entries r < count_of mid r → row_of pool' r ≡ row_of mid r)
@@ -55,6 +55,6 @@ keep_by g set mid more x y (Some one) None three first second = absurd first
 keep_by g set mid more x y (Some one) (Some two) None first second = absurd second
 keep_by g set mid more x y (Some one) (Some two) (Some three) first second = ((λ same still. second.0 still ∙ first.0 same), (λ same still. second.1 still ∙ first.1 same))
 
-pub kept_by_two : (table : List (List ℕ)) (set mid more : List ℕ) (es es' es'' : List (Option (ℕ × ℕ))) → AreKeptIds table set mid es es' → AreKeptIds table mid more es' es''
+pub kept_by_two : (table : Numbered) (set mid more : List ℕ) (es es' es'' : List (Option (ℕ × ℕ))) → AreKeptIds table set mid es es' → AreKeptIds table mid more es' es''
     → AreKeptIdsBy table set mid more es es''
 kept_by_two table set mid more es es' es'' first second i x y at = keep_by _ set mid more x y (entry_at es i) (entry_at es' i) (entry_at es'' i) (first i x y at) (second i x y at)

@@ -8,8 +8,8 @@ use Rattle.std.proofs.lemmas.Option.{slice_get-get_or}
 use Rattle.sp_model.specs.Graph.{Graph, has, related}
 use Rattle.sp_model.specs.Votes.{virt}
 use Rattle.sp_model.proofs.Sets.{has-filter_from}
-use Rattle.sp_dag.specs.Numbered.{graph_of, pairs_of, unrelated_below}
-use Rattle.sp_dag.proofs.Whole.{keys_are_numbers}
+use Rattle.sp_dag.specs.Numbered.{Numbered, graph_of, pairs_of, unrelated_below}
+use Rattle.sp_dag.proofs.Ranked.{keys_are_numbers}
 use Rattle.sp_view.specs.Changed.{changed_from, changed_of, has_changed}
 use Rattle.sp_view.proofs.Changes.{votes_differ}
 use Rattle.sp_accept.specs.Acceptance.{first_blocks}
@@ -45,7 +45,7 @@ module _ (g : Graph) (older set : List ℕ) where
       more true there = Contains-append_right (first ∷ []) (changed_from g older set (first + 1) rest) k there
       more false there = there
 
-pub changed_within : (table : List (List ℕ)) (older set : List ℕ) → All (λ i. i < length (pairs_of table)) (changed_of table older set)
+pub changed_within : (table : Numbered) (older set : List ℕ) → All (λ i. i < length (pairs_of table)) (changed_of table older set)
 changed_within table older set i d lt = (let less : _ < 0 + length (pairs_of table) = numbers_within (graph_of table) older set 0 (pairs_of table) i d lt in omega (arith, less))
 
 -- ---- an unrelated pair is listed
@@ -64,21 +64,21 @@ in_flat f a (suc n) y pair low high there = elim (cases_lt a y) [
   | inr le ↦ Contains-append_left (f a) (flat_map f (range_with_len (a + 1) n)) pair (subst (λ (k : ℕ). Contains (f k) pair) (let e : y ≡ a = omega (arith, low, le) in e) there)
 ]
 
-pair_listed : (table : List (List ℕ)) (x y : ℕ) → x < y → y < length table → related (graph_of table) x y ≡ false → (i : ℕ) × (slice_get (pairs_of table) i ≡ Some (x, y))
+pair_listed : (table : Numbered) (x y : ℕ) → x < y → y < length table.parents → related (graph_of table) x y ≡ false → (i : ℕ) × (slice_get (pairs_of table) i ≡ Some (x, y))
 pair_listed table x y lt within apart =
     let row : has (unrelated_below (graph_of table) y) x ≡ true =
     has-filter_from (λ z. not (related (graph_of table) z y)) (range_with_len 0 y) x (in_range 0 y x (omega arith) (omega (arith, lt))) (ap not apart) in
     let there : Contains (pairs_of table) (x, y) =
-    in_flat (λ w. map (λ z. (z, w)) (unrelated_below (graph_of table) w)) 0 (length table) y (x, y) (omega arith) (omega (arith, within)) (in_map (unrelated_below (graph_of table) y) x y row) in
+    in_flat (λ w. map (λ z. (z, w)) (unrelated_below (graph_of table) w)) 0 (length table.parents) y (x, y) (omega arith) (omega (arith, within)) (in_map (unrelated_below (graph_of table) y) x y row) in
     (there.0, slice_get-get_or (pairs_of table) there.0 (x, y) there.1 ∙ ap Some there.2)
 
 -- ---- so what is asked of a view tells the changes
 
-pub tells : (table : List (List ℕ)) (n : ℕ) (older set : List ℕ) (pairs : List (ℕ × ℕ)) → older ≡ first_blocks n → set ≡ range_with_len 0 (length table) → ((z : ℕ) → has older z ≡ true → z < length table)
+pub tells : (table : Numbered) (n : ℕ) (older set : List ℕ) (pairs : List (ℕ × ℕ)) → older ≡ first_blocks n → set ≡ range_with_len 0 (length table.parents) → ((z : ℕ) → has older z ≡ true → z < length table.parents)
     → ((i : ℕ) (pair : ℕ × ℕ) → Contains (changed_of table older set) i → slice_get (pairs_of table) i ≡ Some pair → Contains pairs pair) → TellsChanges table n pairs
 tells table n older set pairs was now below found = λ x y lt under apart differ.
     let before : (z : ℕ) → z < n → has older z ≡ true = λ z less. ap (λ (l : List ℕ). has l z) was ∙ in_range 0 n z (omega arith) (omega (arith, less)) in
-    let there : (z : ℕ) → z < n → has set z ≡ true = λ z less. ap (λ (l : List ℕ). has l z) now ∙ in_range 0 (length table) z (omega arith) (omega (arith, below z (before z less))) in
+    let there : (z : ℕ) → z < n → has set z ≡ true = λ z less. ap (λ (l : List ℕ). has l z) now ∙ in_range 0 (length table.parents) z (omega arith) (omega (arith, below z (before z less))) in
     let one = pair_listed table x y lt (below y (before y under)) apart in
     let turned : virt (graph_of table) older x y ≡ virt (graph_of table) set x y → ⊥ =
     λ e. differ (ap (λ (l : List ℕ). virt (graph_of table) l x y) (sym was) ∙ e ∙ ap (λ (l : List ℕ). virt (graph_of table) l x y) (now ∙ sym (keys_are_numbers table))) in

@@ -13,6 +13,7 @@ use Rattle.sp_block.specs.Block.{IsBlock, parts_of, ReadBlock}
 use Rattle.sp_block.specs.Format.{outpoints, shares_outpoint, with_tx}
 use Rattle.sp_block.specs.Spelling.{IsCarried, MeetsRules}
 use Rattle.sp_block.proofs.Whole.{only_spelling}
+use Rattle.sp_model.specs.declared.profile.Profile.{Profile}
 use Rattle.sp_pool.specs.Kept.{AreKept, present}
 use Rattle.sp_carry.specs.Payment.{conflicts, is_same_outpoint, names_once, Payment, payment_of, Spent, spends, spent_by}
 use Rattle.sp_carry.specs.Ledger.{HasNoTwins, NamesOnce}
@@ -131,10 +132,10 @@ twins_of kept id t u h in_t in_u =
           (subst (λ (ts : List Transaction). IsIn ts t) r.2 in_t) (subst (λ (ts : List Transaction). IsIn ts u) r.2 in_u))
     ]
 
-pub no_twins : (kept : List ReadBlock) → AreKept kept → HasNoTwins (ledger_of kept) (present kept)
-no_twins kept h z t u there in_t in_u =
-    let a : (a : Transaction) × IsIn (txs_of kept z) a × (payment_of a ≡ t) = in_map payment_of (txs_of kept z) t (in_from_contains ((ledger_of kept).txs z) t in_t) in
-    let b : (b : Transaction) × IsIn (txs_of kept z) b × (payment_of b ≡ u) = in_map payment_of (txs_of kept z) u (in_from_contains ((ledger_of kept).txs z) u in_u) in
+pub no_twins : (profile : Profile) (kept : List ReadBlock) → AreKept kept → HasNoTwins (ledger_of profile kept) (present kept)
+no_twins profile kept h z t u there in_t in_u =
+    let a : (a : Transaction) × IsIn (txs_of kept z) a × (payment_of a ≡ t) = in_map payment_of (txs_of kept z) t (in_from_contains ((ledger_of profile kept).txs z) t in_t) in
+    let b : (b : Transaction) × IsIn (txs_of kept z) b × (payment_of b ≡ u) = in_map payment_of (txs_of kept z) u (in_from_contains ((ledger_of profile kept).txs z) u in_u) in
     sym (ap (λ (p : Payment). conflicts p (payment_of b.0)) a.2 ∙ ap (conflicts t) b.2) ∙ twins_of kept z a.0 b.0 h a.1 b.1
 
 -- ---- outpoints of one transaction
@@ -169,9 +170,9 @@ once_of (x ∷ xs) apart =
         let y : (y : Input) × IsIn xs y × (spent_by y ≡ j.0) = in_map spent_by xs j.0 j.1 in
         false≢true (sym (apart_first x y.0 xs apart y.1) ∙ ap (λ (s : Spent). is_same_outpoint s.from x.from) y.2 ∙ j.2)
 
-pub named_once : (kept : List ReadBlock) → AreKept kept → NamesOnce (ledger_of kept) (present kept)
-named_once kept h t there =
+pub named_once : (profile : Profile) (kept : List ReadBlock) → AreKept kept → NamesOnce (ledger_of profile kept) (present kept)
+named_once profile kept h t there =
     let z : (z : ℕ) × IsIn (present kept) z × IsIn (map payment_of (txs_of kept z)) t =
-    in_flat_map (ledger_of kept).txs (present kept) t (in_from_contains (flat_map (ledger_of kept).txs (present kept)) t there) in
+    in_flat_map (ledger_of profile kept).txs (present kept) t (in_from_contains (flat_map (ledger_of profile kept).txs (present kept)) t there) in
     let a : (a : Transaction) × IsIn (txs_of kept z.0) a × (payment_of a ≡ t) = in_map payment_of (txs_of kept z.0) t z.2 in
     ap (λ (p : Payment). names_once p.inputs) (sym a.2) ∙ once_of a.0.inputs (inputs_apart a.0 (kept_txs kept z.0 a.0 h a.1))

@@ -4,7 +4,7 @@ use Rattle.std.specs.Prelude.{slice_get}
 use Rattle.std.specs.List.{range_with_len}
 use Rattle.std.proofs.lemmas.List.{take_all}
 use Rattle.sp_bits.specs.Places.{IsGreatest}
-use Rattle.sp_dag.specs.Numbered.{AreInOrder}
+use Rattle.sp_dag.specs.Numbered.{Numbered, AreInOrder}
 use Rattle.sp_model.specs.Graph.{has}
 use Rattle.sp_model.proofs.Sets.{has-filter_from}
 use Rattle.sp_view.specs.Views.{IsView, Viewed}
@@ -14,14 +14,14 @@ use Rattle.sp_engine.proofs.Covering.{all_is, of_tip, tip_view_there}
 use Rattle.sp_engine.proofs.Ranges.{in_range}
 use Rattle.sp_engine.proofs.Sharing.{view_of}
 
-module _ (table : List (List ℕ)) (v : Tallied) {beside : List Viewed} (voted : AreVotedBeside table v beside) where
-  tips : AreOfTips table (length table) v.views
+module _ (table : Numbered) (v : Tallied) {beside : List Viewed} (voted : AreVotedBeside table v beside) where
+  tips : AreOfTips table (length table.parents) v.views
   tips = subst (λ (n : ℕ). AreOfTips table n v.views) voted.every voted.holds.tips
 
   pub some_view : 0 < length v.views
   some_view = omega (arith, ap length tips.is, length-append tips.tips (tips.all ∷ []))
 
-  pub all_members : (view : Viewed) → IsOfAll v view → view.members ≡ range_with_len 0 (length table)
+  pub all_members : (view : Viewed) → IsOfAll v view → view.members ≡ range_with_len 0 (length table.parents)
   all_members view h = ap (λ (w : Viewed). w.members) (all_is v tips.tips tips.all view tips.is h) ∙ tips.members
 
   pub is_view : (i : ℕ) (view : Viewed) → slice_get v.views i ≡ Some view → IsView table view v.rows
@@ -30,20 +30,20 @@ module _ (table : List (List ℕ)) (v : Tallied) {beside : List Viewed} (voted :
   pub below_all : (i : ℕ) (view : Viewed) → slice_get v.views i ≡ Some view → (z : ℕ) → has view.members z ≡ true → z < v.frozen.blocks
   below_all i view at = (view_of table v.rows v.frozen.blocks v.views i view voted.holds.views at).1
 
-  module _ (order : AreInOrder table) (small : length table ≤ 512) where
+  module _ (order : AreInOrder table.parents) (small : length table.parents ≤ 512) where
     -- a view before the last one is that of its highest member, which is a tip
-    pub is_of_tip : (i n : ℕ) (view : Viewed) → slice_get v.views i ≡ Some view → i + 1 < length v.views → IsGreatest view.members n → IsOfTip table v n view × (is_tip table n ≡ true)
+    pub is_of_tip : (i n : ℕ) (view : Viewed) → slice_get v.views i ≡ Some view → i + 1 < length v.views → IsGreatest view.members n → IsOfTip table v n view × (is_tip table.parents n ≡ true)
     is_of_tip i n view at lt top =
-        let one = of_tip table (length table) v.views i view tips (omega arith) at lt in
+        let one = of_tip table (length table.parents) v.views i view tips (omega arith) at lt in
         let same : n ≡ one.0 = one_top table order small view.members one.0 n one.1 one.3 top in (
           (i, at, lt, one.3 ∙ ap (bar_row table) (sym same)),
-          ap (is_tip table) same ∙ ap (λ (t : List (List ℕ)). is_tip t one.0) (sym (take_all (length table) table (omega arith))) ∙ one.2,
+          ap (is_tip table.parents) same ∙ ap (λ (t : List (List ℕ)). is_tip t one.0) (sym (take_all (length table.parents) table.parents (omega arith))) ∙ one.2,
         )
 
     -- and each tip is the highest member of one
-    pub has_view : (n : ℕ) → n < length table → is_tip table n ≡ true → (i : ℕ) × (view : Viewed) × (slice_get v.views i ≡ Some view) × (i + 1 < length v.views) × IsGreatest view.members n
+    pub has_view : (n : ℕ) → n < length table.parents → is_tip table.parents n ≡ true → (i : ℕ) × (view : Viewed) × (slice_get v.views i ≡ Some view) × (i + 1 < length v.views) × IsGreatest view.members n
     has_view n lt tip =
-        let there : has (tips_of (take (length table) table)) n ≡ true =
-        ap (λ (t : List (List ℕ)). has (tips_of t) n) (take_all (length table) table (omega arith)) ∙ has-filter_from (is_tip table) (range_with_len 0 (length table)) n (in_range 0 (length table) n (omega arith) (omega (arith, lt))) tip in
-        let one = tip_view_there table (length table) v.views n tips there in
+        let there : has (tips_of (take (length table.parents) table.parents)) n ≡ true =
+        ap (λ (t : List (List ℕ)). has (tips_of t) n) (take_all (length table.parents) table.parents (omega arith)) ∙ has-filter_from (is_tip table.parents) (range_with_len 0 (length table.parents)) n (in_range 0 (length table.parents) n (omega arith) (omega (arith, lt))) tip in
+        let one = tip_view_there table (length table.parents) v.views n tips there in
         (one.0, one.1, one.2, one.3, subst (λ (l : List ℕ). IsGreatest l n) (sym one.4) (top_of_bar table order small n lt))

@@ -7,7 +7,7 @@ use Rattle.sp_model.specs.Votes.{sgn, total, virt, vote, word_of}
 use Rattle.sp_model.specs.declared.word.Word.{Word}
 use Rattle.sp_model.specs.declared.word.Word.TheVariants.{Before, After, Tie, Same, Absent}
 use Rattle.sp_dag.specs.Numbered.{graph_of, Numbered}
-use Rattle.sp_dag.proofs.Whole.{keys_are_numbers}
+use Rattle.sp_dag.proofs.Ranked.{keys_are_numbers}
 use Rattle.sp_accept.specs.Standing.{is_before}
 use Rattle.sp_engine.specs.Engine.{numbers}
 
@@ -35,10 +35,10 @@ not_first Same isnt = refl
 not_first Absent isnt = refl
 
 -- the word says it
-pub before_is : (blocks : Numbered) (table : List (List ℕ)) (x y : ℕ) (w : Word) → blocks.parents ≡ table
-    → w ≡ word_of (virt (graph_of blocks.parents) (numbers blocks) x y) → is_first w ≡ is_before table x y
+pub before_is : (blocks : Numbered) (table : Numbered) (x y : ℕ) (w : Word) → blocks ≡ table
+    → w ≡ word_of (virt (graph_of blocks) (numbers blocks) x y) → is_first w ≡ is_before table x y
 before_is blocks table x y w same is =
     ap is_first is
-    ∙ first_by_vote (graph_of blocks.parents) (numbers blocks) x y
-    ∙ ap (λ (s : List ℕ). int_eq (virt (graph_of blocks.parents) s x y) (negsuc 0)) (sym (keys_are_numbers blocks.parents))
-    ∙ ap (λ (t : List (List ℕ)). is_before t x y) same
+    ∙ first_by_vote (graph_of blocks) (numbers blocks) x y
+    ∙ ap (λ (s : List ℕ). int_eq (virt (graph_of blocks) s x y) (negsuc 0)) (sym (keys_are_numbers blocks))
+    ∙ ap (λ (t : Numbered). is_before t x y) same

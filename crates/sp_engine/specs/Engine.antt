@@ -4,7 +4,8 @@ use Rattle.std.specs.Prelude.{ℕ, ◌≡◌, ◌≤◌, ◌<◌, ◌+◌, true,
 use Rattle.std.specs.List.{list_all, range_with_len}
 use Rattle.std.specs.Option.{option_map}
 use Rattle.sp_block.specs.Block.{ReadBlock}
-use Rattle.sp_model.specs.Graph.{has, parents_of}
+use Rattle.sp_model.specs.declared.profile.Profile.{Profile}
+use Rattle.sp_model.specs.Graph.{has, parents_of, rank_of}
 use Rattle.sp_pool.specs.Kept.{AreKept, graph_of, ids_of, present}
 use Rattle.sp_dag.specs.Numbered.{IsNumbered, number_of, Numbered}
 use Rattle.sp_tx.specs.Parts.{Transaction}
@@ -19,16 +20,18 @@ use Rattle.sp_engine.specs.declared.answer.Answer.{Answer}
 use Rattle.sp_engine.specs.declared.answer.Answer.TheVariants as answer
 use Rattle.sp_engine.specs.Transactions.{tx_ids_in, txs_of}
 
--- the bits of work, the kept blocks, whether memory was refused, and the present blocks by number with their votes
+-- the profile, the bits of work, the kept blocks, whether memory was refused, and the present blocks by number with their votes
 pub record Ledger : Type 0 where
+  pub profile : Profile
   pub bits : ℕ
   pub kept : List ReadBlock
   pub broken : Bool
   pub numbered : Numbered
   pub votes : Tallied
 
--- an engine of these bits and kept blocks, to which memory wasn't refused
-pub record IsLedger (bits : ℕ) (kept : List ReadBlock) (engine : Ledger) : Type 0 where
+-- an engine of this profile, these bits and kept blocks, to which memory wasn't refused
+pub record IsLedger (profile : Profile) (bits : ℕ) (kept : List ReadBlock) (engine : Ledger) : Type 0 where
+  pub profile_is : engine.profile ≡ profile
   pub bits_are : engine.bits ≡ bits
   pub kept_are : engine.kept ≡ kept
   pub whole : engine.broken ≡ false
@@ -47,14 +50,15 @@ Stays old new = (new.numbered ≡ old.numbered) × (new.votes ≡ old.votes)
 
 -- Where one block became present, it has the next number, and the votes grew by it.
 abbrev pub GrewByOne : Ledger → Ledger → Type 0
-GrewByOne old new = (length new.numbered.parents ≡ length old.numbered.parents + 1) × Grew new.numbered.parents (length old.numbered.parents) old.votes new.votes
+GrewByOne old new = (length new.numbered.parents ≡ length old.numbered.parents + 1) × Grew new.numbered (length old.numbered.parents) old.votes new.votes
 
--- the numbered blocks are kept ones, genesis among them, with the parents of each, which are numbered too
+-- the numbered blocks are kept ones, genesis among them, with the salt and the parents of each, which are numbered too
 pub record AreNumbered (kept : List ReadBlock) (blocks : Numbered) : Type 0 where
   pub there : (id : ℕ) → has blocks.ids id ≡ true → has (ids_of kept) id ≡ true
   pub closed : (id : ℕ) → has blocks.ids id ≡ true → list_all (has blocks.ids) (parents_of (graph_of kept) id) ≡ true
   pub others : (id : ℕ) → has (ids_of kept) id ≡ true → has blocks.ids id ≡ false → 0 < length (parents_of (graph_of kept) id)
   pub parents : (n id : ℕ) → slice_get blocks.ids n ≡ Some id → slice_index_or blocks.parents n [] ≡ map (number_of blocks.ids) (parents_of (graph_of kept) id)
+  pub salts : (n id : ℕ) → slice_get blocks.ids n ≡ Some id → slice_index_or blocks.salts n 0 ≡ (rank_of (graph_of kept) id).salt
 
 -- all numbers of blocks
 abbrev pub numbers : Numbered → List ℕ
@@ -69,19 +73,19 @@ pub record IsEngine (bits : ℕ) (kept : List ReadBlock) (genesis : ℕ) (blocks
   pub numbered : AreNumbered kept blocks
   pub order : blocks.ids ≡ order_of kept
   pub same : (id : ℕ) → has blocks.ids id ≡ has (present kept) id
-  pub voted : AreVoted blocks.parents votes
+  pub voted : AreVoted blocks votes
 
 -- the carriers are those of the numbered blocks, in their order, and are marked sound where they are so in their graph
 pub record AreCarried (kept : List ReadBlock) (blocks : Numbered) (k : Carried) : Type 0 where
   pub carried : IsCarried k
   pub theirs : Carries (map (txs_of kept) blocks.ids) k
   pub ids : map id_of k.txs ≡ each_once (tx_ids_in kept blocks.ids)
-  pub sound : AreSound blocks.parents k
+  pub sound : AreSound blocks k
 
 -- the carriers are those of the numbered blocks, and the accepted ones are those of the definition, all blocks being the set
 pub record IsAccepting (kept : List ReadBlock) (blocks : Numbered) (k : Carried) (a : Acceptance) : Type 0 where
   pub carriers : AreCarried kept blocks k
-  pub right : IsRight blocks.parents k a
+  pub right : IsRight blocks k a
   pub all : a.blocks ≡ k.blocks
 
 -- the purse is prepared for the transactions of the carriers, and has the flags of the accepted ones

@@ -4,7 +4,7 @@ use Rattle.std.specs.List.{list_all, list_any, range_with_len}
 use Rattle.sp_bits.specs.Places.{places_where}
 use Rattle.sp_model.specs.Graph.{Graph, has, past}
 use Rattle.sp_model.specs.Loose.{in_bar, plus, minus}
-use Rattle.sp_dag.specs.Numbered.{graph_of, pairs_of}
+use Rattle.sp_dag.specs.Numbered.{Numbered, graph_of, pairs_of}
 use Rattle.sp_frozen.specs.Voters.{FrozenRows, HoldsFrozen}
 use Rattle.sp_rows.specs.Pool.{Pool}
 use Rattle.sp_view.specs.Stored.{count_of}
@@ -22,15 +22,15 @@ held_by [] row = 0
 held_by (view ∷ views) row = held view.entries row + held_by views row
 
 -- each of some is a view over the pool, of blocks below a number
-abbrev pub AreViews : List (List ℕ) → Pool → ℕ → List Viewed → Type 0
+abbrev pub AreViews : Numbered → Pool → ℕ → List Viewed → Type 0
 AreViews table pool n [] = Unit {0}
 AreViews table pool n (view ∷ views) = IsView table view pool × ((z : ℕ) → has view.members z ≡ true → z < n) × AreViews table pool n views
 
 -- a block and its past, as a row
-abbrev pub bar_row : List (List ℕ) → ℕ → List ℕ
+abbrev pub bar_row : Numbered → ℕ → List ℕ
 bar_row table n = places_where (λ z. in_bar (graph_of table) z n)
 
--- whether no block of a table has this one as a parent
+-- whether no block of a table of parents has this one as a parent
 abbrev pub is_tip : List (List ℕ) → ℕ → Bool
 is_tip table n = not (list_any (λ parents. has parents n) table)
 
@@ -39,34 +39,34 @@ abbrev pub tips_of : List (List ℕ) → List ℕ
 tips_of table = filter (is_tip table) (range_with_len 0 (length table))
 
 -- views of the first n blocks: for each tip, ascending, that of the tip and its past, and behind them that of all these blocks
-pub record AreOfTips (table : List (List ℕ)) (n : ℕ) (views : List Viewed) : Type 0 where
+pub record AreOfTips (table : Numbered) (n : ℕ) (views : List Viewed) : Type 0 where
   pub tips : List Viewed
   pub all : Viewed
   pub is : views ≡ tips ++ all ∷ []
-  pub each : map (λ (view : Viewed). view.members) tips ≡ map (bar_row table) (tips_of (take n table))
+  pub each : map (λ (view : Viewed). view.members) tips ≡ map (bar_row table) (tips_of (take n table.parents))
   pub members : all.members ≡ range_with_len 0 n
 
 -- Views of blocks below a number, one at most, that are held beside those of the votes: no row is held but by these
 -- and those, each as often as it is counted.
-pub record AreShared (table : List (List ℕ)) (pool : Pool) (n : ℕ) (views beside : List Viewed) : Type 0 where
+pub record AreShared (table : Numbered) (pool : Pool) (n : ℕ) (views beside : List Viewed) : Type 0 where
   pub few : length beside ≤ 1
   pub sound : AreViews table pool n beside
   pub counts : (row : ℕ) → count_of pool row ≡ held_by beside row + held_by views row
 
 -- the votes of the first blocks of a table, where some views are held beside
-pub record HoldsVotes (table : List (List ℕ)) (v : Tallied) (beside : List Viewed) : Type 0 where
+pub record HoldsVotes (table : Numbered) (v : Tallied) (beside : List Viewed) : Type 0 where
   pub frozen : HoldsFrozen table v.frozen
   pub views : AreViews table v.rows v.frozen.blocks v.views
   pub shared : AreShared table v.rows v.frozen.blocks v.views beside
   pub tips : AreOfTips table v.frozen.blocks v.views
 
 -- those of all its blocks
-pub record AreVotedBeside (table : List (List ℕ)) (v : Tallied) (beside : List Viewed) : Type 0 where
+pub record AreVotedBeside (table : Numbered) (v : Tallied) (beside : List Viewed) : Type 0 where
   pub holds : HoldsVotes table v beside
-  pub every : v.frozen.blocks ≡ length table
+  pub every : v.frozen.blocks ≡ length table.parents
 
 -- the votes of all blocks of a table: no row is held but by the views, each as often as it is counted
-abbrev pub AreVoted : List (List ℕ) → Tallied → Type 0
+abbrev pub AreVoted : Numbered → Tallied → Type 0
 AreVoted table v = AreVotedBeside table v []
 
 -- the view of all blocks, which is the last one
@@ -74,7 +74,7 @@ abbrev pub IsOfAll : Tallied → Viewed → Type 0
 IsOfAll v view = (i : ℕ) × (slice_get v.views i ≡ Some view) × (i + 1 ≡ length v.views)
 
 -- the view of a tip and its past
-abbrev pub IsOfTip : List (List ℕ) → Tallied → ℕ → Viewed → Type 0
+abbrev pub IsOfTip : Numbered → Tallied → ℕ → Viewed → Type 0
 IsOfTip table v n view = (i : ℕ) × (slice_get v.views i ≡ Some view) × (i + 1 < length v.views) × (view.members ≡ bar_row table n)
 
 -- where a pair had rows, and those of one side are the same in a set, in a larger one and in a third one, the row keeps its id
@@ -86,18 +86,18 @@ KeepIdsBy g set mid more x y (Some before) (Some after) =
     × (minus g set x y ≡ minus g mid x y → minus g mid x y ≡ minus g more x y → after.1 ≡ before.1)
 
 -- so it is for each pair of a table
-abbrev pub AreKeptIdsBy : List (List ℕ) → List ℕ → List ℕ → List ℕ → List (Option (ℕ × ℕ)) → List (Option (ℕ × ℕ)) → Type 0
+abbrev pub AreKeptIdsBy : Numbered → List ℕ → List ℕ → List ℕ → List (Option (ℕ × ℕ)) → List (Option (ℕ × ℕ)) → Type 0
 AreKeptIdsBy table set mid more entries entries' =
     (i x y : ℕ) → slice_get (pairs_of table) i ≡ Some (x, y) → KeepIdsBy (graph_of table) set mid more x y (entry_at entries i) (entry_at entries' i)
 
 -- What the votes become where block b, the last one of a table, joins them. In the view of all blocks each row whose content stays keeps
 -- its id. So it is in the new tip's view, beside the view that it was derived from, which is that one within b's past that has most
 -- members. The views of the other tips stay, but for b's parents.
-pub record Grew (table : List (List ℕ)) (b : ℕ) (old new : Tallied) : Type 0 where
+pub record Grew (table : Numbered) (b : ℕ) (old new : Tallied) : Type 0 where
   pub all : (view view' : Viewed) → IsOfAll old view → IsOfAll new view' → AreKeptIds table view.members view'.members view.entries view'.entries
   pub tip : (i : ℕ) (base view : Viewed) → IsBest old.views (past (graph_of table) b) i base → IsOfTip table new b view
       → AreKeptIdsBy table base.members (past (graph_of table) b) view.members base.entries view.entries
-  pub others : (n : ℕ) (view : Viewed) → n < b → IsOfTip table old n view → has (slice_index_or table b []) n ≡ false → IsOfTip table new n view
+  pub others : (n : ℕ) (view : Viewed) → n < b → IsOfTip table old n view → has (slice_index_or table.parents b []) n ≡ false → IsOfTip table new n view
 
 -- ---- while a block joins
 
@@ -113,7 +113,7 @@ pub record IsLast (n : ℕ) (views : List Viewed) : Type 0 where
   pub members : all.members ≡ range_with_len 0 n
 
 -- the last one of some views took block b, and another view stands before it
-pub record IsPut (table : List (List ℕ)) (b : ℕ) (old : List Viewed) (tip : Viewed) (new : List Viewed) : Type 0 where
+pub record IsPut (table : Numbered) (b : ℕ) (old : List Viewed) (tip : Viewed) (new : List Viewed) : Type 0 where
   pub front : List Viewed
   pub all : Viewed
   pub more : Viewed

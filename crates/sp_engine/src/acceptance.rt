@@ -1,7 +1,7 @@
 //! Acceptance over the present blocks, where their votes say how two of them stand, and what it turns
 //! in the purse.
 
-ghost use Rattle.std.specs.Prelude.{◌≡◌, OnOk};
+ghost use Rattle.std.specs.Prelude.{◌≡◌, OnErr, OnOk};
 ghost use Rattle.sp_accept.specs.Acceptance.{IsRight};
 ghost use Rattle.sp_accept.specs.Changes.{carriers_below, TellsChanges};
 ghost use Rattle.sp_accept.specs.Rows.{AreOf};
@@ -17,8 +17,8 @@ use sp_model::Word;
 use sp_money::Purse;
 use std::marker::Model;
 
-/// The present blocks by number, in the order that the votes of all of them give. Contracts see the
-/// parents of each block.
+/// The present blocks by number, in the order that the votes of all of them give. Contracts see these
+/// blocks.
 #[derive(Drop)]
 struct VotedOrder<'a> {
     dag: &'a Dag,
@@ -26,14 +26,14 @@ struct VotedOrder<'a> {
 }
 
 impl<'a> Model for VotedOrder<'a> {
-    ghost use Rattle.std.specs.Prelude.{List, ℕ};
+    ghost use Rattle.sp_dag.specs.Numbered.{Numbered};
     ghost use Rattle.sp_engine.specs.Votes.{AreVoted};
 
-    ghost Value = { List (List ℕ) };
+    ghost Value = { Numbered };
 
-    ghost view = { λ o. o.dag.now.parents };
+    ghost view = { λ o. o.dag.now };
 
-    ghost invariant = { λ o. AreVoted o.dag.now.parents o.votes.now };
+    ghost invariant = { λ o. AreVoted o.dag.now o.votes.now };
 }
 
 impl<'a> Order for VotedOrder<'a> {
@@ -64,15 +64,16 @@ pub(crate) fn accept_all(
     accepted: &mut Accepted,
     purse: &mut Purse,
 ) -> Result<(), Memory>
-    requires voted { AreVoted dag.now.parents votes.now }
-    requires of { AreOf dag.now.parents carriers.now }
-    requires right { IsRight dag.now.parents carriers.now accepted.old }
+    requires voted { AreVoted dag.now votes.now }
+    requires of { AreOf dag.now carriers.now }
+    requires right { IsRight dag.now carriers.now accepted.old }
     requires first { from ≡ carriers_below carriers.now.rows accepted.old.blocks }
-    requires told { TellsChanges dag.now.parents accepted.old.blocks changed.now }
+    requires told { TellsChanges dag.now accepted.old.blocks changed.now }
     requires paying { WasPaying carriers.now accepted.old purse.old }
-    ensures right { OnOk result (IsRight dag.now.parents carriers.now accepted.new) }
+    ensures right { OnOk result (IsRight dag.now carriers.now accepted.new) }
     ensures all { OnOk result (accepted.new.blocks ≡ carriers.now.blocks) }
     ensures paying { OnOk result (IsPaying carriers.now accepted.new purse.new) }
+    ensures err { OnErr result (accepted.new ≡ accepted.old) }
 {
     // Tells the proof what carriers are.
     let _blocks = carriers.block_count();

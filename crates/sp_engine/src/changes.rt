@@ -16,9 +16,9 @@ use std::alloc::Global;
 
 /// The pairs of these numbers.
 fn pairs_at(alloc: Global, dag: &Dag, numbers: &[u32]) -> Result<Vec<(u16, u16)>, Memory>
-    requires { All (λ i. i < length (pairs_of dag.now.parents)) numbers.now }
+    requires { All (λ i. i < length (pairs_of dag.now)) numbers.now }
     ensures { IfOk result (λ pairs. (i : ℕ) (pair : ℕ × ℕ) → Contains numbers.now i →
-        slice_get (pairs_of dag.now.parents) i ≡ Some pair → Contains pairs.items pair) }
+        slice_get (pairs_of dag.now) i ≡ Some pair → Contains pairs.items pair) }
 {
     let mut pairs = Vec::with_capacity(alloc, numbers.len())?;
     'numbers: for i in numbers {
@@ -40,14 +40,14 @@ pub(crate) fn changed_pairs(
     frozen: &Frozen,
     rows: &RowPool,
 ) -> Result<Vec<(u16, u16)>, Memory>
-    requires view { IsView dag.now.parents view.now rows.now }
-    requires older { IsView dag.now.parents older.now rows.now }
-    requires frozen { HoldsFrozen dag.now.parents frozen.now }
+    requires view { IsView dag.now view.now rows.now }
+    requires older { IsView dag.now older.now rows.now }
+    requires frozen { HoldsFrozen dag.now frozen.now }
     requires added { (z : ℕ) → IsTrue (has view.now.members z) → z < frozen.now.blocks }
     requires older_added { (z : ℕ) → IsTrue (has older.now.members z) → z < frozen.now.blocks }
     ensures { IfOk result (λ pairs. (i : ℕ) (pair : ℕ × ℕ) →
-        Contains (changed_of dag.now.parents older.now.members view.now.members) i →
-        slice_get (pairs_of dag.now.parents) i ≡ Some pair → Contains pairs.items pair) }
+        Contains (changed_of dag.now older.now.members view.now.members) i →
+        slice_get (pairs_of dag.now) i ≡ Some pair → Contains pairs.items pair) }
 {
     // Tells the proof that there are at most 130,816 pairs.
     let _pairs = dag.pair_count();

@@ -8,7 +8,7 @@ ghost use Rattle.std.specs.Option.{option_copied};
 ghost use Rattle.sp_block.specs.Block.{IsGenesis};
 ghost use Rattle.sp_model.specs.Graph.{has};
 ghost use Rattle.sp_model.specs.Votes.{word};
-ghost use Rattle.sp_pool.specs.Kept.{AreKept, graph_of, present};
+ghost use Rattle.sp_pool.specs.Kept.{AreKept, graph_in, present};
 ghost use Rattle.sp_dag.specs.Numbered.{IsNumbered};
 ghost use Rattle.sp_frozen.specs.Voters.{HoldsFrozen};
 ghost use Rattle.sp_view.specs.Stored.{count_of};
@@ -30,7 +30,7 @@ use sp_carry::Carriers;
 use sp_dag::Dag;
 use sp_frozen::Frozen;
 use sp_ids::{BlockId, Memory};
-use sp_model::Word;
+use sp_model::{Profile, Word};
 use sp_money::Purse;
 use sp_pool::Pool;
 use sp_rows::RowPool;
@@ -38,8 +38,8 @@ use sp_view::View;
 use std::alloc::Global;
 use std::marker::Model;
 
-/// The ledger at one node: the blocks that it keeps, and what they say. Contracts see the bits of
-/// work, the kept blocks in their order, genesis first, whether memory was refused, and the present
+/// The ledger at one node: the blocks that it keeps, and what they say. Contracts see the profile,
+/// the bits of work, the kept blocks in their order, genesis first, whether memory was refused, and the present
 /// blocks by number with their votes: frozen ones, and views of the tips and of all of them, whose
 /// rows one pool has.
 pub struct Engine {
@@ -67,6 +67,7 @@ impl Model for Engine {
     ghost Value = { Ledger };
 
     ghost view = { λ e. record {
+      profile = e.dag.profile;
       bits = e.bits;
       kept = e.pool;
       broken = e.broken;
@@ -102,18 +103,18 @@ impl Engine {
     ghost use Rattle.sp_engine.specs.Engine.{AreNumbered, GrewByOne, IsAccepting, IsEngine, is_growth, IsLedger, IsPaying, Stays};
     ghost use Rattle.sp_engine.specs.Votes.{AreOfTips, held_by, is_tip, IsOfAll, IsOfTip};
 
-    /// An engine of genesis alone, which is present.
+    /// An engine of genesis alone, which is present, in a profile.
     ///
     /// # Errors
     ///
     /// `Memory` where its tables found none.
-    pub fn new(alloc: Global, genesis: Block, bits: u8) -> Result<Engine, Memory>
+    pub fn new(alloc: Global, genesis: Block, bits: u8, profile: Profile) -> Result<Engine, Memory>
         requires genesis { IsGenesis genesis }
         requires bits { bits ≤ 64 }
-        ensures { IfOk result (IsLedger bits (genesis ∷ [])) }
+        ensures { IfOk result (IsLedger profile bits (genesis ∷ [])) }
     {
         let id = genesis.id;
-        let first = first_of(alloc, id, &genesis.txs)?;
+        let first = first_of(alloc, id, genesis.salt, profile, &genesis.txs)?;
         let pool = Pool::new(alloc, genesis)?;
         // Tells the proof what kept blocks are.
         let _kept = pool.kept();
@@ -127,7 +128,7 @@ impl Engine {
             first.decided.money.accepted }
         requires paying { IsPaying first.decided.money.carriers first.decided.money.accepted
             first.decided.money.purse }
-        ensures { IsLedger bits pool result }
+        ensures { IsLedger first.dag.profile bits pool result }
     {
         let First { dag, decided } = first;
         let Decided { votes, money } = decided;
@@ -163,6 +164,7 @@ impl Engine {
             answer ≡ answer_of self.old.bits self.old.kept bytes.now) }
         ensures kept { OnOk result
             (self.new.kept ≡ kept_after self.old.bits self.old.kept bytes.now) }
+        ensures profile { OnOk result (self.new.profile ≡ self.old.profile) }
         ensures bits { self.new.bits ≡ self.old.bits }
         ensures broken { self.new.broken ≡ is_err result }
         ensures idle { IfOk result (λ answer. IsFalse (is_growth answer) →
@@ -186,7 +188,7 @@ impl Engine {
     pub fn vote(&self, x: &BlockId, y: &BlockId) -> Word
         requires { self.now.broken ≡ false }
         ensures { result ≡
-            word (graph_of self.now.kept) (present self.now.kept) x.now y.now }
+            word (graph_in self.now.profile self.now.kept) (present self.now.kept) x.now y.now }
     {
         let Some(first) = self.dag.number(x) else {
             return Word::Absent;
@@ -248,7 +250,7 @@ impl Engine {
     pub fn frozen(&self) -> &Frozen
         requires { self.now.broken ≡ false }
         ensures frozen { result.now ≡ self.now.votes.frozen }
-        ensures holds { HoldsFrozen self.now.numbered.parents result.now }
+        ensures holds { HoldsFrozen self.now.numbered result.now }
         ensures blocks { result.now.blocks ≡ length self.now.numbered.parents }
     {
         self.votes.frozen()
@@ -261,7 +263,7 @@ impl Engine {
         ensures pool { result.now ≡ self.now.votes.rows }
         ensures counts { (row : ℕ) →
             count_of result.now row ≡ held_by self.now.votes.views row }
-        ensures views { AreOfTips self.now.numbered.parents
+        ensures views { AreOfTips self.now.numbered
             (length self.now.numbered.parents) self.now.votes.views }
     {
         self.votes.rows()
@@ -273,7 +275,7 @@ impl Engine {
         ensures view { IsOfAll self.now.votes result.now }
         ensures members { result.now.members
             ≡ range_with_len 0 (length self.now.numbered.parents) }
-        ensures holds { IsView self.now.numbered.parents result.now self.now.votes.rows }
+        ensures holds { IsView self.now.numbered result.now self.now.votes.rows }
     {
         self.votes.all()
     }
@@ -284,13 +286,21 @@ impl Engine {
         requires whole { self.now.broken ≡ false }
         requires within { n < length self.now.numbered.parents }
         ensures view { IfSome result (λ view.
-            IsOfTip self.now.numbered.parents self.now.votes n view.now) }
+            IsOfTip self.now.numbered self.now.votes n view.now) }
         ensures holds { IfSome result (λ view.
-            IsView self.now.numbered.parents view.now self.now.votes.rows) }
+            IsView self.now.numbered view.now self.now.votes.rows) }
         ensures tip { IfSome result (λ view. IsTrue (is_tip self.now.numbered.parents n)) }
         ensures none { IfNone result (IsFalse (is_tip self.now.numbered.parents n)) }
     {
         self.votes.tip(&self.dag, n)
+    }
+
+    /// Which rule on ties the votes follow.
+    pub fn profile(&self) -> Profile
+        requires { self.now.broken ≡ false }
+        ensures { result ≡ self.now.profile }
+    {
+        self.dag.profile()
     }
 
     /// The bits of work that an id has to meet.

@@ -17,6 +17,7 @@ use sp_accept::Accepted;
 use sp_carry::Carriers;
 use sp_dag::Dag;
 use sp_ids::{BlockId, Memory};
+use sp_model::Profile;
 use sp_money::Purse;
 use sp_tx::Txs;
 use std::alloc::Global;
@@ -67,28 +68,39 @@ impl Money {
     }
 }
 
-/// What genesis alone says, which has this id and these transactions.
+/// What genesis alone says, which has this id, salt and transactions.
 ///
 /// # Errors
 ///
 /// `Memory` where there was none.
-pub(crate) fn first_of(alloc: Global, id: BlockId, txs: &Txs) -> Result<First, Memory>
+pub(crate) fn first_of(
+    alloc: Global,
+    id: BlockId,
+    salt: u64,
+    profile: Profile,
+    txs: &Txs,
+) -> Result<First, Memory>
     requires { length txs.now ≤ 256 }
     ensures dag { IfOk result (λ first.
-        first.dag ≡ record { ids = id ∷ []; parents = [] ∷ [] }) }
+        first.dag ≡ record {
+          profile = profile;
+          ids = id ∷ [];
+          salts = salt ∷ [];
+          parents = [] ∷ [];
+        }) }
     ensures numbered { IfOk result (λ first. IsNumbered first.dag) }
-    ensures voted { IfOk result (λ first. AreVoted first.dag.parents first.decided.votes) }
+    ensures voted { IfOk result (λ first. AreVoted first.dag first.decided.votes) }
     ensures carriers { IfOk result (λ first. first.decided.money.carriers
-        ≡ with_block first.dag.parents nothing txs.now) }
+        ≡ with_block first.dag nothing txs.now) }
     ensures carried { IfOk result (λ first. IsCarried first.decided.money.carriers) }
-    ensures right { IfOk result (λ first. IsRight first.dag.parents
+    ensures right { IfOk result (λ first. IsRight first.dag
         first.decided.money.carriers first.decided.money.accepted) }
     ensures all { IfOk result (λ first.
         first.decided.money.accepted.blocks ≡ first.decided.money.carriers.blocks) }
     ensures paying { IfOk result (λ first.
         IsPaying first.decided.money.carriers first.decided.money.accepted first.decided.money.purse) }
 {
-    let dag = Dag::new(alloc, id)?;
+    let dag = Dag::new(alloc, id, salt, profile)?;
     // Tells the proof what numbered blocks are.
     let _blocks = dag.len();
     let decided = first_decided(alloc, &dag, txs)?;
@@ -99,12 +111,12 @@ pub(crate) fn first_of(alloc: Global, id: BlockId, txs: &Txs) -> Result<First, M
 fn first_decided(alloc: Global, dag: &Dag, txs: &Txs) -> Result<Decided, Memory>
     requires alone { dag.now.parents ≡ [] ∷ [] }
     requires few { length txs.now ≤ 256 }
-    ensures voted { IfOk result (λ decided. AreVoted dag.now.parents decided.votes) }
+    ensures voted { IfOk result (λ decided. AreVoted dag.now decided.votes) }
     ensures carriers { IfOk result (λ decided.
-        decided.money.carriers ≡ with_block dag.now.parents nothing txs.now) }
+        decided.money.carriers ≡ with_block dag.now nothing txs.now) }
     ensures carried { IfOk result (λ decided. IsCarried decided.money.carriers) }
     ensures right { IfOk result (λ decided.
-        IsRight dag.now.parents decided.money.carriers decided.money.accepted) }
+        IsRight dag.now decided.money.carriers decided.money.accepted) }
     ensures all { IfOk result (λ decided.
         decided.money.accepted.blocks ≡ decided.money.carriers.blocks) }
     ensures paying { IfOk result (λ decided. IsPaying decided.money.carriers
@@ -119,12 +131,12 @@ fn first_decided(alloc: Global, dag: &Dag, txs: &Txs) -> Result<Decided, Memory>
 fn first_money(alloc: Global, dag: &Dag, votes: &Votes, txs: &Txs) -> Result<Money, Memory>
     requires alone { dag.now.parents ≡ [] ∷ [] }
     requires few { length txs.now ≤ 256 }
-    requires voted { AreVoted dag.now.parents votes.now }
+    requires voted { AreVoted dag.now votes.now }
     ensures carriers { IfOk result (λ money.
-        money.carriers ≡ with_block dag.now.parents nothing txs.now) }
+        money.carriers ≡ with_block dag.now nothing txs.now) }
     ensures carried { IfOk result (λ money. IsCarried money.carriers) }
     ensures right { IfOk result (λ money.
-        IsRight dag.now.parents money.carriers money.accepted) }
+        IsRight dag.now money.carriers money.accepted) }
     ensures all { IfOk result (λ money. money.accepted.blocks ≡ money.carriers.blocks) }
     ensures paying { IfOk result (λ money.
         IsPaying money.carriers money.accepted money.purse) }
@@ -143,7 +155,7 @@ fn first_money(alloc: Global, dag: &Dag, votes: &Votes, txs: &Txs) -> Result<Mon
 // The votes of genesis.
 fn first_votes(alloc: Global, dag: &Dag) -> Result<Votes, Memory>
     requires { dag.now.parents ≡ [] ∷ [] }
-    ensures { IfOk result (AreVoted dag.now.parents) }
+    ensures { IfOk result (AreVoted dag.now) }
 {
     // Tells the proof what numbered blocks are.
     let _blocks = dag.len();
@@ -156,7 +168,7 @@ fn first_votes(alloc: Global, dag: &Dag) -> Result<Votes, Memory>
 fn first_carriers(alloc: Global, dag: &Dag, txs: &Txs) -> Result<Carriers, Memory>
     requires { length txs.now ≤ 256 }
     ensures first { IfOk result (λ carriers.
-        carriers ≡ with_block dag.now.parents nothing txs.now) }
+        carriers ≡ with_block dag.now nothing txs.now) }
     ensures carried { IfOk result IsCarried }
 {
     // Tells the proof that there is a block.
@@ -175,9 +187,9 @@ fn first_accepted(
     votes: &Votes,
     carriers: &Carriers,
 ) -> Result<(Accepted, Purse), Memory>
-    requires voted { AreVoted dag.now.parents votes.now }
-    requires of { AreOf dag.now.parents carriers.now }
-    ensures right { IfOk result (λ found. IsRight dag.now.parents carriers.now found.0) }
+    requires voted { AreVoted dag.now votes.now }
+    requires of { AreOf dag.now carriers.now }
+    ensures right { IfOk result (λ found. IsRight dag.now carriers.now found.0) }
     ensures all { IfOk result (λ found. found.0.blocks ≡ carriers.now.blocks) }
     ensures paying { IfOk result (λ found. IsPaying carriers.now found.0 found.1) }
 {

@@ -33,17 +33,18 @@ pub(crate) fn grow(
     ids: &[BlockId],
 ) -> Result<(), Memory>
     requires numbered { AreNumbered pool.now dag.old }
-    requires voted { AreVoted dag.old.parents votes.old }
+    requires voted { AreVoted dag.old votes.old }
     requires accepting { IsAccepting pool.now dag.old carriers.old accepted.old }
     requires paying { IsPaying carriers.old accepted.old purse.old }
     requires order { Releases pool.now dag.old.ids ids.now }
     ensures in_order { OnOk result (IsNumbered dag.new) }
     ensures numbered { OnOk result (AreNumbered pool.now dag.new) }
+    ensures profile { OnOk result (dag.new.profile ≡ dag.old.profile) }
     ensures ids { OnOk result (dag.new.ids ≡ dag.old.ids ++ ids.now) }
-    ensures voted { OnOk result (AreVoted dag.new.parents votes.new) }
+    ensures voted { OnOk result (AreVoted dag.new votes.new) }
     ensures one { OnOk result (length ids.now ≡ 1 →
         (length dag.new.parents ≡ length dag.old.parents + 1)
-        × Grew dag.new.parents (length dag.old.parents) votes.old votes.new) }
+        × Grew dag.new (length dag.old.parents) votes.old votes.new) }
     ensures accepting { OnOk result (IsAccepting pool.now dag.new carriers.new accepted.new) }
     ensures paying { OnOk result (IsPaying carriers.new accepted.new purse.new) }
 {

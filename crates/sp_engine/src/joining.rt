@@ -3,7 +3,7 @@
 
 ghost use Rattle.std.specs.Prelude.{◌≡◌, ◌<◌, ◌≤◌, ◌+◌, ◌∷◌, ℕ, List, length, filter, vec_len, vec_capacity, IfOk, OnOk};
 ghost use Rattle.sp_model.specs.Graph.{past};
-ghost use Rattle.sp_dag.specs.Numbered.{graph_of};
+ghost use Rattle.sp_dag.specs.Numbered.{Numbered, graph_of};
 ghost use Rattle.sp_frozen.specs.Voters.{HoldsFrozen};
 ghost use Rattle.sp_view.specs.Stored.{count_of, row_of};
 ghost use Rattle.sp_view.specs.Views.{Viewed, IsBest};
@@ -26,24 +26,24 @@ pub(crate) fn new_tip(
     rows: &mut RowPool,
 ) -> Result<View, Memory>
     requires next { length dag.now.parents ≡ frozen.old.blocks + 1 }
-    requires frozen { HoldsFrozen dag.now.parents frozen.old }
-    requires views { AreViews dag.now.parents rows.old frozen.old.blocks views.now }
+    requires frozen { HoldsFrozen dag.now frozen.old }
+    requires views { AreViews dag.now rows.old frozen.old.blocks views.now }
     requires shared { (beside : List Viewed) ×
-        AreShared dag.now.parents rows.old frozen.old.blocks views.now beside }
+        AreShared dag.now rows.old frozen.old.blocks views.now beside }
     requires few { length views.now ≤ 512 }
-    ensures frozen { OnOk result (HoldsFrozen dag.now.parents frozen.new) }
+    ensures frozen { OnOk result (HoldsFrozen dag.now frozen.new) }
     ensures blocks { OnOk result (frozen.new.blocks ≡ frozen.old.blocks + 1) }
     ensures views { IfOk result (λ tip.
-        AreViews dag.now.parents rows.new frozen.new.blocks (tip ∷ views.now)) }
+        AreViews dag.now rows.new frozen.new.blocks (tip ∷ views.now)) }
     ensures shared { IfOk result (λ tip. (beside : List Viewed) →
-        AreShared dag.now.parents rows.old frozen.old.blocks views.now beside →
-        AreShared dag.now.parents rows.new frozen.new.blocks (tip ∷ views.now) beside) }
+        AreShared dag.now rows.old frozen.old.blocks views.now beside →
+        AreShared dag.now rows.new frozen.new.blocks (tip ∷ views.now) beside) }
     ensures members { IfOk result (λ tip.
-        tip.members ≡ bar_row dag.now.parents frozen.old.blocks) }
+        tip.members ≡ bar_row dag.now frozen.old.blocks) }
     ensures kept { IfOk result (λ tip. (i : ℕ) (base : Viewed) →
-        IsBest views.now (past (graph_of dag.now.parents) frozen.old.blocks) i base →
-        AreKeptIdsBy dag.now.parents base.members
-        (past (graph_of dag.now.parents) frozen.old.blocks) tip.members
+        IsBest views.now (past (graph_of dag.now) frozen.old.blocks) i base →
+        AreKeptIdsBy dag.now base.members
+        (past (graph_of dag.now) frozen.old.blocks) tip.members
         base.entries tip.entries) }
 {
     let b = dag.len() - 1;
@@ -72,19 +72,19 @@ pub(crate) fn put_tip(
 ) -> Result<(), Memory>
     requires room { vec_len views.old < vec_capacity views.old }
     requires next { length dag.now.parents ≡ frozen.now.blocks }
-    requires frozen { HoldsFrozen dag.now.parents frozen.now }
-    requires views { AreViews dag.now.parents rows.old frozen.now.blocks (tip ∷ views.old.items) }
+    requires frozen { HoldsFrozen dag.now frozen.now }
+    requires views { AreViews dag.now rows.old frozen.now.blocks (tip ∷ views.old.items) }
     requires shared { (beside : List Viewed) ×
-        AreShared dag.now.parents rows.old frozen.now.blocks (tip ∷ views.old.items) beside }
+        AreShared dag.now rows.old frozen.now.blocks (tip ∷ views.old.items) beside }
     requires few { vec_len views.old ≤ 512 }
     requires last { (b : ℕ) → b + 1 ≡ length dag.now.parents → IsLast b views.old.items }
     ensures put { OnOk result ((b : ℕ) → b + 1 ≡ length dag.now.parents →
-        IsPut dag.now.parents b views.old.items tip views.new.items) }
+        IsPut dag.now b views.old.items tip views.new.items) }
     ensures views { OnOk result
-        (AreViews dag.now.parents rows.new frozen.now.blocks views.new.items) }
+        (AreViews dag.now rows.new frozen.now.blocks views.new.items) }
     ensures shared { OnOk result ((beside : List Viewed) →
-        AreShared dag.now.parents rows.old frozen.now.blocks (tip ∷ views.old.items) beside →
-        AreShared dag.now.parents rows.new frozen.now.blocks views.new.items beside) }
+        AreShared dag.now rows.old frozen.now.blocks (tip ∷ views.old.items) beside →
+        AreShared dag.now rows.new frozen.now.blocks views.new.items beside) }
 {
     // Tell the proof that there are at most 512 blocks and 130,816 pairs, and what rows are.
     let b = dag.len() - 1;
@@ -103,7 +103,7 @@ pub(crate) fn put_tip(
 pub(crate) fn release_within(views: &mut Vec<View>, rows: &mut RowPool, past: &Row)
     requires { (row : ℕ) → held_by views.old.items row ≤ count_of rows.old row }
     ensures rest { views.new.items ≡ filter (is_beyond past.now) views.old.items }
-    ensures views { (table : List (List ℕ)) (n : ℕ) → AreViews table rows.old n views.old.items →
+    ensures views { (table : Numbered) (n : ℕ) → AreViews table rows.old n views.old.items →
         AreViews table rows.new n views.new.items }
     ensures counts { (row : ℕ) → count_of rows.new row + held_by views.old.items row
         ≡ count_of rows.old row + held_by views.new.items row }

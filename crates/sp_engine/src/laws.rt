@@ -4,9 +4,10 @@
 ghost use Rattle.std.specs.Prelude.{◌≡◌, ◌∷◌, ◌↔◌, [], ℕ, length, Contains, List};
 ghost use Rattle.sp_form.specs.Bytes.{IsBytes};
 ghost use Rattle.sp_block.specs.Block.{IsBlock, IsGenesis, ReadBlock};
+ghost use Rattle.sp_model.specs.declared.profile.Profile.{Profile};
 ghost use Rattle.sp_model.specs.Graph.{has};
 ghost use Rattle.sp_model.specs.Votes.{word};
-ghost use Rattle.sp_pool.specs.Kept.{graph_of, kept_of, present, AreApart, AreKept};
+ghost use Rattle.sp_pool.specs.Kept.{graph_in, kept_of, present, AreApart, AreKept};
 ghost use Rattle.sp_pool.specs.Offers.{AreAnswers, order_of_presence};
 ghost use Rattle.sp_pool.specs.declared.answers.Offer.{Offer};
 ghost use Rattle.sp_engine.specs.AnyOrder.{AreSameArrivals};
@@ -69,12 +70,12 @@ pub fn ids_count_once()
 /// what the definition of acceptance says over the blocks' own transactions.
 #[tactic(auto, using(crate::proofs::ByIds::states_agree, crate::proofs::ByIds::acceptance_agrees))]
 pub fn states_of_own()
-    ensures state { (kept : List ReadBlock) (id : ℕ) → AreApart kept →
-        IsPlain (ledger_of kept) (present kept) →
-        state_of kept id ≡ state (ledger_of kept) (present kept) id }
-    ensures accepted { (kept : List ReadBlock) (id : ℕ) → AreApart kept →
-        IsPlain (ledger_of kept) (present kept) →
-        is_accepted (ledger_by_id kept) (present kept) id ≡ is_accepted (ledger_of kept) (present kept) id }
+    ensures state { (profile : Profile) (kept : List ReadBlock) (id : ℕ) → AreApart kept →
+        IsPlain (ledger_of profile kept) (present kept) →
+        state_of profile kept id ≡ state (ledger_of profile kept) (present kept) id }
+    ensures accepted { (profile : Profile) (kept : List ReadBlock) (id : ℕ) → AreApart kept →
+        IsPlain (ledger_of profile kept) (present kept) →
+        is_accepted (ledger_by_id profile kept) (present kept) id ≡ is_accepted (ledger_of profile kept) (present kept) id }
 {}
 
 /// From a genesis block on, what is kept of arrivals of bytes is genesis and other blocks, no two of
@@ -110,32 +111,32 @@ pub fn arrivals_in_any_order()
         AreSameArrivals bits genesis arrivals others →
         let one = kept_by_all bits genesis arrivals in let other = kept_by_all bits genesis others in
         (length one ≡ length other) × (length (present one) ≡ length (present other)) }
-    ensures word { (bits : ℕ) (genesis : ReadBlock) (arrivals others : List (List ℕ)) (x y : ℕ) →
+    ensures word { (profile : Profile) (bits : ℕ) (genesis : ReadBlock) (arrivals others : List (List ℕ)) (x y : ℕ) →
         AreSameArrivals bits genesis arrivals others →
         let one = kept_by_all bits genesis arrivals in let other = kept_by_all bits genesis others in
-        word (graph_of other) (present other) x y ≡ word (graph_of one) (present one) x y }
+        word (graph_in profile other) (present other) x y ≡ word (graph_in profile one) (present one) x y }
     ensures ids { (bits : ℕ) (genesis : ReadBlock) (arrivals others : List (List ℕ)) (id : ℕ) →
         AreSameArrivals bits genesis arrivals others →
         let one = kept_by_all bits genesis arrivals in let other = kept_by_all bits genesis others in
         has (tx_ids one) id ≡ has (tx_ids other) id }
-    ensures plain { (bits : ℕ) (genesis : ReadBlock) (arrivals others : List (List ℕ)) →
+    ensures plain { (profile : Profile) (bits : ℕ) (genesis : ReadBlock) (arrivals others : List (List ℕ)) →
         AreSameArrivals bits genesis arrivals others →
         let one = kept_by_all bits genesis arrivals in let other = kept_by_all bits genesis others in
-        IsPlain (ledger_of one) (present one) →
-        IsPlain (ledger_of other) (present other) }
-    ensures accepted { (bits : ℕ) (genesis : ReadBlock) (arrivals others : List (List ℕ)) (id : ℕ) →
+        IsPlain (ledger_of profile one) (present one) →
+        IsPlain (ledger_of profile other) (present other) }
+    ensures accepted { (profile : Profile) (bits : ℕ) (genesis : ReadBlock) (arrivals others : List (List ℕ)) (id : ℕ) →
         AreSameArrivals bits genesis arrivals others →
         let one = kept_by_all bits genesis arrivals in let other = kept_by_all bits genesis others in
-        IsPlain (ledger_of one) (present one) →
-        is_accepted (ledger_of other) (present other) id ≡ is_accepted (ledger_of one) (present one) id }
-    ensures state { (bits : ℕ) (genesis : ReadBlock) (arrivals others : List (List ℕ)) (id : ℕ) →
+        IsPlain (ledger_of profile one) (present one) →
+        is_accepted (ledger_of profile other) (present other) id ≡ is_accepted (ledger_of profile one) (present one) id }
+    ensures state { (profile : Profile) (bits : ℕ) (genesis : ReadBlock) (arrivals others : List (List ℕ)) (id : ℕ) →
         AreSameArrivals bits genesis arrivals others →
         let one = kept_by_all bits genesis arrivals in let other = kept_by_all bits genesis others in
-        IsPlain (ledger_of one) (present one) →
-        state_of other id ≡ state_of one id }
-    ensures balance { (bits : ℕ) (genesis : ReadBlock) (arrivals others : List (List ℕ)) (lock : ℕ) →
+        IsPlain (ledger_of profile one) (present one) →
+        state_of profile other id ≡ state_of profile one id }
+    ensures balance { (profile : Profile) (bits : ℕ) (genesis : ReadBlock) (arrivals others : List (List ℕ)) (lock : ℕ) →
         AreSameArrivals bits genesis arrivals others →
         let one = kept_by_all bits genesis arrivals in let other = kept_by_all bits genesis others in
-        IsPlain (ledger_of one) (present one) →
-        balance (ledger_of other) (present other) lock ≡ balance (ledger_of one) (present one) lock }
+        IsPlain (ledger_of profile one) (present one) →
+        balance (ledger_of profile other) (present other) lock ≡ balance (ledger_of profile one) (present one) lock }
 {}

@@ -24,21 +24,22 @@ fn add_one(
     id: &BlockId,
 ) -> Result<(), Memory>
     requires numbered { AreNumbered pool.now dag.old }
-    requires voted { (beside : List Viewed) × AreVotedBeside dag.old.parents votes.old beside }
+    requires voted { (beside : List Viewed) × AreVotedBeside dag.old votes.old beside }
     requires carried { AreCarried pool.now dag.old carriers.old }
     requires next { IsNext pool.now dag.old.ids id.now }
     ensures numbered { OnOk result (AreNumbered pool.now dag.new) }
+    ensures profile { OnOk result (dag.new.profile ≡ dag.old.profile) }
     ensures ids { OnOk result (dag.new.ids ≡ dag.old.ids ++ id.now ∷ []) }
     ensures long { OnOk result (length dag.new.parents ≡ length dag.old.parents + 1) }
     ensures voted { OnOk result ((beside : List Viewed) →
-        AreVotedBeside dag.old.parents votes.old beside →
-        AreVotedBeside dag.new.parents votes.new beside) }
+        AreVotedBeside dag.old votes.old beside →
+        AreVotedBeside dag.new votes.new beside) }
     ensures grew { OnOk result
-        (Grew dag.new.parents (length dag.old.parents) votes.old votes.new) }
+        (Grew dag.new (length dag.old.parents) votes.old votes.new) }
     ensures carried { OnOk result (AreCarried pool.now dag.new carriers.new) }
     ensures more { OnOk result (GoesOn carriers.old.txs carriers.new.txs) }
-    ensures right { OnOk result ((a : Acceptance) → IsRight dag.old.parents carriers.old a →
-        IsRight dag.new.parents carriers.new a) }
+    ensures right { OnOk result ((a : Acceptance) → IsRight dag.old carriers.old a →
+        IsRight dag.new carriers.new a) }
     ensures blocks { OnOk result (carriers.old.blocks ≤ carriers.new.blocks) }
     ensures below { OnOk result ((n : ℕ) → n ≤ carriers.old.blocks →
         carriers_below carriers.new.rows n ≡ carriers_below carriers.old.rows n) }
@@ -48,7 +49,7 @@ fn add_one(
     let _blocks = dag.len();
     match pool.block(id) {
         Some(block) => {
-            let number = dag.add(*id, block.parents.as_slice())?;
+            let number = dag.add(*id, block.salt, block.parents.as_slice())?;
             // Tells the proof what numbered blocks are.
             let _more = dag.len();
             votes.add(dag)?;
@@ -71,21 +72,22 @@ fn add_all(
     ids: &[BlockId],
 ) -> Result<(), Memory>
     requires numbered { AreNumbered pool.now dag.old }
-    requires voted { (beside : List Viewed) × AreVotedBeside dag.old.parents votes.old beside }
+    requires voted { (beside : List Viewed) × AreVotedBeside dag.old votes.old beside }
     requires carried { AreCarried pool.now dag.old carriers.old }
     requires order { Releases pool.now dag.old.ids ids.now }
     ensures numbered { OnOk result (AreNumbered pool.now dag.new) }
+    ensures profile { OnOk result (dag.new.profile ≡ dag.old.profile) }
     ensures ids { OnOk result (dag.new.ids ≡ dag.old.ids ++ ids.now) }
     ensures voted { OnOk result ((beside : List Viewed) →
-        AreVotedBeside dag.old.parents votes.old beside →
-        AreVotedBeside dag.new.parents votes.new beside) }
+        AreVotedBeside dag.old votes.old beside →
+        AreVotedBeside dag.new votes.new beside) }
     ensures one { OnOk result (length ids.now ≡ 1 →
         (length dag.new.parents ≡ length dag.old.parents + 1)
-        × Grew dag.new.parents (length dag.old.parents) votes.old votes.new) }
+        × Grew dag.new (length dag.old.parents) votes.old votes.new) }
     ensures carried { OnOk result (AreCarried pool.now dag.new carriers.new) }
     ensures more { OnOk result (GoesOn carriers.old.txs carriers.new.txs) }
-    ensures right { OnOk result ((a : Acceptance) → IsRight dag.old.parents carriers.old a →
-        IsRight dag.new.parents carriers.new a) }
+    ensures right { OnOk result ((a : Acceptance) → IsRight dag.old carriers.old a →
+        IsRight dag.new carriers.new a) }
     ensures below { OnOk result ((n : ℕ) → n ≤ carriers.old.blocks →
         carriers_below carriers.new.rows n ≡ carriers_below carriers.old.rows n) }
 {
@@ -109,21 +111,22 @@ pub(crate) fn join_all(
     ids: &[BlockId],
 ) -> Result<Vec<(u16, u16)>, Memory>
     requires numbered { AreNumbered pool.now dag.old }
-    requires voted { AreVoted dag.old.parents votes.old }
+    requires voted { AreVoted dag.old votes.old }
     requires carried { AreCarried pool.now dag.old carriers.old }
     requires order { Releases pool.now dag.old.ids ids.now }
     ensures told { IfOk result (λ pairs.
-        TellsChanges dag.new.parents (length dag.old.parents) pairs.items) }
+        TellsChanges dag.new (length dag.old.parents) pairs.items) }
     ensures numbered { OnOk result (AreNumbered pool.now dag.new) }
+    ensures profile { OnOk result (dag.new.profile ≡ dag.old.profile) }
     ensures ids { OnOk result (dag.new.ids ≡ dag.old.ids ++ ids.now) }
-    ensures voted { OnOk result (AreVoted dag.new.parents votes.new) }
+    ensures voted { OnOk result (AreVoted dag.new votes.new) }
     ensures one { OnOk result (length ids.now ≡ 1 →
         (length dag.new.parents ≡ length dag.old.parents + 1)
-        × Grew dag.new.parents (length dag.old.parents) votes.old votes.new) }
+        × Grew dag.new (length dag.old.parents) votes.old votes.new) }
     ensures carried { OnOk result (AreCarried pool.now dag.new carriers.new) }
     ensures more { OnOk result (GoesOn carriers.old.txs carriers.new.txs) }
-    ensures right { OnOk result ((a : Acceptance) → IsRight dag.old.parents carriers.old a →
-        IsRight dag.new.parents carriers.new a) }
+    ensures right { OnOk result ((a : Acceptance) → IsRight dag.old carriers.old a →
+        IsRight dag.new carriers.new a) }
     ensures below { OnOk result ((n : ℕ) → n ≤ carriers.old.blocks →
         carriers_below carriers.new.rows n ≡ carriers_below carriers.old.rows n) }
 {

@@ -5,6 +5,7 @@
 
 ghost use Rattle.std.specs.Prelude.{◌≡◌, ◌<◌, ◌≤◌, ◌^◌, ◌∷◌, ℕ, map, sum_by, Contains, IsFalse, IsTrue, List};
 ghost use Rattle.sp_block.specs.Block.{ReadBlock};
+ghost use Rattle.sp_model.specs.declared.profile.Profile.{Profile};
 ghost use Rattle.sp_model.specs.Graph.{AreDistinct};
 ghost use Rattle.sp_pool.specs.Kept.{present, AreKept};
 ghost use Rattle.sp_engine.specs.Transactions.{balance_by_id, ledger_by_id, ledger_of};
@@ -13,31 +14,31 @@ ghost use Rattle.sp_carry.specs.Payment.{conflicts, paid_amount, payment_of, Pay
 
 /// No two transactions of one block conflict, and none has an outpoint twice.
 pub fn no_twins()
-    ensures apart { (kept : List ReadBlock) → AreKept kept → HasNoTwins (ledger_of kept) (present kept) }
-    ensures once { (kept : List ReadBlock) → AreKept kept → NamesOnce (ledger_of kept) (present kept) }
+    ensures apart { (profile : Profile) (kept : List ReadBlock) → AreKept kept → HasNoTwins (ledger_of profile kept) (present kept) }
+    ensures once { (profile : Profile) (kept : List ReadBlock) → AreKept kept → NamesOnce (ledger_of profile kept) (present kept) }
 {}
 
 /// Where different transactions of the present blocks have different ids, no two accepted ones
 /// conflict; and the transaction of each input of an accepted one is accepted, whatever ids there
 /// are.
 pub fn accepted_agree()
-    ensures no_conflict { (kept : List ReadBlock) (t u : Payment) → AreKept kept →
-        IsPlain (ledger_of kept) (present kept) →
-        Contains (accepted_carriers (ledger_by_id kept) (present kept)) t →
-        Contains (accepted_carriers (ledger_by_id kept) (present kept)) u →
+    ensures no_conflict { (profile : Profile) (kept : List ReadBlock) (t u : Payment) → AreKept kept →
+        IsPlain (ledger_of profile kept) (present kept) →
+        Contains (accepted_carriers (ledger_by_id profile kept) (present kept)) t →
+        Contains (accepted_carriers (ledger_by_id profile kept) (present kept)) u →
         IsFalse (conflicts t u) }
-    ensures sources { (kept : List ReadBlock) (t : Payment) (i : Spent) →
-        Contains (accepted_carriers (ledger_by_id kept) (present kept)) t → Contains t.inputs i →
-        IsTrue (is_accepted (ledger_by_id kept) (present kept) i.from.tx) }
+    ensures sources { (profile : Profile) (kept : List ReadBlock) (t : Payment) (i : Spent) →
+        Contains (accepted_carriers (ledger_by_id profile kept) (present kept)) t → Contains t.inputs i →
+        IsTrue (is_accepted (ledger_by_id profile kept) (present kept) i.from.tx) }
 {}
 
 /// Where different transactions of the present blocks have different ids, what is left under any
 /// different locks is together at most what genesis grants, whose block is the first one kept.
 pub fn nothing_is_made()
-    ensures { (kept others : List ReadBlock) (genesis : ReadBlock) (locks : List ℕ) →
-        AreKept kept → kept ≡ genesis ∷ others → IsPlain (ledger_of kept) (present kept) →
+    ensures { (profile : Profile) (kept others : List ReadBlock) (genesis : ReadBlock) (locks : List ℕ) →
+        AreKept kept → kept ≡ genesis ∷ others → IsPlain (ledger_of profile kept) (present kept) →
         AreDistinct locks →
-        sum_by (balance_by_id kept) locks ≤ sum_by paid_amount (map payment_of genesis.txs) }
+        sum_by (balance_by_id profile kept) locks ≤ sum_by paid_amount (map payment_of genesis.txs) }
 {
     sp_pool::laws::kept_blocks_are_a_graph();
 }
@@ -46,5 +47,5 @@ pub fn nothing_is_made()
 /// blocks carry at most 256 transactions each, and the outputs of each are together below 2^63.
 #[tactic(auto, using(crate::proofs::SmallBalances::small_balance))]
 pub fn balances_are_small()
-    ensures { (kept : List ReadBlock) (lock : ℕ) → AreKept kept → balance_by_id kept lock < 2 ^ 81 }
+    ensures { (profile : Profile) (kept : List ReadBlock) (lock : ℕ) → AreKept kept → balance_by_id profile kept lock < 2 ^ 81 }
 {}

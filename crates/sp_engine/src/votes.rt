@@ -5,7 +5,7 @@
 ghost use Rattle.std.specs.Prelude.{◌≡◌, ◌≢◌, ◌<◌, ◌≤◌, ◌+◌, ◌∷◌, [], ℕ, List, length, IfOk, IfSome, IfNone, OnOk, IsTrue, IsFalse, ◌↔◌};
 ghost use Rattle.sp_bits.specs.Places.{IsGreatest};
 ghost use Rattle.sp_model.specs.Votes.{virt, word_of};
-ghost use Rattle.sp_dag.specs.Numbered.{graph_of, AreInOrder};
+ghost use Rattle.sp_dag.specs.Numbered.{Numbered, graph_of, AreInOrder};
 ghost use Rattle.sp_view.specs.Views.{IsView, Viewed};
 ghost use Rattle.sp_accept.specs.Acceptance.{first_blocks};
 ghost use Rattle.sp_accept.specs.Changes.{TellsChanges};
@@ -71,7 +71,7 @@ impl Votes {
     ///
     /// Memory was refused.
     pub(crate) fn new(alloc: Global) -> Result<Votes, Memory>
-        ensures holds { IfOk result (λ votes. (table : List (List ℕ)) → AreInOrder table →
+        ensures holds { IfOk result (λ votes. (table : Numbered) → AreInOrder table.parents →
             HoldsVotes table votes []) }
         ensures blocks { IfOk result (λ votes. votes.frozen.blocks ≡ 0) }
     {
@@ -92,13 +92,13 @@ impl Votes {
     ///
     /// Memory was refused.
     pub(crate) fn add(&mut self, dag: &Dag) -> Result<(), Memory>
-        requires holds { (beside : List Viewed) × HoldsVotes dag.now.parents self.old beside }
+        requires holds { (beside : List Viewed) × HoldsVotes dag.now self.old beside }
         requires next { length dag.now.parents ≡ self.old.frozen.blocks + 1 }
         ensures voted { OnOk result ((beside : List Viewed) →
-            HoldsVotes dag.now.parents self.old beside →
-            AreVotedBeside dag.now.parents self.new beside) }
+            HoldsVotes dag.now self.old beside →
+            AreVotedBeside dag.now self.new beside) }
         ensures grew { OnOk result
-            (Grew dag.now.parents self.old.frozen.blocks self.old self.new) }
+            (Grew dag.now self.old.frozen.blocks self.old self.new) }
     {
         // Tells the proof that there are at most 512 blocks.
         let b = dag.len() - 1;
@@ -116,9 +116,9 @@ impl Votes {
     ///
     /// Memory was refused.
     pub(crate) fn fork(&mut self, dag: &Dag) -> Result<View, Memory>
-        requires { AreVoted dag.now.parents self.old }
+        requires { AreVoted dag.now self.old }
         ensures voted { IfOk result (λ fork.
-            AreVotedBeside dag.now.parents self.new (fork ∷ [])) }
+            AreVotedBeside dag.now self.new (fork ∷ [])) }
         ensures members { IfOk result (λ fork.
             fork.members ≡ first_blocks (length dag.now.parents)) }
         ensures views { OnOk result (self.new.views ≡ self.old.views) }
@@ -136,10 +136,10 @@ impl Votes {
     ///
     /// Memory was refused.
     pub(crate) fn changes(&mut self, dag: &Dag, fork: View) -> Result<Vec<(u16, u16)>, Memory>
-        requires { AreVotedBeside dag.now.parents self.old (fork ∷ []) }
+        requires { AreVotedBeside dag.now self.old (fork ∷ []) }
         ensures told { IfOk result (λ pairs. (n : ℕ) → fork.members ≡ first_blocks n →
-            TellsChanges dag.now.parents n pairs.items) }
-        ensures voted { AreVoted dag.now.parents self.new }
+            TellsChanges dag.now n pairs.items) }
+        ensures voted { AreVoted dag.now self.new }
         ensures views { self.new.views ≡ self.old.views }
     {
         let pairs = changed_pairs(self.alloc, dag, self.all(), &fork, &self.frozen, &self.rows);
@@ -171,10 +171,10 @@ impl Votes {
 
     /// The view of a tip and its past, or `None` where a block has it as a parent.
     pub(crate) fn tip(&self, dag: &Dag, n: u16) -> Option<&View>
-        requires voted { AreVoted dag.now.parents self.now }
+        requires voted { AreVoted dag.now self.now }
         requires within { n < length dag.now.parents }
-        ensures some { IfSome result (λ view. IsOfTip dag.now.parents self.now n view.now) }
-        ensures holds { IfSome result (λ view. IsView dag.now.parents view.now self.now.rows) }
+        ensures some { IfSome result (λ view. IsOfTip dag.now self.now n view.now) }
+        ensures holds { IfSome result (λ view. IsView dag.now view.now self.now.rows) }
         ensures tip { IfSome result (λ view. IsTrue (is_tip dag.now.parents n)) }
         ensures none { IfNone result (IsFalse (is_tip dag.now.parents n)) }
     {
@@ -191,12 +191,12 @@ impl Votes {
 
     /// The word of two different blocks, by four counts at most.
     pub(crate) fn word(&self, dag: &Dag, x: u16, y: u16) -> Word
-        requires voted { AreVoted dag.now.parents self.now }
+        requires voted { AreVoted dag.now self.now }
         requires x_in { x < length dag.now.parents }
         requires y_in { y < length dag.now.parents }
         requires other { x ≢ y }
         ensures { result ≡
-            word_of (virt (graph_of dag.now.parents) (numbers dag.now) x y) }
+            word_of (virt (graph_of dag.now) (numbers dag.now) x y) }
     {
         // Tells the proof that the blocks stand in order.
         let _blocks = dag.len();

@@ -27,8 +27,8 @@ pub(crate) fn related_word(dag: &Dag, x: u16, y: u16) -> Word
     requires x_in { x < length dag.now.parents }
     requires y_in { y < length dag.now.parents }
     requires other { x ≢ y }
-    requires related { IsTrue ((x == y) || related (graph_of dag.now.parents) x y) }
-    ensures { result ≡ word_of (virt (graph_of dag.now.parents) (numbers dag.now) x y) }
+    requires related { IsTrue ((x == y) || related (graph_of dag.now) x y) }
+    ensures { result ≡ word_of (virt (graph_of dag.now) (numbers dag.now) x y) }
 {
     // Tells the proof that the blocks stand in order.
     let _blocks = dag.len();

@@ -32,7 +32,7 @@ fn add_ids(dag: &mut Dag, new: BlockId, parents: &[BlockId]) -> Result<u16, Fail
     if dag.len() == 512 || parents.is_empty() {
         return Err("too many blocks, or no parent".into());
     }
-    Ok(dag.add(new, parents)?)
+    Ok(dag.add(new, 0, parents)?)
 }
 
 /// Adds a block on others that are there, and answers its number.

@@ -3,11 +3,19 @@ use Rattle.std.proofs.Common.{◌≡◌, ◌≢◌, ℕ, Bool, true, false, List
 use Rattle.std.specs.Prelude.{ℤ, pos, negsuc, ◌≤ℤ◌, ◌<ℤ◌}
 use Rattle.std.proofs.lemmas.Int.{ints}
 use Rattle.std.proofs.lemmas.Bool.{false≢true, ne_eqb, eq-eqb, false_from_ne_true}
-use Rattle.sp_model.specs.Graph.{Graph, has, in_past, past, future, complete, IsDownset}
-use Rattle.sp_model.specs.Votes.{total, case_by, vote_by, vote, virt}
+use Rattle.sp_model.specs.declared.profile.Profile.{Profile}
+use Rattle.sp_model.specs.declared.profile.Profile.TheVariants.{One, Two}
+use Rattle.sp_model.specs.Graph.{Graph, Rank, rank_of, has, in_past, past, future, complete, IsDownset}
+use Rattle.sp_model.specs.Votes.{total, settled, case_by, vote_by, vote, virt}
 use Rattle.sp_model.proofs.Recursion.{vote_is, vote_induction}
 use Rattle.sp_model.proofs.Pasts.{has-past_from, past_trans, past_downset, not_in_own_past}
 use Rattle.sp_model.proofs.Signs.{total_low, total_below, sgn_low, sgn_below}
+
+-- a vote that is no tie stays
+settled_below : (p : Profile) (a b : Rank) (v : ℤ) → v <ℤ pos 0 → settled p a b v ≤ℤ pos 0
+settled_below One a b v h = omega (arith, ints)
+settled_below Two a b (negsuc n) h = omega (arith, ints)
+settled_below Two a b (pos n) h = absurd (omega (arith, ints))
 
 -- x is in the past of y: which votes can be cast
 vote_by_low : (a b c d : Bool) (g : Graph) (s : List ℕ) (F : List ℕ → ℤ) (G : ℕ → ℤ) (z x y : ℕ)
@@ -16,7 +24,8 @@ vote_by_low : (a b c d : Bool) (g : Graph) (s : List ℕ) (F : List ℕ → ℤ)
     → vote_by (case_by a b c d) g s F G z x y ≤ℤ pos 0
 vote_by_low true b c d g s F G z x y not_back back order f h = rw not_back (omega (arith, ints))
 vote_by_low false true c d g s F G z x y not_back back order f h = rw back (omega (arith, ints))
-vote_by_low false false true true g s F G z x y not_back back order f h = let low = f refl in omega (arith, ints)
+vote_by_low false false true true g s F G z x y not_back back order f h =
+    settled_below g.profile (rank_of g x) (rank_of g y) (F (past g z)) (f refl)
 vote_by_low false false true false g s F G z x y not_back back order f h = omega (arith, ints)
 vote_by_low false false false true g s F G z x y not_back back order f h = absurd (false≢true (order refl))
 vote_by_low false false false false g s F G z x y not_back back order f h = sgn_low (total G (future g s z)) (total_low G (future g s z) h)

@@ -1,4 +1,6 @@
 pub mod Sets
+pub mod Shapes
+pub mod Ranks
 pub mod Pasts
 pub mod Rounds
 pub mod Paths

@@ -2,8 +2,10 @@
 use Rattle.std.proofs.Common.{◌≡◌, ℕ, zero, suc, Bool, true, false, ◌||◌, cond, List, refl, sym, ap, ◌∙◌, eqb}
 use Rattle.std.specs.Prelude.{ℤ, pos, negsuc, not}
 use Rattle.std.proofs.lemmas.Bool.{false≢true}
-use Rattle.sp_model.specs.Graph.{Graph, has, in_past, past, future, IsDownset}
-use Rattle.sp_model.specs.Votes.{total, sgn, case_by, vote_by, vote, virt}
+use Rattle.sp_model.specs.declared.profile.Profile.{Profile}
+use Rattle.sp_model.specs.declared.profile.Profile.TheVariants.{One, Two}
+use Rattle.sp_model.specs.Graph.{Graph, Rank, is_lower, rank_of, has, in_past, past, future, IsDownset}
+use Rattle.sp_model.specs.Votes.{total, sgn, settled, case_by, vote_by, vote, virt}
 use Rattle.sp_model.specs.Loose.{is_loose}
 use Rattle.sp_model.proofs.Recursion.{vote_is, vote_induction}
 
@@ -60,12 +62,24 @@ sgn_cond_back : (b : Bool) → sgn (cond b (negsuc 0) (pos 1)) ≡ cond b (negsu
 sgn_cond_back true = refl
 sgn_cond_back false = refl
 
+cond_sign : (c d : Bool) → sgn (cond c (negsuc 0) (cond d (pos 1) (pos 0))) ≡ cond c (negsuc 0) (cond d (pos 1) (pos 0))
+cond_sign true d = refl
+cond_sign false true = refl
+cond_sign false false = refl
+
+settled_sign : (p : Profile) (a b : Rank) (v : ℤ) → sgn v ≡ v → sgn (settled p a b v) ≡ settled p a b v
+settled_sign One a b v h = h
+settled_sign Two a b (negsuc n) h = h
+settled_sign Two a b (pos zero) h = cond_sign (is_lower a b) (is_lower b a)
+settled_sign Two a b (pos (suc n)) h = h
+
 sign_by : (a b c d : Bool) (g : Graph) (s : List ℕ) (G : ℕ → ℤ) (z x y : ℕ)
     → sgn (vote_by (case_by a b c d) g s (λ below. virt g below x y) G z x y) ≡ vote_by (case_by a b c d) g s (λ below. virt g below x y) G z x y
 unfolding virt
 sign_by true b c d g s G z x y = sgn_cond (in_past g y x)
 sign_by false true c d g s G z x y = sgn_cond_back (in_past g x y)
-sign_by false false true true g s G z x y = sgn_sgn (total (λ w. vote g (past g z) w x y) (past g z))
+sign_by false false true true g s G z x y =
+    settled_sign g.profile (rank_of g x) (rank_of g y) _ (sgn_sgn (total (λ w. vote g (past g z) w x y) (past g z)))
 sign_by false false true false g s G z x y = refl
 sign_by false false false true g s G z x y = refl
 sign_by false false false false g s G z x y = sgn_sgn (total G (future g s z))

@@ -5,8 +5,9 @@ use Rattle.std.specs.List.{list_any, list_all}
 use Rattle.std.proofs.lemmas.Int.{ints}
 use Rattle.std.proofs.lemmas.List.{map-id}
 use Rattle.std.proofs.lemmas.Bool.{eq-eqb, ne_eqb, eqb-true, or_left, or_right, or_cases, or_parts, cases_eq, false≢true, not_from_false, not-true, false_from_ne_true, and_from}
-use Rattle.sp_model.specs.Graph.{Graph, AreDistinct, has, keys, parents_of, rounds, complete, reaches_within, in_past, past, future, IsDownset}
-use Rattle.sp_model.specs.Votes.{total, sgn, case_by, vote_by, vote_within, vote, virt, depth}
+use Rattle.sp_model.specs.declared.profile.Profile.{Profile}
+use Rattle.sp_model.specs.Graph.{Graph, Rank, AreDistinct, has, keys, parents_of, rank_of, rounds, complete, reaches_within, in_past, past, future, IsDownset}
+use Rattle.sp_model.specs.Votes.{total, sgn, settled, settled_in, case_by, vote_by, vote_within, vote, virt, depth}
 use Rattle.sp_model.specs.Agreement.{AgreesOn}
 use Rattle.sp_model.proofs.Sets.{any_some, has-filter, has-filter_from}
 use Rattle.sp_model.proofs.Pasts.{round_parents, in_past_step, past_downset, has-past, has-past_from, parent_in_past}
@@ -92,6 +93,8 @@ pub record SameOn (r : ℕ → ℕ) (D : ℕ → Type 0) (g g' : Graph) (s s' : 
   pub down : IsDownset g s
   pub keys' : (z : ℕ) → has s z ≡ true → has (keys g') (r z) ≡ true
   pub parents : (z : ℕ) → has s z ≡ true → parents_of g' (r z) ≡ map r (parents_of g z)
+  pub ranks : (z : ℕ) → has s z ≡ true → rank_of g' (r z) ≡ rank_of g z
+  pub profile : g'.profile ≡ g.profile
 
 eqb_match : (r : ℕ → ℕ) (D : ℕ → Type 0) → ((a b : ℕ) → D a → D b → r a ≡ r b → a ≡ b) → (a b : ℕ) → D a → D b → eqb (r a) (r b) ≡ eqb a b
 eqb_match r D inj a b da db =
@@ -228,18 +231,26 @@ past_same_on r D g g' s s' z same h =
       down = past_downset g z (same.down.all_complete z h);
       keys' = λ x m. same.keys' x (same.down.closed z x h (has-past g z x m));
       parents = λ x m. same.parents x (same.down.closed z x h (has-past g z x m));
+      ranks = λ x m. same.ranks x (same.down.closed z x h (has-past g z x m));
+      profile = same.profile;
     }
+
+settled_same : (p p' : Profile) (a a' b b' : Rank) (v v' : ℤ) → p' ≡ p → a' ≡ a → b' ≡ b → v' ≡ v → settled p' a' b' v' ≡ settled p a b v
+settled_same p p' a a' b b' v v' e f h k = rw (e, f, h, k) refl
 
 vote_by_match : (a b p q : Bool) (r : ℕ → ℕ) (D : ℕ → Type 0) (g g' : Graph) (s s' : List ℕ) (F F' : List ℕ → ℤ) (G G' : ℕ → ℤ) (z x y : ℕ)
     → (a ≡ true → in_past g' (r y) (r x) ≡ in_past g y x) → (b ≡ true → in_past g' (r x) (r y) ≡ in_past g x y)
-    → F' (past g' (r z)) ≡ F (past g z) → total G' (future g' s' (r z)) ≡ total G (future g s z)
+    → F' (past g' (r z)) ≡ F (past g z)
+    → (p ≡ true → q ≡ true → (v : ℤ) → settled_in g' (r x) (r y) v ≡ settled_in g x y v)
+    → total G' (future g' s' (r z)) ≡ total G (future g s z)
     → vote_by (case_by a b p q) g' s' F' G' (r z) (r x) (r y) ≡ vote_by (case_by a b p q) g s F G z x y
-vote_by_match true b p q r D g g' s s' F F' G G' z x y yx xy below above = ap (λ (t : Bool). cond t (pos 1) (negsuc 0)) (yx refl)
-vote_by_match false true p q r D g g' s s' F F' G G' z x y yx xy below above = ap (λ (t : Bool). cond t (negsuc 0) (pos 1)) (xy refl)
-vote_by_match false false true true r D g g' s s' F F' G G' z x y yx xy below above = below
-vote_by_match false false true false r D g g' s s' F F' G G' z x y yx xy below above = refl
-vote_by_match false false false true r D g g' s s' F F' G G' z x y yx xy below above = refl
-vote_by_match false false false false r D g g' s s' F F' G G' z x y yx xy below above = ap sgn above
+vote_by_match true b p q r D g g' s s' F F' G G' z x y yx xy below ties above = ap (λ (t : Bool). cond t (pos 1) (negsuc 0)) (yx refl)
+vote_by_match false true p q r D g g' s s' F F' G G' z x y yx xy below ties above = ap (λ (t : Bool). cond t (negsuc 0) (pos 1)) (xy refl)
+vote_by_match false false true true r D g g' s s' F F' G G' z x y yx xy below ties above =
+    ap (settled_in g' (r x) (r y)) below ∙ ties refl refl (F (past g z))
+vote_by_match false false true false r D g g' s s' F F' G G' z x y yx xy below ties above = refl
+vote_by_match false false false true r D g g' s s' F F' G G' z x y yx xy below ties above = refl
+vote_by_match false false false false r D g g' s s' F F' G G' z x y yx xy below ties above = ap sgn above
 
 vote_within_match : (m : ℕ) (r : ℕ → ℕ) (D : ℕ → Type 0) (g g' : Graph) (s s' : List ℕ) (z x y : ℕ) → SameOn r D g g' s s'
     → AreDistinct (keys g) → AreDistinct (keys g') → AreDistinct s → AreDistinct s' → D x → D y → has s z ≡ true
@@ -256,6 +267,8 @@ vote_within_match (suc m) r D g g' s s' z x y same dg dg' ds ds' dx dy h =
     (past_match r D g g' s s' z same h)
     (λ w m'. vote_within_match m r D g g' (past g z) (past g' (r z)) w x y (past_same_on r D g g' s s' z same h) dg dg'
     (distinct_filter (λ a. in_past g a z) (keys g) dg) (distinct_filter (λ a. in_past g' a (r z)) (keys g') dg') dx dy m')))
+    (λ e f v. settled_same g.profile g'.profile (rank_of g x) (rank_of g' (r x)) (rank_of g y) (rank_of g' (r y)) v v same.profile
+    (same.ranks x (same.down.closed z x h e)) (same.ranks y (same.down.closed z y h f)) refl)
     (total_matched r _ _ (future g s z) (future g' s' (r z)) (λ a b ha hb. same.one_to_one a b (same.inside a (has-filter (λ w. in_past g z w) s a ha).0) (same.inside b (has-filter (λ w. in_past g z w) s b hb).0))
     (distinct_filter (λ w. in_past g z w) s ds) (distinct_filter (λ w. in_past g' (r z) w) s' ds')
     (future_match r D g g' s s' z same h)
@@ -293,6 +306,8 @@ agreeing_same_on g g' s agrees down =
       down = down;
       keys' = agrees.there;
       parents = λ z h. agrees.parents z h ∙ sym (map-id (parents_of g z));
+      ranks = agrees.ranks;
+      profile = agrees.profile;
     }
 
 pub in_past_restricted : (g g' : Graph) (s : List ℕ) (a z : ℕ) → AgreesOn s g g' → IsDownset g s → has s z ≡ true → in_past g' a z ≡ in_past g a z

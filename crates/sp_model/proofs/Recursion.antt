@@ -3,7 +3,7 @@ use Rattle.std.proofs.Common.{◌≡◌, ℕ, zero, suc, ◌+◌, ◌-◌, ◌*�
 use Rattle.std.specs.Prelude.{ℤ}
 use Rattle.std.proofs.lemmas.Bool.{false≢true, cases_lt}
 use Rattle.sp_model.specs.Graph.{Graph, has, rounds, complete, in_past, past, future, IsDownset}
-use Rattle.sp_model.specs.Votes.{sgn, Case, Is_x, Is_y, Only_x, Only_y, Both, Neither, case_of, vote_by, vote_within, vote, virt, depth}
+use Rattle.sp_model.specs.Votes.{sgn, Case, Is_x, Is_y, Only_x, Only_y, Both, Neither, case_of, vote_by, settled_in, vote_within, vote, virt, depth}
 use Rattle.sp_model.proofs.Sets.{total_same, has-filter}
 use Rattle.sp_model.proofs.Pasts.{rounds_le, past_lower, past_downset, has-past}
 
@@ -14,7 +14,7 @@ vote_by_same Is_x g s F F' G G' z x y f h = refl
 vote_by_same Is_y g s F F' G G' z x y f h = refl
 vote_by_same Only_x g s F F' G G' z x y f h = refl
 vote_by_same Only_y g s F F' G G' z x y f h = refl
-vote_by_same Both g s F F' G G' z x y f h = f
+vote_by_same Both g s F F' G G' z x y f h = ap (settled_in g x y) f
 vote_by_same Neither g s F F' G G' z x y f h = ap sgn (total_same G G' (future g s z) h)
 
 -- the blocks of the set are in round j, and z isn't in round i

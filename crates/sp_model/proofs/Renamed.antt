@@ -35,6 +35,8 @@ module _ (r : ℕ → ℕ) (g g' : Graph) (named : IsRenamed r g g') where
     down = down;
     keys' = λ z h. named.into z (member_key s z down h);
     parents = λ z h. named.parents z (member_key s z down h);
+    ranks = λ z h. named.ranks z (member_key s z down h);
+    profile = named.profile;
   }
 
   same_key : (a b : ℕ) → IsKey a → IsKey b → eqb (r a) (r b) ≡ eqb a b

@@ -1,9 +1,9 @@
 -- Membership tests, and sums of signed numbers.
-use Rattle.std.proofs.Common.{◌≡◌, ℕ, Bool, true, false, cond, List, [], ◌∷◌, map, refl, sym, ap, ◌∙◌, inl, inr, eqb}
+use Rattle.std.proofs.Common.{◌≡◌, ℕ, zero, suc, Bool, true, false, cond, List, [], ◌∷◌, map, take, ◌||◌, refl, sym, ap, ◌∙◌, inl, inr, eqb}
 use Rattle.std.specs.Prelude.{filter, ℤ}
 use Rattle.std.specs.List.{list_any, list_all, find}
 use Rattle.std.proofs.lemmas.Bool.{or_cases, or_parts, and_parts, eqb-true, eq-eqb, false≢true, or_left, or_right, and_from}
-use Rattle.sp_model.specs.Graph.{Block, has, parents_or_none}
+use Rattle.sp_model.specs.Graph.{AreDistinct, Block, has, parents_or_none}
 use Rattle.sp_model.specs.Votes.{total}
 
 -- some member passes a test that finds one
@@ -97,3 +97,18 @@ same_truth true true f h = refl
 same_truth true false f h = sym (f refl)
 same_truth false true f h = h refl
 same_truth false false f h = refl
+
+has-take : (n : ℕ) (s : List ℕ) (k : ℕ) → has s k ≡ false → has (take n s) k ≡ false
+has-take zero s k h = refl
+has-take (suc n) [] k h = refl
+has-take (suc n) (x ∷ s) k h = at (eqb x k) h (has-take n s k)
+  where
+    at : (c : Bool) → (c || has s k) ≡ false → (has s k ≡ false → has (take n s) k ≡ false) → (c || has (take n s) k) ≡ false
+    at true h rest = absurd (false≢true (sym h))
+    at false h rest = rest h
+
+-- the first ones of distinct numbers are distinct
+pub AreDistinct-take : (n : ℕ) (s : List ℕ) → AreDistinct s → AreDistinct (take n s)
+AreDistinct-take zero s h = tt
+AreDistinct-take (suc n) [] h = tt
+AreDistinct-take (suc n) (x ∷ s) h = (has-take n s x h.0, AreDistinct-take n s h.1)

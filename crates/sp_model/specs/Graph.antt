@@ -1,13 +1,25 @@
 -- Block graphs: which blocks are complete, and the past, future and anticone of a block.
-use Rattle.std.specs.Prelude.{ℕ, zero, suc, Bool, true, false, ◌==◌, ◌||◌, ◌&&◌, ◌≡◌, not, List, [], ◌∷◌, map, filter, length, Option, Some, None}
+use Rattle.std.specs.Prelude.{ℕ, zero, suc, Bool, true, false, ◌==◌, ◌||◌, ◌&&◌, ◌≡◌, not, nat_lt, List, [], ◌∷◌, map, filter, length, Option, Some, None}
 use Rattle.std.specs.List.{list_any, list_all, find}
+use Rattle.sp_model.specs.declared.profile.Profile.{Profile}
 
--- a block: its key, a whole number, and the keys of its parents
+-- the salt and the id of a block, two whole numbers
+pub record Rank : Type 0 where
+  pub salt : ℕ
+  pub id : ℕ
+
+-- whether the first rank is the lower one: ranks are ordered by salt, then by id
+abbrev pub is_lower : Rank → Rank → Bool
+is_lower a b = nat_lt a.salt b.salt || ((a.salt == b.salt) && nat_lt a.id b.id)
+
+-- a block: its key, a whole number, the keys of its parents, and its rank
 pub record Block : Type 0 where
   pub key : ℕ
   pub parents : List ℕ
+  pub rank : Rank
 
 pub record Graph : Type 0 where
+  pub profile : Profile
   pub blocks : List Block
 
 abbrev pub keys : Graph → List ℕ
@@ -25,14 +37,23 @@ parents_or_none (Some b) = b.parents
 abbrev pub parents_of : Graph → ℕ → List ℕ
 parents_of graph key = parents_or_none (find (λ b. b.key == key) graph.blocks)
 
+abbrev pub rank_or_least : Option Block → Rank
+rank_or_least None = record { salt = 0; id = 0 }
+rank_or_least (Some b) = b.rank
+
+-- the rank of a key
+abbrev pub rank_of : Graph → ℕ → Rank
+rank_of graph key = rank_or_least (find (λ b. b.key == key) graph.blocks)
+
 -- no key repeats
 abbrev pub AreDistinct : List ℕ → Type 0
 AreDistinct [] = Unit {0}
 AreDistinct (k ∷ ks) = (has ks k ≡ false) × AreDistinct ks
 
--- no key repeats, and genesis is the one key without parents
+-- no key and no rank repeats, and genesis is the one key without parents
 pub record IsGraph (graph : Graph) (genesis : ℕ) : Type 0 where
   pub distinct : AreDistinct (keys graph)
+  pub ranks : (a b : ℕ) → has (keys graph) a ≡ true → has (keys graph) b ≡ true → rank_of graph a ≡ rank_of graph b → a ≡ b
   pub there : has (keys graph) genesis ≡ true
   pub rootless : parents_of graph genesis ≡ []
   pub one : (z : ℕ) → has (keys graph) z ≡ true → parents_of graph z ≡ [] → z ≡ genesis

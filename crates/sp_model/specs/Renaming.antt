@@ -1,8 +1,8 @@
 -- The same blocks under other keys.
 use Rattle.std.specs.Prelude.{ℕ, true, ◌≡◌, List, map}
-use Rattle.sp_model.specs.Graph.{Graph, AreDistinct, has, keys, parents_of}
+use Rattle.sp_model.specs.Graph.{Graph, AreDistinct, has, keys, parents_of, rank_of}
 
--- The other graph has each block of the graph under its new key, in any order of the list. The new keys are
+-- The other graph has the same profile and each block of the graph under its new key with its rank, in any order of the list. The new keys are
 -- told apart where the old ones are keys of the graph; what becomes of other numbers doesn't matter.
 pub record IsRenamed (rename : ℕ → ℕ) (graph other : Graph) : Type 0 where
   pub one_to_one : (a b : ℕ) → has (keys graph) a ≡ true → has (keys graph) b ≡ true → rename a ≡ rename b → a ≡ b
@@ -10,6 +10,8 @@ pub record IsRenamed (rename : ℕ → ℕ) (graph other : Graph) : Type 0 where
   pub other_distinct : AreDistinct (keys other)
   pub into : (k : ℕ) → has (keys graph) k ≡ true → has (keys other) (rename k) ≡ true
   pub parents : (k : ℕ) → has (keys graph) k ≡ true → parents_of other (rename k) ≡ map rename (parents_of graph k)
+  pub ranks : (k : ℕ) → has (keys graph) k ≡ true → rank_of other (rename k) ≡ rank_of graph k
+  pub profile : other.profile ≡ graph.profile
 
 -- the other set has the new keys of the set, in any order
 pub record AreRenamed (rename : ℕ → ℕ) (set other : List ℕ) : Type 0 where

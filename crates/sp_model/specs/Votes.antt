@@ -1,8 +1,10 @@
 -- Pairwise votes on the order of blocks: the vote of a block by its five cases, the virtual vote, and the word of two blocks.
 use Rattle.std.specs.Prelude.{ℕ, zero, suc, ◌+◌, ◌*◌, Bool, true, false, ◌==◌, ◌&&◌, not, List, [], ◌∷◌, length, if◌then◌else◌, ℤ, pos, negsuc, ◌+ℤ◌}
+use Rattle.sp_model.specs.declared.profile.Profile.{Profile}
+use Rattle.sp_model.specs.declared.profile.Profile.TheVariants.{One, Two}
 use Rattle.sp_model.specs.declared.word.Word.{Word}
 use Rattle.sp_model.specs.declared.word.Word.TheVariants.{Before, After, Tie, Same, Absent}
-use Rattle.sp_model.specs.Graph.{Graph, in_past, past, future, has}
+use Rattle.sp_model.specs.Graph.{Graph, Rank, is_lower, rank_of, in_past, past, future, has}
 
 -- the sign of a whole number: -1, 0 or +1
 abbrev pub sgn : ℤ → ℤ
@@ -36,6 +38,23 @@ case_by false false false false = Neither
 abbrev pub case_of : Graph → ℕ → ℕ → ℕ → Case
 case_of graph z x y = case_by (z == x) (z == y) (in_past graph x z) (in_past graph y z)
 
+-- for the block of the lower one of two ranks: -1 where it is the first, +1 where it is the second
+abbrev pub by_rank : Rank → Rank → ℤ
+by_rank first second =
+    if is_lower first second then negsuc 0 else (if is_lower second first then pos 1 else pos 0)
+
+-- the vote of a block that finds a virtual vote in its past on two blocks of these ranks: the same, but that profile 2
+-- settles a tie by rank
+abbrev pub settled : Profile → Rank → Rank → ℤ → ℤ
+settled One first second v = v
+settled Two first second (negsuc n) = negsuc n
+settled Two first second (pos zero) = by_rank first second
+settled Two first second (pos (suc n)) = pos (suc n)
+
+-- the same on the blocks x and y of a graph
+abbrev pub settled_in : Graph → ℕ → ℕ → ℤ → ℤ
+settled_in graph x y v = settled graph.profile (rank_of graph x) (rank_of graph y) v
+
 -- the vote of z in the set by its case: -1 is for x before y, +1 for y before x, and 0 is a tie. `virt_of` gives the
 -- virtual vote of a set on x and y, and `vote_of` the vote of another block of the set
 abbrev pub vote_by : Case → Graph → List ℕ → (List ℕ → ℤ) → (ℕ → ℤ) → ℕ → ℕ → ℕ → ℤ
@@ -43,7 +62,7 @@ vote_by Is_x graph set virt_of vote_of z x y = if in_past graph y x then pos 1 e
 vote_by Is_y graph set virt_of vote_of z x y = if in_past graph x y then negsuc 0 else pos 1
 vote_by Only_x graph set virt_of vote_of z x y = negsuc 0
 vote_by Only_y graph set virt_of vote_of z x y = pos 1
-vote_by Both graph set virt_of vote_of z x y = virt_of (past graph z)
+vote_by Both graph set virt_of vote_of z x y = settled_in graph x y (virt_of (past graph z))
 vote_by Neither graph set virt_of vote_of z x y = sgn (total vote_of (future graph set z))
 
 -- the vote of z, where the recursion goes no deeper than so many steps

@@ -1,15 +1,16 @@
 //! Laws of pasts and votes, over the definitions alone. Each is the contract of a function that
 //! does nothing, so that the check proves it.
 
-ghost use Rattle.std.specs.Prelude.{◌≡◌, ◌≢◌, ◌==◌, ◌||◌, ℕ, List, [], ◌∷◌, IsTrue, IsFalse, pos, negsuc, neg_ℤ};
+ghost use Rattle.std.specs.Prelude.{◌≡◌, ◌≢◌, ◌==◌, ◌||◌, ℕ, List, [], ◌∷◌, IsTrue, IsFalse, if◌then◌else◌, ℤ, pos, negsuc, neg_ℤ};
 ghost use Rattle.std.specs.List.{list_any};
+ghost use Rattle.sp_model.specs.declared.profile.Profile.TheVariants.{One, Two};
 ghost use Rattle.sp_model.specs.declared.word.Word.TheVariants.{Before, After, Tie, Same, Absent};
-ghost use Rattle.sp_model.specs.Graph.{Graph, IsDownset, AreDistinct, has, keys, parents_of, round, complete, reaches_within, in_past, past, bar, future, related, anticone};
-ghost use Rattle.sp_model.specs.Agreement.{AgreesOn};
+ghost use Rattle.sp_model.specs.Graph.{Graph, IsDownset, IsGraph, AreDistinct, has, is_lower, keys, parents_of, rank_of, round, complete, reaches_within, in_past, past, bar, future, related, anticone};
+ghost use Rattle.sp_model.specs.Agreement.{AgreesOn, AreShapedAlike};
 ghost use Rattle.sp_model.specs.Joining.{Joins};
 ghost use Rattle.sp_model.specs.Loose.{is_loose};
 ghost use Rattle.sp_model.specs.Renaming.{AreRenamed, IsRenamed, IsWhollyRenamed};
-ghost use Rattle.sp_model.specs.Votes.{sgn, total, case_of, vote_by, vote, virt, word};
+ghost use Rattle.sp_model.specs.Votes.{sgn, total, settled_in, case_of, vote_by, vote, virt, word};
 ghost use Rattle.sp_model.specs.Examples as example;
 ghost use Rattle.sp_model.specs.Examples.{said};
 
@@ -70,6 +71,19 @@ pub fn vote_by_cases()
         ≡ vote_by (case_of graph z x y) graph set (λ below. virt graph below x y) (λ w. vote graph set w x y) z x y }
 {}
 
+/// The vote of a block that finds a tie on two others in its past: in profile 1 it is the tie, and in
+/// profile 2 it is for the block of the lower rank, since no two blocks of a graph have one rank.
+#[tactic(auto, using(crate::proofs::Ranks::by_lower))]
+pub fn ties_of_voters()
+    ensures kept { (graph : Graph) (x y : ℕ) → graph.profile ≡ One →
+        settled_in graph x y (pos 0) ≡ pos 0 }
+    ensures settled { (graph : Graph) (genesis x y : ℕ) → IsGraph graph genesis → graph.profile ≡ Two →
+        IsTrue (has (keys graph) x) → IsTrue (has (keys graph) y) → x ≢ y →
+        settled_in graph x y (pos 0)
+        ≡ (if is_lower (rank_of graph x) (rank_of graph y) then negsuc 0 else pos 1) }
+    ensures others { (graph : Graph) (x y : ℕ) (v : ℤ) → v ≢ pos 0 → settled_in graph x y v ≡ v }
+{}
+
 /// The virtual vote of a set is the sign of the sum of its members' votes.
 #[tactic(auto, unfolding(crate::specs::Votes::virt))]
 pub fn virtual_vote_by_sum()
@@ -77,7 +91,28 @@ pub fn virtual_vote_by_sum()
         virt graph set x y ≡ sgn (total (λ z. vote graph set z x y) set) }
 {}
 
-/// Pasts and votes in a downset are the same in each graph that agrees on the set.
+/// Neither ranks nor the profile of a graph change a past, a future or an anticone, nor which blocks
+/// are complete.
+#[tactic(auto, using(crate::proofs::Shapes::in_past_alike, crate::proofs::Shapes::past_alike, crate::proofs::Shapes::future_alike, crate::proofs::Shapes::related_alike, crate::proofs::Shapes::anticone_alike, crate::proofs::Shapes::complete_alike, crate::proofs::Shapes::downset_alike))]
+pub fn pasts_ask_no_ranks()
+    ensures in_past { (graph other : Graph) (a z : ℕ) → AreShapedAlike graph other →
+        in_past other a z ≡ in_past graph a z }
+    ensures past { (graph other : Graph) (z : ℕ) → AreShapedAlike graph other →
+        past other z ≡ past graph z }
+    ensures future { (graph other : Graph) (set : List ℕ) (z : ℕ) → AreShapedAlike graph other →
+        future other set z ≡ future graph set z }
+    ensures related { (graph other : Graph) (a b : ℕ) → AreShapedAlike graph other →
+        related other a b ≡ related graph a b }
+    ensures anticone { (graph other : Graph) (set : List ℕ) (z : ℕ) → AreShapedAlike graph other →
+        anticone other set z ≡ anticone graph set z }
+    ensures complete { (graph other : Graph) → AreShapedAlike graph other →
+        complete other ≡ complete graph }
+    ensures downset { (graph other : Graph) (set : List ℕ) → AreShapedAlike graph other →
+        IsDownset graph set → IsDownset other set }
+{}
+
+/// Pasts and votes in a downset are the same in each graph of the same profile that agrees on the
+/// set, ranks included.
 #[tactic(auto, using(crate::proofs::Match::in_past_restricted, crate::proofs::Match::vote_restricted, crate::proofs::Match::virt_restricted))]
 pub fn restriction()
     ensures past { (graph other : Graph) (set : List ℕ) (a z : ℕ) →
@@ -108,7 +143,7 @@ pub fn ancestors_first()
         IsTrue (has set y) → IsTrue (in_past graph x y) → virt graph set x y ≡ negsuc 0 }
 {}
 
-/// Other keys, and any order of the lists, change no past, future, anticone, downset, vote or word.
+/// Other keys, where each block keeps its rank, and any order of the lists change no past, future, anticone, downset, vote or word.
 /// The new keys are told apart where the old ones are keys of the graph; there may be more blocks
 /// under other keys.
 #[tactic(auto, using(crate::proofs::Renamed::in_past_renamed, crate::proofs::Renamed::downset_renamed, crate::proofs::Renamed::future_renamed, crate::proofs::Renamed::anticone_renamed, crate::proofs::Renamed::vote_renamed, crate::proofs::Renamed::virt_renamed, crate::proofs::Renamed::word_renamed))]
@@ -227,6 +262,11 @@ pub fn worked_examples()
     ensures chain_genesis { said example.chain 0 1 ≡ Before }
     ensures same { said example.chain 1 1 ≡ Same }
     ensures voter_keeps_a_tie { said example.diamond 1 2 ≡ Tie }
+    ensures no_voter_settles { said (example.settled_two 1 2) 1 2 ≡ Tie }
+    ensures voter_settles { said (example.settled_diamond 1 2) 1 2 ≡ Before }
+    ensures both_vote_so { total (λ z. vote (example.settled_diamond 1 2) (0 ∷ 1 ∷ 2 ∷ 3 ∷ []) z 1 2) (0 ∷ 1 ∷ 2 ∷ 3 ∷ []) ≡ negsuc 1 }
+    ensures settled_by_salt { said (example.settled_diamond 2 1) 1 2 ≡ After }
+    ensures settled_by_id { said (example.settled_diamond 1 1) 1 2 ≡ Before }
     ensures cycle_first { said example.cycle_of_three 1 2 ≡ Before }
     ensures cycle_second { said example.cycle_of_three 2 3 ≡ Before }
     ensures cycle_third { said example.cycle_of_three 3 1 ≡ Before }

@@ -5,6 +5,8 @@
 #![tactic(auto)]
 
 pub mod laws;
+mod profile;
 mod word;
 
+pub use profile::Profile;
 pub use word::Word;

@@ -187,7 +187,7 @@ dead_coins : (id k : ℕ) (os : List Output) → map (λ (c : Coin). false) (coi
 dead_coins id k [] = refl
 dead_coins id k (o ∷ os) = ap (λ (bs : List Bool). false ∷ bs) (dead_coins id (suc k) os)
 
-coin_locks : (id k : ℕ) (os : List Output) → map (λ (c : Coin). c.lock) (coins_from id k os) ≡ map (λ (o : Output). o.lock) os
+pub coin_locks : (id k : ℕ) (os : List Output) → map (λ (c : Coin). c.lock) (coins_from id k os) ≡ map (λ (o : Output). o.lock) os
 coin_locks id k [] = refl
 coin_locks id k (o ∷ os) = ap (λ (ns : List ℕ). o.lock ∷ ns) (coin_locks id (suc k) os)
 

@@ -9,3 +9,5 @@ pub mod Loops
 pub mod Turning
 pub mod Balances
 pub mod Growing
+pub mod LockNumbers
+pub mod Fronts

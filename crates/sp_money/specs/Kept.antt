@@ -1,5 +1,5 @@
 -- What the tables of a purse hold, and what always holds of them.
-use Rattle.std.specs.Prelude.{ℕ, ◌≡◌, ◌*◌, ◌≤◌, Bool, List, length, map, slice_index}
+use Rattle.std.specs.Prelude.{ℕ, ◌≡◌, ◌*◌, ◌<◌, ◌≤◌, Bool, List, length, map, slice_index}
 use Rattle.sp_carry.specs.Money.{Coin}
 use Rattle.sp_money.specs.declared.slot.Slot.{Slot}
 use Rattle.sp_money.specs.declared.store.Store.{Store}
@@ -35,3 +35,11 @@ pub record AreKept (slots : List Slot) (sums locks : List ℕ) (accepted : List 
 
 abbrev pub IsKept : Store → Type 0
 IsKept s = AreKept s.slots.items s.totals.items s.locks s.accepted.items
+
+-- Each transaction's outputs begin where the ones before it leave room for 16 of each.
+pub record BeginEarly (starts : List ℕ) (accepted : List Bool) : Type 0 where
+  pub long : length starts ≡ length accepted
+  pub early : (tx : ℕ) → tx < length starts → slice_index starts tx ≤ 16 * tx
+
+abbrev pub IsEarly : Store → Type 0
+IsEarly s = BeginEarly s.starts.items s.accepted.items

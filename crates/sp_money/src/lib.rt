@@ -4,6 +4,7 @@
 //! carriers.
 #![tactic(auto)]
 
+mod cuts;
 mod flips;
 mod locks;
 mod lookups;

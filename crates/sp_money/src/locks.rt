@@ -40,7 +40,8 @@ impl Locks {
 
     // How many there are.
     pub(crate) fn len(&self) -> usize
-        ensures { result ≡ length self.now }
+        ensures value { result ≡ length self.now }
+        ensures once { AreDistinct self.now }
     {
         self.list.len()
     }

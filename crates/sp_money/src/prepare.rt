@@ -9,7 +9,7 @@ ghost use Rattle.sp_money.specs.Accepted.{is_set};
 ghost use Rattle.sp_money.specs.Locks.{with_id};
 ghost use Rattle.sp_money.specs.Held.{IsOf};
 ghost use Rattle.sp_money.specs.Totals.{AreTotals};
-ghost use Rattle.sp_money.specs.Kept.{held_of, IsKept};
+ghost use Rattle.sp_money.specs.Kept.{held_of, IsEarly, IsKept};
 ghost use Rattle.sp_money.specs.Growth.{set_spenders, with_outputs, with_tx, GoesOn, IsFront, IsLonger};
 
 use crate::slot::Slot;
@@ -158,6 +158,7 @@ impl Store {
         requires few { length self.old.accepted.items ≤ length carriers.now.txs }
         requires of { IsOf (take (length self.old.accepted.items) carriers.now.txs) (held_of self.old) }
         ensures kept { OnOk result (IsKept self.new) }
+        ensures early { IsEarly self.old → OnOk result (IsEarly self.new) }
         ensures longer { IsLonger self.old self.new }
         ensures of { OnOk result (IsOf carriers.now.txs (held_of self.new)) }
         ensures accepted { OnOk result (self.new.accepted.items ≡ self.old.accepted.items

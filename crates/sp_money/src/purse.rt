@@ -1,12 +1,12 @@
 //! The public type: what the crates above see of unspent outputs and balances.
 
-ghost use Rattle.std.specs.Prelude.{◌≡◌, ◌-◌, ◌<◌, ◌≤◌, ◌++◌, [], All, List, Some, false, length, replicate, take, slice_get, IfOk, OnOk, OnErr};
+ghost use Rattle.std.specs.Prelude.{◌≡◌, ℕ, ◌-◌, ◌<◌, ◌≤◌, ◌++◌, [], All, List, Some, false, length, replicate, take, slice_get, IfOk, OnOk, OnErr};
 ghost use Rattle.std.specs.List.Sorted.{IsPermutation, IsSorted};
 ghost use Rattle.sp_ids.specs.Outpoints.{outpoint_cmp};
 ghost use Rattle.sp_tx.specs.Parts.{Transaction};
 ghost use Rattle.sp_carry.specs.Money.{balance_of};
 ghost use Rattle.sp_carry.specs.declared.carrier.Flip.{Flip};
-ghost use Rattle.sp_money.specs.Accepted.{accepted_in, turned};
+ghost use Rattle.sp_money.specs.Accepted.{accepted_in, is_set, turned};
 ghost use Rattle.sp_money.specs.Held.{nothing, IsOf};
 ghost use Rattle.sp_money.specs.Names.{names_under};
 
@@ -30,13 +30,13 @@ pub struct Purse {
 
 impl Model for Purse {
     ghost use Rattle.sp_money.specs.Held.{Held};
-    ghost use Rattle.sp_money.specs.Kept.{held_of, IsKept};
+    ghost use Rattle.sp_money.specs.Kept.{held_of, IsEarly, IsKept};
 
     ghost Value = { Held };
 
     ghost view = { λ purse. held_of purse.store };
 
-    ghost invariant = { λ purse. IsKept purse.store };
+    ghost invariant = { λ purse. IsKept purse.store × IsEarly purse.store };
 }
 
 impl Purse {
@@ -79,6 +79,20 @@ impl Purse {
                 Err(Memory)
             }
         }
+    }
+
+    /// Leaves the first transactions, their outputs and the locks of these. None of the others is
+    /// accepted.
+    ///
+    /// The time is one step for each output that is left, and for each entry that goes.
+    pub fn cut(&mut self, txs: u32)
+        requires within { txs ≤ length self.old.accepted }
+        requires none { (tx : ℕ) → txs ≤ tx → is_set self.old.accepted tx ≡ false }
+        requires of { (list : List Transaction) × IsOf list self.old }
+        ensures of { (list : List Transaction) → IsOf list self.old → IsOf (take txs list) self.new }
+        ensures accepted { self.new.accepted ≡ take txs self.old.accepted }
+    {
+        self.store.cut(txs as usize);
     }
 
     /// Sets the flags of transactions, one after another, and keeps what is unspent up with them. A

@@ -8,6 +8,8 @@ use Rattle.sp_block.specs.Block.{ReadBlock}
 use Rattle.sp_block.proofs.Ascent.{ascending_permuted}
 use Rattle.sp_model.specs.Graph.{AreDistinct, has}
 use Rattle.sp_model.proofs.Sets.{has-filter, has-filter_from}
+use Rattle.sp_model.specs.declared.profile.Profile.{Profile}
+use Rattle.sp_model.specs.declared.profile.Profile.TheVariants.{One}
 use Rattle.sp_pool.specs.Kept.{AreApart, present}
 use Rattle.sp_carry.specs.Ledger.{is_accepted, IsPlain}
 use Rattle.sp_engine.specs.Arrivals.{kept_by_all}
@@ -55,69 +57,69 @@ same_passing p q xs ys alike same z =
 
 -- ---- two lists of kept blocks with the same blocks
 
-module _ (labels : AllLabels) (kept others : List ReadBlock) (alike : AreAlike kept others) where
+module _ (profile : Profile) (labels : AllLabels) (kept others : List ReadBlock) (alike : AreAlike kept others) where
   same_order : present_ids labels kept ≡ present_ids labels others
   same_order =
       ap (in_order labels.blocks)
       (same_ascending (present kept) (present others) (AreDistinct-present kept alike.apart) (AreDistinct-present others alike.other_apart) (same_present kept others alike))
 
-  pub same_pairs : pairs_text labels kept ≡ pairs_text labels others
+  pub same_pairs : pairs_text profile labels kept ≡ pairs_text profile labels others
   unfolding pairs_of_ids_text
   same_pairs =
-      ap (pairs_of_ids_text labels kept) same_order
+      ap (pairs_of_ids_text profile labels kept) same_order
       ∙ ap (λ (t : List ℕ). pair_count_text (length (pairs_of (present_ids labels others))) ++ t)
-      (flat_map_same (pair_text labels kept) (pair_text labels others)
-      (λ pair. ap (vote_text (label_of labels.blocks pair.0) (label_of labels.blocks pair.1)) (sym (same_word kept others alike pair.0 pair.1))) (pairs_of (present_ids labels others)))
+      (flat_map_same (pair_text profile labels kept) (pair_text profile labels others)
+      (λ pair. ap (vote_text (label_of labels.blocks pair.0) (label_of labels.blocks pair.1)) (sym (same_word kept others alike profile pair.0 pair.1))) (pairs_of (present_ids labels others)))
 
   same_counts : counts_text kept ≡ counts_text others
   same_counts = ap₂ (λ (up all : ℕ). blocks_text up (all - up)) (same_present_count kept others alike) (same_count kept others alike)
 
-  module _ (plain : IsPlain (ledger_of kept) (present kept)) where
-    same_acceptance : (id : ℕ) → is_accepted (ledger_by_id kept) (present kept) id ≡ is_accepted (ledger_by_id others) (present others) id
+  module _ (plain : IsPlain (ledger_of profile kept) (present kept)) where
+    same_acceptance : (id : ℕ) → is_accepted (ledger_by_id profile kept) (present kept) id ≡ is_accepted (ledger_by_id profile others) (present others) id
     same_acceptance id =
-        acceptance_agrees kept alike.apart plain id
-        ∙ sym (same_accepted kept others alike id plain)
-        ∙ sym (acceptance_agrees others alike.other_apart (same_plain kept others alike plain) id)
+        acceptance_agrees profile kept alike.apart plain id
+        ∙ sym (same_accepted kept others alike profile id plain)
+        ∙ sym (acceptance_agrees profile others alike.other_apart (same_plain kept others alike plain) id)
 
-    pub same_left : (lock : ℕ) → balance_by_id kept lock ≡ balance_by_id others lock
+    pub same_left : (lock : ℕ) → balance_by_id profile kept lock ≡ balance_by_id profile others lock
     same_left lock =
-        balances_agree kept alike.apart plain lock
-        ∙ sym (same_balance kept others lock alike plain)
-        ∙ sym (balances_agree others alike.other_apart (same_plain kept others alike plain) lock)
+        balances_agree profile kept alike.apart plain lock
+        ∙ sym (same_balance profile kept others lock alike plain)
+        ∙ sym (balances_agree profile others alike.other_apart (same_plain kept others alike plain) lock)
 
-    same_ids : accepted_ids labels kept ≡ accepted_ids labels others
+    same_ids : accepted_ids profile labels kept ≡ accepted_ids profile labels others
     same_ids =
-        let p : ℕ → Bool = λ id. is_accepted (ledger_by_id kept) (present kept) id in
-        let q : ℕ → Bool = λ id. is_accepted (ledger_by_id others) (present others) id in
+        let p : ℕ → Bool = λ id. is_accepted (ledger_by_id profile kept) (present kept) id in
+        let q : ℕ → Bool = λ id. is_accepted (ledger_by_id profile others) (present others) id in
         ap (in_order labels.txs) (same_ascending (filter p (tx_ids kept)) (filter q (tx_ids others))
         (distinct_passing p (tx_ids kept) (each_is_once (tx_ids_in kept (order_of kept)))) (distinct_passing q (tx_ids others) (each_is_once (tx_ids_in others (order_of others))))
         (same_passing p q (tx_ids kept) (tx_ids others) same_acceptance (λ z passes. same_tx_ids kept others alike z)))
 
     -- a lock under which anything is left is listed in both
-    listed : (k : List ReadBlock) → AreApart k → (lock : ℕ) → not (eqb (balance_by_id k lock) 0) ≡ true → has (locks k) lock ≡ true
+    listed : (k : List ReadBlock) → AreApart k → (lock : ℕ) → not (eqb (balance_by_id profile k lock) 0) ≡ true → has (locks k) lock ≡ true
     listed k apart lock paid = elim (cases_Bool (has (locks k) lock)) [
       | inl e ↦ e
-      | inr e ↦ absurd (false≢true (sym (ap (λ (n : ℕ). not (eqb n 0)) (unpaid k apart lock e)) ∙ paid))
+      | inr e ↦ absurd (false≢true (sym (ap (λ (n : ℕ). not (eqb n 0)) (unpaid profile k apart lock e)) ∙ paid))
     ]
 
-    same_locks : paid_locks labels kept ≡ paid_locks labels others
+    same_locks : paid_locks profile labels kept ≡ paid_locks profile labels others
     same_locks =
-        let p : ℕ → Bool = λ lock. not (eqb (balance_by_id kept lock) 0) in
-        let q : ℕ → Bool = λ lock. not (eqb (balance_by_id others lock) 0) in
+        let p : ℕ → Bool = λ lock. not (eqb (balance_by_id profile kept lock) 0) in
+        let q : ℕ → Bool = λ lock. not (eqb (balance_by_id profile others lock) 0) in
         let same : (lock : ℕ) → p lock ≡ q lock = λ lock. ap (λ (n : ℕ). not (eqb n 0)) (same_left lock) in
         ap (in_order labels.locks) (same_ascending (filter p (locks kept)) (filter q (locks others))
         (distinct_passing p (locks kept) (locks_once kept)) (distinct_passing q (locks others) (locks_once others))
         (same_passing p q (locks kept) (locks others) same
         (λ z passes. listed kept alike.apart z passes ∙ sym (listed others alike.other_apart z (sym (same z) ∙ passes)))))
 
-    pub same_report : report_text labels kept ≡ report_text labels others
+    pub same_report : report_text profile labels kept ≡ report_text profile labels others
     unfolding report_text all_paid_text
     same_report =
-        ap₂ (λ (counts : List ℕ) (ids : List ℕ). counts ++ (all_accepted_text labels ids ++ all_paid_text labels kept (paid_locks labels kept))) same_counts same_ids
-        ∙ ap (λ (t : List ℕ). counts_text others ++ (all_accepted_text labels (accepted_ids labels others) ++ t))
-        (ap (all_paid_text labels kept) same_locks
-        ∙ ap (λ (t : List ℕ). balance_count_text (length (paid_locks labels others)) ++ t)
-        (flat_map_same (paid_text labels kept) (paid_text labels others) (λ lock. ap (balance_text (label_of labels.locks lock)) (same_left lock)) (paid_locks labels others)))
+        ap₂ (λ (counts : List ℕ) (ids : List ℕ). counts ++ (all_accepted_text labels ids ++ all_paid_text profile labels kept (paid_locks profile labels kept))) same_counts same_ids
+        ∙ ap (λ (t : List ℕ). counts_text others ++ (all_accepted_text labels (accepted_ids profile labels others) ++ t))
+        (ap (all_paid_text profile labels kept) same_locks
+        ∙ ap (λ (t : List ℕ). balance_count_text (length (paid_locks profile labels others)) ++ t)
+        (flat_map_same (paid_text profile labels kept) (paid_text profile labels others) (λ lock. ap (balance_text (label_of labels.locks lock)) (same_left lock)) (paid_locks profile labels others)))
 
 -- ---- the law
 
@@ -125,12 +127,12 @@ pub order_is_no_matter : OrderIsNoMatter
 unfolding reply_of
 order_is_no_matter labels bits genesis arrivals others (SaysBlock bytes) question same plain = absurd question
 order_is_no_matter labels bits genesis arrivals others (SaysVote x y) question same plain =
-    ap (vote_text (label_of labels.blocks x) (label_of labels.blocks y)) (sym (same_word (kept_by_all bits genesis arrivals) (kept_by_all bits genesis others) (same_kept bits genesis arrivals others same) x y))
+    ap (vote_text (label_of labels.blocks x) (label_of labels.blocks y)) (sym (same_word (kept_by_all bits genesis arrivals) (kept_by_all bits genesis others) (same_kept bits genesis arrivals others same) One x y))
 order_is_no_matter labels bits genesis arrivals others (SaysTx id) question same plain =
-    ap (tx_text (label_of labels.txs id)) (sym (same_state (kept_by_all bits genesis arrivals) (kept_by_all bits genesis others) (same_kept bits genesis arrivals others same) id plain))
+    ap (tx_text (label_of labels.txs id)) (sym (same_state (kept_by_all bits genesis arrivals) (kept_by_all bits genesis others) (same_kept bits genesis arrivals others same) One id plain))
 order_is_no_matter labels bits genesis arrivals others (SaysBalance lock) question same plain =
-    ap (balance_text (label_of labels.locks lock)) (same_left labels (kept_by_all bits genesis arrivals) (kept_by_all bits genesis others) (same_kept bits genesis arrivals others same) plain lock)
+    ap (balance_text (label_of labels.locks lock)) (same_left One labels (kept_by_all bits genesis arrivals) (kept_by_all bits genesis others) (same_kept bits genesis arrivals others same) plain lock)
 order_is_no_matter labels bits genesis arrivals others SaysPairs question same plain =
-    same_pairs labels (kept_by_all bits genesis arrivals) (kept_by_all bits genesis others) (same_kept bits genesis arrivals others same)
+    same_pairs One labels (kept_by_all bits genesis arrivals) (kept_by_all bits genesis others) (same_kept bits genesis arrivals others same)
 order_is_no_matter labels bits genesis arrivals others SaysReport question same plain =
-    same_report labels (kept_by_all bits genesis arrivals) (kept_by_all bits genesis others) (same_kept bits genesis arrivals others same) plain
+    same_report One labels (kept_by_all bits genesis arrivals) (kept_by_all bits genesis others) (same_kept bits genesis arrivals others same) plain

@@ -2,6 +2,7 @@
 use Rattle.std.specs.Prelude.{ℕ, List, [], ◌∷◌, ◌++◌, Option, Some, None}
 use Rattle.sp_block.specs.Block.{ReadBlock}
 use Rattle.sp_model.specs.Votes.{word}
+use Rattle.sp_model.specs.declared.profile.Profile.TheVariants.{One}
 use Rattle.sp_pool.specs.Kept.{graph_of, present}
 use Rattle.sp_engine.specs.Arrivals.{answer_of, kept_after, kept_by_all}
 use Rattle.sp_engine.specs.Transactions.{balance_by_id, state_of}
@@ -17,10 +18,10 @@ unfoldable pub reply_of : AllLabels → ℕ → List ReadBlock → Said → List
 reply_of labels bits kept (SaysBlock bytes) = answer_text labels (answer_of bits kept bytes)
 reply_of labels bits kept (SaysVote x y) =
     vote_text (label_of labels.blocks x) (label_of labels.blocks y) (word (graph_of kept) (present kept) x y)
-reply_of labels bits kept (SaysTx id) = tx_text (label_of labels.txs id) (state_of kept id)
-reply_of labels bits kept (SaysBalance lock) = balance_text (label_of labels.locks lock) (balance_by_id kept lock)
-reply_of labels bits kept SaysPairs = pairs_text labels kept
-reply_of labels bits kept SaysReport = report_text labels kept
+reply_of labels bits kept (SaysTx id) = tx_text (label_of labels.txs id) (state_of One kept id)
+reply_of labels bits kept (SaysBalance lock) = balance_text (label_of labels.locks lock) (balance_by_id One kept lock)
+reply_of labels bits kept SaysPairs = pairs_text One labels kept
+reply_of labels bits kept SaysReport = report_text One labels kept
 
 -- the kept blocks after a message
 abbrev pub kept_then : ℕ → List ReadBlock → Said → List ReadBlock

@@ -2,6 +2,7 @@
 use Rattle.std.specs.Prelude.{ℕ, ◌≡◌, ◌≤◌, List, [], ◌∷◌, ◌++◌, fold, length}
 use Rattle.std.specs.List.{flat_map}
 use Rattle.sp_block.specs.Block.{ReadBlock}
+use Rattle.sp_model.specs.declared.profile.Profile.TheVariants.{One}
 use Rattle.sp_pool.specs.Kept.{AreKept, present}
 use Rattle.sp_carry.specs.Ledger.{IsPlain}
 use Rattle.sp_engine.specs.AnyOrder.{AreSameArrivals}
@@ -47,10 +48,10 @@ AnswersAreLines =
 abbrev pub IsPlainFor : List ReadBlock → Said → Type 0
 IsPlainFor kept (SaysBlock bytes) = Unit {0}
 IsPlainFor kept (SaysVote x y) = Unit {0}
-IsPlainFor kept (SaysTx id) = IsPlain (ledger_of kept) (present kept)
-IsPlainFor kept (SaysBalance lock) = IsPlain (ledger_of kept) (present kept)
+IsPlainFor kept (SaysTx id) = IsPlain (ledger_of One kept) (present kept)
+IsPlainFor kept (SaysBalance lock) = IsPlain (ledger_of One kept) (present kept)
 IsPlainFor kept SaysPairs = Unit {0}
-IsPlainFor kept SaysReport = IsPlain (ledger_of kept) (present kept)
+IsPlainFor kept SaysReport = IsPlain (ledger_of One kept) (present kept)
 
 -- Two lists of arrivals with the same valid blocks, at most 512 with genesis and all of different ids: each question is
 -- answered alike after both, by one naming

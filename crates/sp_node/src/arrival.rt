@@ -41,6 +41,7 @@ fn keep<D: Disk>(
     ensures kept { OnOk result (engine.new.kept ≡ kept_after engine.old.bits engine.old.kept bytes.now) }
     ensures kept_unsure { result ≡ Err KeepFault.DiskFault
         → engine.new.kept ≡ kept_after engine.old.bits engine.old.kept bytes.now }
+    ensures profile { OnOk result (engine.new.profile ≡ engine.old.profile) }
     ensures bits { engine.new.bits ≡ engine.old.bits }
     ensures whole { OnOk result (engine.new.broken ≡ false) }
     ensures fits { OnOk result (FitsKept engine.new.bits engine.new.kept journal.new) }
@@ -85,6 +86,7 @@ pub(crate) fn keep_on<D: Disk>(
     ensures kept { OnOk result (engine.new.kept ≡ kept_after engine.old.bits engine.old.kept bytes.now) }
     ensures kept_unsure { result ≡ Err KeepFault.DiskFault
         → engine.new.kept ≡ kept_after engine.old.bits engine.old.kept bytes.now }
+    ensures profile { OnOk result (engine.new.profile ≡ engine.old.profile) }
     ensures bits { engine.new.bits ≡ engine.old.bits }
     ensures whole { OnOk result (engine.new.broken ≡ false) }
     ensures fits { OnOk result (FitsOn engine.new.bits engine.new.kept journal.new) }

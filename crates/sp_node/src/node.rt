@@ -27,6 +27,7 @@ use sp_feed::{FeedHead, Message};
 use sp_ids::Memory;
 use sp_io::Sink;
 use sp_journal::Journal;
+use sp_model::Profile;
 use sp_report::Naming;
 use std::alloc::Global;
 use std::marker::Model;
@@ -42,6 +43,7 @@ pub struct Node {
 
 impl Model for Node {
     ghost use Rattle.std.specs.Prelude.{◌≡◌, false};
+    ghost use Rattle.sp_model.specs.declared.profile.Profile.TheVariants.{One};
     ghost use Rattle.sp_node.specs.Journalled.{FitsOn};
     ghost use Rattle.sp_node.specs.Node.{State};
 
@@ -50,7 +52,7 @@ impl Model for Node {
     ghost view = { λ n. record { bits = n.engine.bits; kept = n.engine.kept; stopped = n.stopped; journal = n.journal } };
 
     ghost invariant = { λ n. n.stopped ≡ false
-        → (n.engine.broken ≡ false) × FitsOn n.engine.bits n.engine.kept n.journal };
+        → (n.engine.broken ≡ false) × ((n.engine.profile ≡ One) × FitsOn n.engine.bits n.engine.kept n.journal) };
 }
 
 // Written out, so that where a node is let go there is one call, and not one for each thing that it
@@ -67,6 +69,7 @@ impl Drop for Node {
 }
 
 impl Node {
+    ghost use Rattle.sp_model.specs.declared.profile.Profile.TheVariants.{One};
     ghost use Rattle.sp_node.specs.Node.{state};
 
     /// A node without a journal, which keeps the genesis block of the feed.
@@ -78,7 +81,7 @@ impl Node {
         ensures { IfOk result (λ node. node ≡ state head.bits (head.genesis ∷ [])) }
     {
         let FeedHead { bits, genesis } = head;
-        let engine = Engine::new(alloc, genesis, bits)?;
+        let engine = Engine::new(alloc, genesis, bits, Profile::One)?;
         Ok(Node {
             alloc,
             engine,
@@ -142,6 +145,7 @@ impl Node {
     // A node of an engine and the journal of its kept blocks.
     fn with_journal(alloc: Global, engine: Engine, journal: Journal) -> Node
         requires whole { engine.broken ≡ false }
+        requires profile { engine.profile ≡ One }
         requires fits { FitsKept engine.bits engine.kept journal }
         ensures { result ≡ record { bits = engine.bits; kept = engine.kept; stopped = false; journal = Some journal } }
     {
@@ -251,6 +255,7 @@ impl Node {
         ensures bits { result.now.bits ≡ self.now.bits }
         ensures kept { result.now.kept ≡ self.now.kept }
         ensures whole { self.now.stopped ≡ false → result.now.broken ≡ false }
+        ensures profile { self.now.stopped ≡ false → result.now.profile ≡ One }
     {
         &self.engine
     }

@@ -5,6 +5,7 @@ ghost use Rattle.sp_ids.specs.Digest.{sha256_number};
 ghost use Rattle.sp_io.specs.Causes.{Rose};
 ghost use Rattle.sp_block.specs.Block.{IsGenesis};
 ghost use Rattle.sp_disk.specs.Moments.{Leaves};
+ghost use Rattle.sp_model.specs.declared.profile.Profile.TheVariants.{One};
 ghost use Rattle.sp_engine.specs.Arrivals.{kept_after, kept_by_all};
 ghost use Rattle.sp_engine.specs.Blocks.{block_in};
 ghost use Rattle.sp_engine.specs.Engine.{IsLedger};
@@ -26,6 +27,7 @@ use sp_engine::Engine;
 use sp_feed::FeedHead;
 use sp_ids::{BlockId, Memory};
 use sp_journal::{CreateFault, Gate, Journal, Opened};
+use sp_model::Profile;
 use std::alloc::Global;
 
 /// Why no node was started.
@@ -73,7 +75,7 @@ pub(crate) fn start_new<D: Disk>(
 ) -> Result<(Engine, Journal), StartFault>
     requires vacant { IfSome (D.now disk.old).reads (IsVacant gate) }
     requires synced { gate ≡ Shut → IsSynced (D.now disk.old) }
-    ensures engine { IfOk result (λ made. IsLedger head.bits (head.genesis ∷ []) made.0) }
+    ensures engine { IfOk result (λ made. IsLedger One head.bits (head.genesis ∷ []) made.0) }
     ensures fits { IfOk result (λ made. FitsKept head.bits (head.genesis ∷ []) made.1) }
     ensures stands { IfOk result (λ made. IsTold (D.now disk.old)
         → StandsForKept head.bits (head.genesis ∷ []) made.1 (D.now disk.new)) }
@@ -87,7 +89,7 @@ pub(crate) fn start_new<D: Disk>(
     ensures quiet { (IsErrOf result faults.DiskFault → ⊥) → (D.now disk.new).faults ≡ (D.now disk.old).faults }
 {
     let FeedHead { bits, genesis } = head;
-    let engine = Engine::new(alloc, genesis, bits)?;
+    let engine = Engine::new(alloc, genesis, bits, Profile::One)?;
     match Journal::create(alloc, disk, gate, bits, engine.genesis()) {
         Ok(journal) => Ok((engine, journal)),
         Err(fault) => {
@@ -105,6 +107,7 @@ fn restore(engine: &mut Engine, blocks: &[Block]) -> Result<(), Memory>
     ensures kept { OnOk result (engine.new.kept ≡ engine.old.kept ++ blocks.now) }
     ensures sent { OnOk result (engine.new.kept
         ≡ fold (kept_after engine.old.bits) engine.old.kept (map bytes_in blocks.now)) }
+    ensures profile { OnOk result (engine.new.profile ≡ engine.old.profile) }
     ensures bits { engine.new.bits ≡ engine.old.bits }
     ensures whole { OnOk result (engine.new.broken ≡ false) }
 {
@@ -123,11 +126,11 @@ fn engine_of(alloc: Global, genesis: Block, bits: u8, blocks: &[Block]) -> Resul
     requires bits { bits ≤ 64 }
     requires good { InTurn (IsGood bits) id_behind (ids_of (genesis ∷ [])) blocks.now }
     requires few { length blocks.now ≤ 511 }
-    ensures engine { IfOk result (IsLedger bits (genesis ∷ blocks.now)) }
+    ensures engine { IfOk result (IsLedger One bits (genesis ∷ blocks.now)) }
     ensures sent { IfOk result (λ engine. engine.kept
         ≡ kept_by_all bits genesis (map bytes_in blocks.now)) }
 {
-    let mut engine = Engine::new(alloc, genesis, bits)?;
+    let mut engine = Engine::new(alloc, genesis, bits, Profile::One)?;
     let restored = restore(&mut engine, blocks);
     if restored.is_err() {
         drop(engine);
@@ -158,7 +161,7 @@ fn other_chain(opened: &Opened, head: &FeedHead) -> Option<StartFault>
 /// An engine of an opened journal's blocks, which are offered to it in their order, where they are of
 /// the head's chain.
 fn engine_on(alloc: Global, opened: &Opened, head: FeedHead) -> Result<Engine, StartFault>
-    ensures engine { IfOk result (IsLedger head.bits (head.genesis ∷ opened.now.blocks)) }
+    ensures engine { IfOk result (IsLedger One head.bits (head.genesis ∷ opened.now.blocks)) }
     ensures sent { IfOk result (λ engine. engine.kept
         ≡ kept_by_all head.bits head.genesis (map bytes_in opened.now.blocks)) }
     ensures same { OnOk result (IsSameChain opened.now head) }
@@ -192,7 +195,7 @@ pub(crate) fn start_found(
     opened: Opened,
     head: FeedHead,
 ) -> Result<(Engine, Journal), StartFault>
-    ensures engine { IfOk result (λ made. IsLedger head.bits (head.genesis ∷ opened.blocks) made.0) }
+    ensures engine { IfOk result (λ made. IsLedger One head.bits (head.genesis ∷ opened.blocks) made.0) }
     ensures sent { IfOk result (λ made. made.0.kept ≡ kept_by_all head.bits head.genesis (map bytes_in opened.blocks)) }
     ensures same { OnOk result (IsSameChain opened head) }
     ensures journal { IfOk result (λ made. made.1 ≡ opened.journal) }
@@ -216,7 +219,7 @@ pub(crate) fn start_found(
 ///
 /// `Memory` where there was none for them.
 pub fn recovered(alloc: Global, opened: Opened) -> Result<Engine, Memory>
-    ensures engine { IfOk result (IsLedger opened.bits (opened.genesis ∷ opened.blocks)) }
+    ensures engine { IfOk result (IsLedger One opened.bits (opened.genesis ∷ opened.blocks)) }
     ensures sent { IfOk result (λ engine. engine.kept ≡ kept_by_all opened.bits opened.genesis (map bytes_in opened.blocks)) }
     ensures spelled { OnOk result (block_in true opened.genesis.bytes ≡ Ok opened.genesis) }
 {

@@ -3,7 +3,7 @@ use Rattle.std.proofs.Common.{◌≡◌, ◌≢◌, ℕ, ◌+◌, ◌<◌, Bool,
 use Rattle.std.specs.Prelude.{ℤ, pos, negsuc}
 use Rattle.std.proofs.lemmas.Bool.{eq-eqb, ne_eqb}
 use Rattle.sp_model.specs.Graph.{Graph, has, in_past, past, future, IsDownset}
-use Rattle.sp_model.specs.Votes.{vote, virt, total, sgn, vote_by, case_by}
+use Rattle.sp_model.specs.Votes.{vote, virt, total, sgn, settled_in, vote_by, case_by}
 use Rattle.sp_model.proofs.Sets.{has-filter, total_same}
 use Rattle.sp_model.proofs.Recursion.{vote_is}
 use Rattle.sp_plain.specs.Plain.{AreVotesFrom}
@@ -32,7 +32,7 @@ module _ (g : Graph) (set : List ℕ) (z x y : ℕ) (down : IsDownset g set) (me
   pub vote_only_y : z ≢ x → z ≢ y → in_past g x z ≡ false → in_past g y z ≡ true → vote g set z x y ≡ pos 1
   vote_only_y ne ne' h k = vote_in false false false true (ne_eqb z x ne) (ne_eqb z y ne') h k
 
-  pub vote_both : z ≢ x → z ≢ y → in_past g x z ≡ true → in_past g y z ≡ true → vote g set z x y ≡ virt g (past g z) x y
+  pub vote_both : z ≢ x → z ≢ y → in_past g x z ≡ true → in_past g y z ≡ true → vote g set z x y ≡ settled_in g x y (virt g (past g z) x y)
   vote_both ne ne' h k = vote_in false false true true (ne_eqb z x ne) (ne_eqb z y ne') h k
 
   pub vote_neither : z ≢ x → z ≢ y → in_past g x z ≡ false → in_past g y z ≡ false → vote g set z x y ≡ sgn (total (λ w. vote g set w x y) (future g set z))

@@ -48,7 +48,7 @@ fn sum_of_future(dag: &Dag, members: &Row, votes: &[i8], z: u16) -> i32
     requires wide { length votes.now ≤ length dag.now.parents }
     requires below { (w : ℕ) → has members.now w ≡ true → w < length votes.now }
     requires within { z < length dag.now.parents }
-    ensures { result ≡ total (λ w. slice_index_or votes.now w (pos 0)) (future (graph_of dag.now.parents) members.now z) }
+    ensures { result ≡ total (λ w. slice_index_or votes.now w (pos 0)) (future (graph_of dag.now) members.now z) }
 {
     // Tells the proof that the row ascends.
     let _count = members.count();
@@ -65,7 +65,7 @@ fn sum_of_future(dag: &Dag, members: &Row, votes: &[i8], z: u16) -> i32
 /// the matrices of the pasts of all members.
 #[tactic(auto, using(crate::proofs::Cases::vote_cases))]
 fn vote_of(dag: &Dag, pasts: &[Matrix], members: &Row, votes: &[i8], z: u16, x: u16, y: u16) -> i8
-    requires pasts { ArePasts (graph_of dag.now.parents) pasts.now }
+    requires pasts { ArePasts (graph_of dag.now) pasts.now }
     requires reach { z < length pasts.now }
     requires wide { length votes.now ≤ length dag.now.parents }
     requires z_in { z < length votes.now }
@@ -73,9 +73,9 @@ fn vote_of(dag: &Dag, pasts: &[Matrix], members: &Row, votes: &[i8], z: u16, x: 
     requires y_in { y < length dag.now.parents }
     requires below { (w : ℕ) → has members.now w ≡ true → w < length votes.now }
     requires member { IsTrue (has members.now z) }
-    requires whole { IsDownset (graph_of dag.now.parents) members.now }
-    requires above { AreVotesFrom (graph_of dag.now.parents) members.now (length votes.now) x y (z + 1) votes.now }
-    ensures { result ≡ vote (graph_of dag.now.parents) members.now z x y }
+    requires whole { IsDownset (graph_of dag.now) members.now }
+    requires above { AreVotesFrom (graph_of dag.now) members.now (length votes.now) x y (z + 1) votes.now }
+    ensures { result ≡ vote (graph_of dag.now) members.now z x y }
 {
     // Tells the proof that the blocks stand in order.
     let _blocks = dag.len();
@@ -88,7 +88,7 @@ fn vote_of(dag: &Dag, pasts: &[Matrix], members: &Row, votes: &[i8], z: u16, x: 
     if dag.in_past(x, z) {
         if dag.in_past(y, z) {
             let past = &pasts[z as usize];
-            return past.vote(x, y);
+            return dag.settled(x, y, past.vote(x, y));
         }
         return -1;
     }
@@ -109,15 +109,15 @@ fn votes_of(
     x: u16,
     y: u16,
 ) -> Result<Vec<i8>, Memory>
-    requires pasts { ArePasts (graph_of dag.now.parents) pasts.now }
+    requires pasts { ArePasts (graph_of dag.now) pasts.now }
     requires reach { (w : ℕ) → has members.now w ≡ true → w < length pasts.now }
     requires wide { width ≤ length dag.now.parents }
     requires x_in { x < length dag.now.parents }
     requires y_in { y < length dag.now.parents }
     requires below { (w : ℕ) → has members.now w ≡ true → w < width }
-    requires whole { IsDownset (graph_of dag.now.parents) members.now }
+    requires whole { IsDownset (graph_of dag.now) members.now }
     ensures long { IfOk result (λ votes. length votes.items ≡ width) }
-    ensures ok { IfOk result (λ votes. AreVotesFrom (graph_of dag.now.parents) members.now width x y 0 votes.items) }
+    ensures ok { IfOk result (λ votes. AreVotesFrom (graph_of dag.now) members.now width x y 0 votes.items) }
 {
     // Tells the proof that there are at most 512 blocks.
     let _blocks = dag.len();
@@ -141,14 +141,14 @@ pub(crate) fn virt_of(
     x: u16,
     y: u16,
 ) -> Result<i8, Memory>
-    requires pasts { ArePasts (graph_of dag.now.parents) pasts.now }
+    requires pasts { ArePasts (graph_of dag.now) pasts.now }
     requires reach { (w : ℕ) → has members.now w ≡ true → w < length pasts.now }
     requires wide { width ≤ length dag.now.parents }
     requires x_in { x < length dag.now.parents }
     requires y_in { y < length dag.now.parents }
     requires below { (w : ℕ) → has members.now w ≡ true → w < width }
-    requires whole { IsDownset (graph_of dag.now.parents) members.now }
-    ensures ok { IfOk result (λ v. v ≡ virt (graph_of dag.now.parents) members.now x y) }
+    requires whole { IsDownset (graph_of dag.now) members.now }
+    ensures ok { IfOk result (λ v. v ≡ virt (graph_of dag.now) members.now x y) }
 {
     // Tells the proof that there are at most 512 blocks, so that the sum fits.
     let _blocks = dag.len();

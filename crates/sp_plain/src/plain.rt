@@ -25,14 +25,14 @@ fn push_virts(
     x: u16,
     votes: &mut Vec<i8>,
 ) -> Result<(), Memory>
-    requires pasts { ArePasts (graph_of dag.now.parents) pasts.now }
+    requires pasts { ArePasts (graph_of dag.now) pasts.now }
     requires reach { (w : ℕ) → has members.now w ≡ true → w < length pasts.now }
     requires wide { width ≤ length dag.now.parents }
     requires x_in { x < width }
     requires below { (w : ℕ) → has members.now w ≡ true → w < width }
-    requires whole { IsDownset (graph_of dag.now.parents) members.now }
+    requires whole { IsDownset (graph_of dag.now) members.now }
     ensures ok { OnOk result (votes.new.items ≡
-        votes.old.items ++ map (virt (graph_of dag.now.parents) members.now x) (range_with_len 0 width)) }
+        votes.old.items ++ map (virt (graph_of dag.now) members.now x) (range_with_len 0 width)) }
 {
     for y in 0..width {
         votes.push(virt_of(alloc, dag, pasts, members, width, x, y)?)?;
@@ -49,12 +49,12 @@ fn virts_of(
     members: &Row,
     width: u16,
 ) -> Result<Matrix, Memory>
-    requires pasts { ArePasts (graph_of dag.now.parents) pasts.now }
+    requires pasts { ArePasts (graph_of dag.now) pasts.now }
     requires reach { (w : ℕ) → has members.now w ≡ true → w < length pasts.now }
     requires wide { width ≤ length dag.now.parents }
     requires below { (w : ℕ) → has members.now w ≡ true → w < width }
-    requires whole { IsDownset (graph_of dag.now.parents) members.now }
-    ensures ok { IfOk result (λ matrix. matrix ≡ virts_in (graph_of dag.now.parents) members.now width) }
+    requires whole { IsDownset (graph_of dag.now) members.now }
+    ensures ok { IfOk result (λ matrix. matrix ≡ virts_in (graph_of dag.now) members.now width) }
 {
     let mut votes = Vec::new(alloc);
     for x in 0..width {
@@ -65,7 +65,7 @@ fn virts_of(
 
 /// The matrices of the pasts of all blocks, each made with those before it.
 fn pasts_of(alloc: Global, dag: &Dag) -> Result<Vec<Matrix>, Memory>
-    ensures pasts { IfOk result (λ pasts. ArePasts (graph_of dag.now.parents) pasts.items) }
+    ensures pasts { IfOk result (λ pasts. ArePasts (graph_of dag.now) pasts.items) }
     ensures long { IfOk result (λ pasts. length pasts.items ≡ length dag.now.parents) }
 {
     let mut pasts = Vec::new(alloc);
@@ -84,8 +84,8 @@ fn pasts_of(alloc: Global, dag: &Dag) -> Result<Vec<Matrix>, Memory>
 ///
 /// `Memory` where the matrices found none.
 pub fn plain_votes(alloc: Global, dag: &Dag, members: &Row) -> Result<Matrix, Memory>
-    requires { IsClosed (graph_of dag.now.parents) (length dag.now.parents) members.now }
-    ensures { IfOk result (HasVirts (graph_of dag.now.parents) members.now (length dag.now.parents)) }
+    requires { IsClosed (graph_of dag.now) (length dag.now.parents) members.now }
+    ensures { IfOk result (HasVirts (graph_of dag.now) members.now (length dag.now.parents)) }
 {
     let pasts = pasts_of(alloc, dag)?;
     let matrix = virts_of(alloc, dag, &pasts, members, dag.len())?;

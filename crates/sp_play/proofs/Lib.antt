@@ -14,3 +14,4 @@ pub mod JudgedParts
 pub mod Spellable
 pub mod Fitting
 pub mod Twins
+mod MadeBlocks

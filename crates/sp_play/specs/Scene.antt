@@ -1,10 +1,10 @@
 -- A whole scenario: its lines up to the first fault, and the feed and the names that they stand for.
-use Rattle.std.specs.Prelude.{◌≡◌, ℕ, ◌+◌, List, [], ◌∷◌, fold, map, Option, Some, None, Result, Ok, Err}
+use Rattle.std.specs.Prelude.{◌≡◌, ℕ, ◌+◌, ◌++◌, if◌then◌else◌, List, [], ◌∷◌, fold, map, Option, Some, None, Result, Ok, Err}
 use Rattle.sp_ids.specs.Digest.{sha256_number}
 use Rattle.sp_feed.specs.Kinds.{Said, SaysBlock, SaysVote, SaysTx, SaysBalance, SaysPairs, SaysReport}
 use Rattle.sp_names.specs.Labels.{AllLabels, no_labels, with_label}
 use Rattle.sp_play.specs.Kept.{IsKept}
-use Rattle.sp_play.specs.Known.{at_start, Entry, genesis_text, grants_of, Known, thing_at}
+use Rattle.sp_play.specs.Known.{at_start, Entry, genesis_text, grants_of, is_made, Known, thing_at}
 use Rattle.sp_play.specs.Making.{after_line, id_in}
 use Rattle.sp_play.specs.Words.{lines_of}
 use Rattle.sp_play.specs.declared.saying.Saying.{Saying}
@@ -65,11 +65,20 @@ with_entry entries labels entry = label_in entries entry.1 entry.0 labels
 abbrev pub with_lock : AllLabels → List ℕ → AllLabels
 with_lock labels word = record labels { locks = with_label labels.locks (sha256_number word) word }
 
+-- the made blocks, each with its name and its bytes, in order of making
+abbrev pub made_by : Entry → List (List ℕ × List ℕ)
+made_by entry = if is_made entry.1 then (entry.0, thing_bytes [] entry.1) ∷ [] else []
+
+unfoldable pub made_in : List Entry → List (List ℕ × List ℕ)
+made_in [] = []
+made_in (entry ∷ entries) = made_by entry ++ made_in entries
+
 pub record Scene : Type 0 where
   -- the bits of work, and the bytes of the genesis block
   pub bits : ℕ
   pub genesis : List ℕ
   pub names : AllLabels
+  pub made : List (List ℕ × List ℕ)
   pub messages : List Said
   pub fault : Option LineFault
 
@@ -82,6 +91,7 @@ scene_of r =
       bits = r.known.bits;
       genesis = genesis_text (grants_of r.known.entries);
       names = names_in r.known;
+      made = made_in r.known.entries;
       messages = map (said_in r.known) r.known.sayings;
       fault = r.fault;
     }

@@ -8,7 +8,7 @@ ghost use Rattle.sp_play.specs.Making as line;
 ghost use Rattle.sp_play.specs.Known.{grants_of};
 ghost use Rattle.sp_play.specs.Kept.{IsKept};
 ghost use Rattle.sp_feed.specs.Messages.{said_by};
-ghost use Rattle.sp_play.specs.Scene.{names_in, said_in};
+ghost use Rattle.sp_play.specs.Scene.{made_in, names_in, said_in};
 
 mod asking_lines;
 mod block_lines;
@@ -16,6 +16,7 @@ mod head_lines;
 mod tx_lines;
 
 use crate::entries::Entries;
+use crate::made::{count_made, made_at};
 use crate::namings::{entry_names, name_locks};
 use crate::saying::Saying;
 use crate::scans::genesis_text;
@@ -103,6 +104,21 @@ impl Known {
         ensures { IsKept self.now.bits self.now.entries }
     {
         let _ = &self.alloc;
+    }
+
+    /// How many blocks were made.
+    pub(crate) fn made_count(&self) -> u16
+        ensures { result ≡ length (made_in self.now.entries) }
+    {
+        count_made(&self.entries)
+    }
+
+    /// The name and the bytes of a made block, by its number in order of making.
+    pub(crate) fn made(&self, i: u16) -> (Name, &[u8])
+        requires { i < length (made_in self.now.entries) }
+        ensures { slice_get (made_in self.now.entries) i ≡ Some (result.0, result.1.now) }
+    {
+        made_at(&self.entries, i)
     }
 
     /// The bytes of the genesis block.

@@ -14,6 +14,7 @@ mod judging;
 mod known;
 mod limits;
 mod lookups;
+mod made;
 mod namings;
 mod numbers;
 mod out;
@@ -34,7 +35,9 @@ mod whole;
 mod why;
 mod words;
 
-pub use numbers::number_of;
+pub use numbers::{is_decimal, number_of};
 pub use source::{ScenarioFault, read_scenario};
+pub use spelling::{has_line_bytes, is_skipped, is_word};
 pub use whole::Scene;
 pub use why::{LineFault, Why};
+pub use words::{Words, first_line, first_word};

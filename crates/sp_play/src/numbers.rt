@@ -20,7 +20,7 @@ fn has_digits(word: &[u8]) -> bool
 }
 
 /// Whether a word is digits, the first of them no 0 unless it is the only one.
-fn is_decimal(word: &[u8]) -> bool
+pub fn is_decimal(word: &[u8]) -> bool
     ensures { result ≡ meant.is_decimal word.now }
 {
     1 <= word.len() && has_digits(word) && (word.len() == 1 || word[0] != b'0')

@@ -24,14 +24,14 @@ fn is_line_byte(byte: u8) -> bool
 }
 
 /// Whether a line holds only such bytes.
-pub(crate) fn has_line_bytes(line: &[u8]) -> bool
+pub fn has_line_bytes(line: &[u8]) -> bool
     ensures { result ≡ list_all meant.is_line_byte line.now }
 {
     line.iter().all(|byte| is_line_byte(*byte))
 }
 
 /// Whether a word is this text.
-pub(crate) fn is_word(text: &[u8], word: &[u8]) -> bool
+pub fn is_word(text: &[u8], word: &[u8]) -> bool
     ensures { result ≡ commands.is_word text.now word.now }
 {
     word == text
@@ -68,7 +68,7 @@ pub(crate) fn is_name(word: &[u8]) -> bool
 
 /// Whether a line is skipped: it has no words, or the first one begins with `#`. It takes no memory.
 #[tactic(auto, unfolding(crate::specs::Words::is_skipped))]
-pub(crate) fn is_skipped(line: &[u8]) -> bool
+pub fn is_skipped(line: &[u8]) -> bool
     ensures value { result ≡ meant.is_skipped (words_of line.now) }
     ensures worded { OnFalse result (0 < length (words_of line.now)) }
 {

@@ -1,6 +1,6 @@
 //! What a whole scenario stands for.
 
-ghost use Rattle.std.specs.Prelude.{◌≡◌, ◌<◌, ◌≤◌, IfOk, IsNone, length, OnErr, OnOk, slice_get};
+ghost use Rattle.std.specs.Prelude.{◌≡◌, ◌<◌, ◌≤◌, IfOk, IsNone, length, OnErr, OnOk, slice_get, Some};
 ghost use Rattle.std.specs.Io.KnownBytes.{Appends};
 ghost use Rattle.sp_io.specs.Causes.{HasCause};
 ghost use Rattle.sp_io.specs.Whole.{AppendsFront};
@@ -15,7 +15,7 @@ use crate::why::LineFault;
 use sp_feed::{FeedHead, Message};
 use sp_ids::{BlockId, Memory};
 use sp_io::{Failed, Sink};
-use sp_names::Names;
+use sp_names::{Name, Names};
 use std::alloc::Global;
 use std::marker::Model;
 
@@ -31,7 +31,7 @@ pub struct Scene {
 impl Model for Scene {
     ghost use Rattle.std.specs.Prelude.{map};
     ghost use Rattle.sp_play.specs.Scene as meant;
-    ghost use Rattle.sp_play.specs.Scene.{IsWhole, said_in};
+    ghost use Rattle.sp_play.specs.Scene.{IsWhole, made_in, said_in};
 
     ghost Value = { meant.Scene };
 
@@ -39,6 +39,7 @@ impl Model for Scene {
       bits = s.reading.known.bits;
       genesis = s.genesis.items;
       names = s.names;
+      made = made_in s.reading.known.entries;
       messages = map (said_in s.reading.known) s.reading.known.sayings;
       fault = s.reading.fault;
     } };
@@ -105,6 +106,22 @@ impl Scene {
         ensures { result.now ≡ self.now.names }
     {
         &self.names
+    }
+
+    /// How many blocks it makes.
+    pub fn made_count(&self) -> u16
+        ensures { result ≡ length self.now.made }
+    {
+        self.reading.known.made_count()
+    }
+
+    /// The name and the bytes of a block that it makes, by its number in order of making, counted from 0.
+    /// It takes time in proportion to the names.
+    pub fn made(&self, i: u16) -> (Name, &[u8])
+        requires { i < length self.now.made }
+        ensures { slice_get self.now.made i ≡ Some (result.0, result.1.now) }
+    {
+        self.reading.known.made(i)
     }
 
     /// How many messages there are.

@@ -5,10 +5,12 @@ use Rattle.std.proofs.lemmas.Bool.{eqb-true, eq-eqb, false≢true, or_left}
 use Rattle.std.proofs.lemmas.List.Elements.{All-head, All-tail}
 use Rattle.sp_block.specs.Block.{IsBlock, IsOther, ReadBlock}
 use Rattle.sp_block.proofs.Whole.{other_parents}
-use Rattle.sp_model.specs.Graph.{AreDistinct, Block as Node, has, IsGraph, parents_of, parents_or_none}
-use Rattle.sp_pool.specs.Kept.{AreKept, graph_of, ids_of, node_of}
+use Rattle.sp_model.specs.Graph.{AreDistinct, Block as Node, has, IsGraph, Rank, parents_of, parents_or_none}
+use Rattle.sp_model.specs.declared.profile.Profile.{Profile}
+use Rattle.sp_pool.specs.Kept.{AreKept, graph_in, graph_of, ids_of, node_of}
 use Rattle.sp_pool.proofs.KeptBlocks.{no_parents}
 use Rattle.sp_pool.proofs.Parents.{keys-graph_of}
+use Rattle.sp_pool.proofs.Ranks.{rank_id}
 
 -- a block other than genesis has a parent
 others_have_parents : (others : List ReadBlock) (z : ℕ) → All IsBlock others → All IsOther others → has (ids_of others) z ≡ true → parents_of (graph_of others) z ≡ [] → ⊥
@@ -41,14 +43,19 @@ module _ (genesis : ReadBlock) (others : List ReadBlock) where
       at true e there none = sym (eqb-true genesis.id z e)
       at false e there none = absurd (others_have_parents others z blocks kinds there none)
 
-pub kept_graph : (kept : List ReadBlock) (h : AreKept kept) → IsGraph (graph_of kept) h.genesis.id
-kept_graph kept h =
+-- whatever the profile is
+pub kept_graph : (profile : Profile) (kept : List ReadBlock) (h : AreKept kept) → IsGraph (graph_in profile kept) h.genesis.id
+kept_graph profile kept h =
     let blocks : All IsBlock (h.genesis ∷ h.others) = subst (λ (bs : List ReadBlock). All IsBlock bs) h.first h.are_blocks in
     let root : h.genesis.parents ≡ [] = no_parents h.genesis (All-head IsBlock h.genesis h.others blocks) h.is_genesis in
     let keys_are = keys-graph_of kept in
     let ids : ids_of kept ≡ ids_of (h.genesis ∷ h.others) = ap ids_of h.first in
     record {
       distinct = subst (λ (ks : List ℕ). AreDistinct ks) (sym keys_are) h.apart;
+      ranks = λ a b a_in b_in same.
+          sym (rank_id profile kept a (sym (ap (λ (ks : List ℕ). has ks a) keys_are) ∙ a_in))
+          ∙ ap (λ (r : Rank). r.id) same
+          ∙ rank_id profile kept b (sym (ap (λ (ks : List ℕ). has ks b) keys_are) ∙ b_in);
       there =
           ap (λ (ks : List ℕ). has ks h.genesis.id) (keys_are ∙ ids)
           ∙ or_left (eqb h.genesis.id h.genesis.id) (has (ids_of h.others) h.genesis.id) (eq-eqb h.genesis.id h.genesis.id refl);

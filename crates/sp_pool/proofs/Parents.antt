@@ -22,7 +22,7 @@ find_none p b bs none = at (p b) refl none
     at false e h = (e, h)
 
 -- a search that finds a block finds it here or later
-find_some : (p : ReadBlock → Bool) (a b : ReadBlock) (bs : List ReadBlock) → find p (a ∷ bs) ≡ Some b → ((p a ≡ true) × (a ≡ b)) ⊎ (find p bs ≡ Some b)
+pub find_some : (p : ReadBlock → Bool) (a b : ReadBlock) (bs : List ReadBlock) → find p (a ∷ bs) ≡ Some b → ((p a ≡ true) × (a ≡ b)) ⊎ (find p bs ≡ Some b)
 find_some p a b bs found = at (p a) refl found
   where
     at : (c : Bool) → p a ≡ c → cond c (Some a) (find p bs) ≡ Some b → ((p a ≡ true) × (a ≡ b)) ⊎ (find p bs ≡ Some b)

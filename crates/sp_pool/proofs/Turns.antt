@@ -1,8 +1,8 @@
 -- The turns of a release.
-use Rattle.std.proofs.Common.{◌≡◌, ℕ, ◌+◌, ◌<◌, ◌≤◌, Bool, true, false, cond, not, List, [], ◌∷◌, ◌++◌, length, set, get_or, refl, sym, ap, subst, ◌∙◌, Option, Some, None, arith, append_assoc, append-nil, length-append}
+use Rattle.std.proofs.Common.{◌≡◌, ℕ, ◌+◌, ◌<◌, ◌≤◌, Bool, true, false, cond, not, List, [], ◌∷◌, ◌++◌, length, set, get_or, refl, sym, ap, subst, ◌∙◌, Option, Some, None, arith, inl, inr, append_assoc, append-nil, length-append}
 use Rattle.std.specs.Prelude.{find, slice_get, count_by}
 use Rattle.std.specs.Option.{option_map}
-use Rattle.std.proofs.lemmas.Option.{get_or_from_slice_get, none-some, same_Some, slice_get_within}
+use Rattle.std.proofs.lemmas.Option.{get_or_from_slice_get, none-some, same_Some, slice_get_cases, slice_get_within}
 use Rattle.std.proofs.lemmas.List.Sums.{sum_by-set}
 use Rattle.sp_block.specs.Block.{ReadBlock}
 use Rattle.sp_pool.specs.Kept.{AreApart, is_ready, Releases}
@@ -76,3 +76,21 @@ Turned-same before now now' ids ids' capacity capacity' a b c h =
     let Q : List ℕ → Type 0 = λ l. Turned before now l capacity' in
     let R : ℕ → Type 0 = λ n. Turned before now ids n in
     subst P (sym a) (subst Q (sym b) (subst R (sym c) h))
+
+-- nothing was released yet
+pub Turned-none : (m : Marked) → Turned m m [] (count_by not m.marks)
+Turned-none m =
+    record {
+      blocks = refl;
+      marks = λ s h. subst (λ (l : List ℕ). Marks m l) (sym (append-nil s)) h;
+      order = λ s rest h r. subst (λ (l : List ℕ). Releases m.blocks l rest) (append-nil s) r;
+      room = omega arith;
+    }
+
+-- the id of the block at a place, where there is one
+pub id_there : (bs : List ReadBlock) (place : ℕ) → place < length bs → (id : ℕ) × (option_map (λ (b : ReadBlock). b.id) (slice_get bs place) ≡ Some id)
+id_there bs place within =
+    elim (slice_get_cases bs place).1 [
+      | inl some ↦ (some.0.id, ap (option_map (λ (b : ReadBlock). b.id)) some.2)
+      | inr past ↦ absurd (omega (arith, past.0, within))
+    ]

@@ -2,7 +2,9 @@
 use Rattle.std.specs.Prelude.{ℕ, ◌≡◌, ◌≤◌, ◌&&◌, All, not, nat_lt, Bool, List, [], ◌∷◌, ◌++◌, map, fold, find, length, if◌then◌else◌, Some, None}
 use Rattle.std.specs.List.{list_all}
 use Rattle.sp_block.specs.Block.{IsBlock, IsGenesis, IsOther, ReadBlock}
-use Rattle.sp_model.specs.Graph.{AreDistinct, Block as Node, complete, Graph, has}
+use Rattle.sp_model.specs.declared.profile.Profile.{Profile}
+use Rattle.sp_model.specs.declared.profile.Profile.TheVariants.{One}
+use Rattle.sp_model.specs.Graph.{AreDistinct, Block as Node, complete, Graph, has, Rank}
 use Rattle.sp_pool.specs.declared.answers.Standing.{Standing}
 use Rattle.sp_pool.specs.declared.answers.Standing.TheVariants.{Known, Full, Fresh}
 
@@ -52,12 +54,20 @@ pub record AreKept (kept : List ReadBlock) : Type 0 where
   pub apart : AreApart kept
   pub few : length kept ≤ 512
 
-abbrev pub node_of : ReadBlock → Node
-node_of block = record { key = block.id; parents = block.parents }
+-- a block's rank
+abbrev pub rank_in : ReadBlock → Rank
+rank_in block = record { salt = block.salt; id = block.id }
 
--- the graph of the kept blocks
+abbrev pub node_of : ReadBlock → Node
+node_of block = record { key = block.id; parents = block.parents; rank = rank_in block }
+
+-- the graph of the kept blocks in a profile
+abbrev pub graph_in : Profile → List ReadBlock → Graph
+graph_in profile kept = record { profile = profile; blocks = map node_of kept }
+
+-- the same in profile 1; pasts, and which blocks are complete, don't depend on the profile
 abbrev pub graph_of : List ReadBlock → Graph
-graph_of kept = record { blocks = map node_of kept }
+graph_of kept = graph_in One kept
 
 -- the ids of the kept blocks whose ancestors are all kept and lead to genesis
 abbrev pub present : List ReadBlock → List ℕ

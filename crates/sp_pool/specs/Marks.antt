@@ -1,6 +1,6 @@
 -- Blocks in order of arrival, some of them marked, and what the marks stand for. Contracts of private functions
 -- alone cite them.
-use Rattle.std.specs.Prelude.{ℕ, ◌≡◌, Bool, true, false, List, [], ◌∷◌, ◌++◌, map, take}
+use Rattle.std.specs.Prelude.{ℕ, ◌≡◌, Bool, true, false, List, [], ◌∷◌, ◌++◌, length, map, replicate, take}
 use Rattle.std.specs.List.{list_all}
 use Rattle.sp_block.specs.Block.{ReadBlock}
 use Rattle.sp_model.specs.Graph.{has}
@@ -14,6 +14,10 @@ pub record Marked : Type 0 where
 
 abbrev pub marked : List ReadBlock → List Bool → List ℕ → Marked
 marked blocks marks seen = record { blocks = blocks; marks = marks; seen = seen }
+
+-- blocks without marks, of whose parents none was seen
+abbrev pub unmarked : List ReadBlock → Marked
+unmarked blocks = marked blocks (replicate (length blocks) false) (replicate (length blocks) 0)
 
 -- one block more, without a mark
 abbrev pub with_unmarked : Marked → ReadBlock → Marked

@@ -3,7 +3,7 @@
 //! means. A look-up by id goes through a hash table, and all else but `unmarked` takes a
 //! bounded number of steps.
 
-ghost use Rattle.std.specs.Prelude.{◌≡◌, ◌<◌, ◌++◌, ◌∷◌, [], count_by, false, IfOk, IsFalse, length, nat_eq, not, OnErr, OnOk, position, slice_get, slice_set, true, vec_capacity, vec_len};
+ghost use Rattle.std.specs.Prelude.{◌≡◌, ◌<◌, ◌-◌, ◌++◌, ◌∷◌, [], count_by, false, IfOk, IsFalse, length, nat_eq, not, OnErr, OnOk, position, slice_get, slice_set, take, true, vec_capacity, vec_len};
 ghost use Rattle.std.specs.Option.{option_map};
 ghost use Rattle.indexmap.specs.IndexMap.{keys, values};
 ghost use Rattle.sp_model.specs.Graph.{has};
@@ -72,7 +72,7 @@ fn make_room(marks: &mut Vec<bool>, seen: &mut Vec<usize>) -> Result<(), AllocEr
 }
 
 impl Entries {
-    ghost use Rattle.sp_pool.specs.Marks.{marked, with_unmarked};
+    ghost use Rattle.sp_pool.specs.Marks.{marked, unmarked, with_unmarked};
 
     /// One block, which is marked.
     pub fn new(alloc: Global, first: Block) -> Result<Entries, Memory>
@@ -174,6 +174,18 @@ impl Entries {
         self.marks.push_reserved(false);
         self.seen.push_reserved(0);
         Ok(())
+    }
+
+    /// Takes the last block back, and every mark.
+    pub fn pop_unmarked(&mut self)
+        ensures { self.new ≡ unmarked (take (length self.old.blocks - 1) self.old.blocks) }
+    {
+        let len = self.len().saturating_sub(1);
+        self.blocks.truncate(len);
+        self.marks.truncate(len);
+        self.seen.truncate(len);
+        self.marks.fill(false);
+        self.seen.fill(0);
     }
 
     /// How many blocks aren't marked.

@@ -5,8 +5,9 @@ ghost use Rattle.std.specs.Prelude.{◌≡◌, ◌≤◌, ◌++◌, ◌∷◌, [
 ghost use Rattle.std.specs.List.{list_all};
 ghost use Rattle.std.specs.List.Sorted.{IsPermutation};
 ghost use Rattle.sp_block.specs.Block.{ReadBlock};
-ghost use Rattle.sp_model.specs.Graph.{has, in_past, IsGraph};
-ghost use Rattle.sp_pool.specs.Kept.{AreApart, AreKept, firsts, graph_of, ids_of, kept_of, present};
+ghost use Rattle.sp_model.specs.declared.profile.Profile.{Profile};
+ghost use Rattle.sp_model.specs.Graph.{complete, has, in_past, IsGraph};
+ghost use Rattle.sp_pool.specs.Kept.{AreApart, AreKept, firsts, graph_in, graph_of, ids_of, kept_of, present};
 ghost use Rattle.sp_pool.specs.Offers.{IsAnswer};
 ghost use Rattle.sp_pool.specs.declared.answers.Offer.{Offer};
 
@@ -17,9 +18,20 @@ pub fn kept_are_the_first()
         kept_of genesis arrivals ≡ take 512 (firsts [] (genesis ∷ arrivals)) }
 {}
 
-/// The kept blocks are a graph: no id repeats, and genesis is the one block without parents.
+/// The kept blocks are a graph in each profile: no id and no rank repeats, and genesis is the one
+/// block without parents.
 pub fn kept_blocks_are_a_graph()
-    ensures { (kept : List ReadBlock) (h : AreKept kept) → IsGraph (graph_of kept) h.genesis.id }
+    ensures { (profile : Profile) (kept : List ReadBlock) (h : AreKept kept) →
+        IsGraph (graph_in profile kept) h.genesis.id }
+{}
+
+/// The profile changes no past, and no block's presence.
+#[tactic(auto, using(crate::proofs::Profiles::in_past_in, crate::proofs::Profiles::present_in))]
+pub fn presence_asks_no_profile()
+    ensures past { (profile : Profile) (kept : List ReadBlock) (a z : ℕ) →
+        in_past (graph_in profile kept) a z ≡ in_past (graph_of kept) a z }
+    ensures present { (profile : Profile) (kept : List ReadBlock) →
+        complete (graph_in profile kept) ≡ present kept }
 {}
 
 /// A new block is present exactly where all its parents were present before it.

@@ -1,17 +1,17 @@
 //! The pool. It stands apart from the release of blocks because here the marks have their meaning:
 //! the marked blocks are the present ones.
 
-ghost use Rattle.std.specs.Prelude.{◌≡◌, ◌==◌, ◌||◌, ◌∷◌, [], ℕ, count_by, find, IfOk, length, not, OnErr, OnOk};
+ghost use Rattle.std.specs.Prelude.{◌≡◌, ◌==◌, ◌||◌, ◌<◌, ◌++◌, ◌∷◌, [], ℕ, count_by, List, find, IfOk, length, not, OnErr, OnOk};
 ghost use Rattle.std.specs.List.{list_all};
 ghost use Rattle.std.specs.Option.{option_copied};
-ghost use Rattle.sp_block.specs.Block.{IsGenesis, IsOther};
+ghost use Rattle.sp_block.specs.Block.{IsGenesis, IsOther, ReadBlock};
 ghost use Rattle.sp_model.specs.Graph.{has};
 ghost use Rattle.sp_pool.specs.Kept.{AreKept, keep, present, standing_of};
 ghost use Rattle.sp_pool.specs.Offers.{IsAnswer, released_by};
 
 use crate::answers::{Offer, Standing};
 use crate::entries::Entries;
-use crate::release::{is_marked, marked_front, release};
+use crate::release::{is_marked, mark_ready, marked_front, release};
 use sp_block::Block;
 use sp_ids::{BlockId, Memory};
 use std::alloc::Global;
@@ -124,6 +124,18 @@ impl Pool {
             self.entries.push(block)?;
             Ok(Offer::Waiting)
         }
+    }
+
+    /// Takes the last kept block back: the pool is as it was before that block was offered. So it
+    /// takes back the last offer where the answer was `Waiting` or `Present`. It looks at all kept
+    /// blocks anew, and takes no memory.
+    pub fn withdraw(&mut self)
+        requires { 1 < length self.old }
+        ensures { (before : List ReadBlock) (block : ReadBlock) →
+            self.old ≡ before ++ block ∷ [] → self.new ≡ before }
+    {
+        self.entries.pop_unmarked();
+        mark_ready(&mut self.entries);
     }
 
     /// The kept block with this id, or `None` where there is none. It takes about the time of a

@@ -96,3 +96,18 @@ pub fn release(entries: &mut Entries, mut ids: Vec<BlockId>) -> Ids
         entries.mark(place);
     }
 }
+
+/// Marks what `release` would, without telling the ids.
+pub fn mark_ready(entries: &mut Entries)
+    requires { AreApart entries.old.blocks }
+    ensures blocks { entries.new.blocks ≡ entries.old.blocks }
+    ensures marks { (set : List ℕ) → Marks entries.old set →
+        (ids : List ℕ) × Releases entries.old.blocks set ids × Marks entries.new (set ++ ids) }
+{
+    'turns: loop {
+        let Some(place) = earliest_ready(entries) else {
+            return;
+        };
+        entries.mark(place);
+    }
+}

@@ -5,31 +5,32 @@ use Rattle.std.proofs.lemmas.Grind.{flat_map-append}
 use Rattle.std.proofs.lemmas.List.{append-nil, at_drop_more, drop_all}
 use Rattle.std.proofs.lemmas.List.Folds.{flat_map-map}
 use Rattle.sp_block.specs.Block.{ReadBlock}
+use Rattle.sp_model.specs.declared.profile.Profile.{Profile}
 use Rattle.sp_names.specs.Labels.{AllLabels}
 use Rattle.sp_report.specs.Texts.{pair_text, pairs_of, votes_text}
 
 -- those of all pairs
-abbrev pub all_votes : AllLabels → List ReadBlock → List ℕ → List ℕ
-all_votes labels kept ids = flat_map (pair_text labels kept) (pairs_of ids)
+abbrev pub all_votes : Profile → AllLabels → List ReadBlock → List ℕ → List ℕ
+all_votes profile labels kept ids = flat_map (pair_text profile labels kept) (pairs_of ids)
 
-pairs_step : (labels : AllLabels) (kept : List ReadBlock) (x : ℕ) (xs : List ℕ) → all_votes labels kept (x ∷ xs) ≡ votes_text labels kept x xs ++ all_votes labels kept xs
+pairs_step : (profile : Profile) (labels : AllLabels) (kept : List ReadBlock) (x : ℕ) (xs : List ℕ) → all_votes profile labels kept (x ∷ xs) ≡ votes_text profile labels kept x xs ++ all_votes profile labels kept xs
 unfolding pairs_of
-pairs_step labels kept x xs =
-    flat_map-append (pair_text labels kept) (map (λ y. (x, y)) xs) (pairs_of xs)
-    ∙ ap (λ t. t ++ all_votes labels kept xs) (flat_map-map (pair_text labels kept) (λ y. (x, y)) xs)
+pairs_step profile labels kept x xs =
+    flat_map-append (pair_text profile labels kept) (map (λ y. (x, y)) xs) (pairs_of xs)
+    ∙ ap (λ t. t ++ all_votes profile labels kept xs) (flat_map-map (pair_text profile labels kept) (λ y. (x, y)) xs)
 
 -- those of the first block that is left with each behind it, and then the others
-pub pairs_next : (labels : AllLabels) (kept : List ReadBlock) (ids : List ℕ) (i d x : ℕ) (others : List ℕ) → i < length ids → x ≡ get_or ids i d → others ≡ drop (i + 1) ids
-    → all_votes labels kept (drop i ids) ≡ votes_text labels kept x others ++ all_votes labels kept (drop (i + 1) ids)
-pairs_next labels kept ids i d x others h is e =
-    let rest = all_votes labels kept (drop (i + 1) ids) in
-    at_drop_more (all_votes labels kept) ids i d h ∙ pairs_step labels kept (get_or ids i d) (drop (i + 1) ids)
-    ∙ ap (λ (z : ℕ). votes_text labels kept z (drop (i + 1) ids) ++ rest) (sym is) ∙ ap (λ (zs : List ℕ). votes_text labels kept x zs ++ rest) (sym e)
+pub pairs_next : (profile : Profile) (labels : AllLabels) (kept : List ReadBlock) (ids : List ℕ) (i d x : ℕ) (others : List ℕ) → i < length ids → x ≡ get_or ids i d → others ≡ drop (i + 1) ids
+    → all_votes profile labels kept (drop i ids) ≡ votes_text profile labels kept x others ++ all_votes profile labels kept (drop (i + 1) ids)
+pairs_next profile labels kept ids i d x others h is e =
+    let rest = all_votes profile labels kept (drop (i + 1) ids) in
+    at_drop_more (all_votes profile labels kept) ids i d h ∙ pairs_step profile labels kept (get_or ids i d) (drop (i + 1) ids)
+    ∙ ap (λ (z : ℕ). votes_text profile labels kept z (drop (i + 1) ids) ++ rest) (sym is) ∙ ap (λ (zs : List ℕ). votes_text profile labels kept x zs ++ rest) (sym e)
 
 -- none is left
-pub no_votes : (labels : AllLabels) (kept : List ReadBlock) (ids : List ℕ) (i : ℕ) (page : List ℕ) → length ids ≤ i → page ++ all_votes labels kept (drop i ids) ≡ page
+pub no_votes : (profile : Profile) (labels : AllLabels) (kept : List ReadBlock) (ids : List ℕ) (i : ℕ) (page : List ℕ) → length ids ≤ i → page ++ all_votes profile labels kept (drop i ids) ≡ page
 unfolding pairs_of
-no_votes labels kept ids i page h = ap (λ (l : List ℕ). page ++ all_votes labels kept l) (drop_all i ids h) ∙ append-nil page
+no_votes profile labels kept ids i page h = ap (λ (l : List ℕ). page ++ all_votes profile labels kept l) (drop_all i ids h) ∙ append-nil page
 
 -- ---- how many pairs there are
 

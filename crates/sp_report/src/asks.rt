@@ -17,7 +17,7 @@ use sp_io::{Failed, Sink, write_whole};
 /// The line that answers a question.
 pub(crate) fn line_of(engine: &Engine, ask: &Ask, naming: &Naming<'_>) -> Line
     requires { engine.now.broken ≡ false }
-    ensures { result ≡ ask_text (labels_of naming.now) engine.now.kept ask.now }
+    ensures { result ≡ ask_text engine.now.profile (labels_of naming.now) engine.now.kept ask.now }
 {
     match ask {
         Ask::Vote(x, y) => {
@@ -49,9 +49,9 @@ pub fn ask_line<K: Sink>(
 ) -> Result<(), Failed>
     requires { engine.now.broken ≡ false }
     ensures ok { OnOk result
-        (Appends (K.taken sink.old) (K.taken sink.new) (ask_text (labels_of naming.now) engine.now.kept ask.now)) }
+        (Appends (K.taken sink.old) (K.taken sink.new) (ask_text engine.now.profile (labels_of naming.now) engine.now.kept ask.now)) }
     ensures err { OnErr result
-        (AppendsFront (K.taken sink.old) (K.taken sink.new) (ask_text (labels_of naming.now) engine.now.kept ask.now)) }
+        (AppendsFront (K.taken sink.old) (K.taken sink.new) (ask_text engine.now.profile (labels_of naming.now) engine.now.kept ask.now)) }
     ensures cause { HasCause (K.faults sink.old) (K.faults sink.new) result }
 {
     write_whole(sink, line_of(engine, ask, naming).as_slice())

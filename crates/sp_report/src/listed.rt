@@ -62,7 +62,7 @@ fn push_wanted<K: Copy>(keys: &mut Vec<K>, key: K, wanted: bool) -> Result<(), M
 fn numbered_accepted(alloc: Global, engine: &Engine) -> Result<Vec<TxId>, Memory>
     requires { engine.now.broken ≡ false }
     ensures items { IfOk result (λ ids. ids.items ≡ filter
-        (λ id. is_accepted (ledger_by_id engine.now.kept) (present engine.now.kept) id)
+        (λ id. is_accepted (ledger_by_id engine.now.profile engine.now.kept) (present engine.now.kept) id)
         (tx_ids engine.now.kept)) }
     ensures few { IfOk result (λ ids. vec_len ids ≤ 131072) }
 {
@@ -84,7 +84,7 @@ fn numbered_accepted(alloc: Global, engine: &Engine) -> Result<Vec<TxId>, Memory
 pub(crate) fn ascending_accepted(alloc: Global, engine: &Engine) -> Result<Vec<TxId>, Memory>
     requires { engine.now.broken ≡ false }
     ensures items { IfOk result (λ ids. ids.items ≡ ascending (filter
-        (λ id. is_accepted (ledger_by_id engine.now.kept) (present engine.now.kept) id)
+        (λ id. is_accepted (ledger_by_id engine.now.profile engine.now.kept) (present engine.now.kept) id)
         (tx_ids engine.now.kept))) }
     ensures sorted { IfOk result (λ ids. IsSorted nat_cmp ids.items) }
     ensures once { IfOk result (λ ids. AreDistinct ids.items) }
@@ -101,7 +101,7 @@ pub(crate) fn ascending_accepted(alloc: Global, engine: &Engine) -> Result<Vec<T
 fn numbered_paid(alloc: Global, engine: &Engine) -> Result<Vec<Lock>, Memory>
     requires { engine.now.broken ≡ false }
     ensures items { IfOk result (λ paid. paid.items
-        ≡ filter (λ lock. not (balance_by_id engine.now.kept lock == 0)) (locks engine.now.kept)) }
+        ≡ filter (λ lock. not (balance_by_id engine.now.profile engine.now.kept lock == 0)) (locks engine.now.kept)) }
     ensures few { IfOk result (λ paid. vec_len paid ≤ 2097152) }
 {
     let count = engine.lock_count();
@@ -122,7 +122,7 @@ fn numbered_paid(alloc: Global, engine: &Engine) -> Result<Vec<Lock>, Memory>
 pub(crate) fn ascending_paid(alloc: Global, engine: &Engine) -> Result<Vec<Lock>, Memory>
     requires { engine.now.broken ≡ false }
     ensures items { IfOk result (λ paid. paid.items ≡ ascending (filter
-        (λ lock. not (balance_by_id engine.now.kept lock == 0)) (locks engine.now.kept))) }
+        (λ lock. not (balance_by_id engine.now.profile engine.now.kept lock == 0)) (locks engine.now.kept))) }
     ensures sorted { IfOk result (λ paid. IsSorted nat_cmp paid.items) }
     ensures once { IfOk result (λ paid. AreDistinct paid.items) }
     ensures few { IfOk result (λ paid. vec_len paid ≤ 2097152) }

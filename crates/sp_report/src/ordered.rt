@@ -97,7 +97,7 @@ pub(crate) fn accepted_ids(
 ) -> Result<Vec<TxId>, Memory>
     requires { engine.now.broken ≡ false }
     ensures order { IfOk result (λ ids.
-        ids.items ≡ meant.accepted_ids (labels_of naming.now) engine.now.kept) }
+        ids.items ≡ meant.accepted_ids engine.now.profile (labels_of naming.now) engine.now.kept) }
     ensures few { IfOk result (λ ids. vec_len ids ≤ 131072) }
 {
     let ids = ascending_accepted(alloc, engine)?;
@@ -125,7 +125,7 @@ pub(crate) fn paid_locks(
 ) -> Result<Vec<Lock>, Memory>
     requires { engine.now.broken ≡ false }
     ensures order { IfOk result (λ paid.
-        paid.items ≡ meant.paid_locks (labels_of naming.now) engine.now.kept) }
+        paid.items ≡ meant.paid_locks engine.now.profile (labels_of naming.now) engine.now.kept) }
     ensures few { IfOk result (λ paid. vec_len paid ≤ 2097152) }
 {
     let paid = ascending_paid(alloc, engine)?;

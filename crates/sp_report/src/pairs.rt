@@ -27,9 +27,9 @@ fn push_votes<K: Sink>(
 ) -> Result<(), Failed>
     requires { engine.now.broken ≡ false }
     ensures ok { OnOk result (Wrote (K.taken sink.old) (K.taken sink.new)
-        (page.old ++ votes_text (labels_of naming.now) engine.now.kept first.now others.now) page.new) }
+        (page.old ++ votes_text engine.now.profile (labels_of naming.now) engine.now.kept first.now others.now) page.new) }
     ensures err { OnErr result (AppendsFront (K.taken sink.old) (K.taken sink.new)
-        (page.old ++ votes_text (labels_of naming.now) engine.now.kept first.now others.now)) }
+        (page.old ++ votes_text engine.now.profile (labels_of naming.now) engine.now.kept first.now others.now)) }
     ensures cause { HasCause (K.faults sink.old) (K.faults sink.new) result }
 {
     'other: for other in others {
@@ -49,9 +49,9 @@ fn push_pairs<K: Sink>(
 ) -> Result<(), Failed>
     requires { engine.now.broken ≡ false }
     ensures ok { OnOk result (Wrote (K.taken sink.old) (K.taken sink.new)
-        (page.old ++ flat_map (pair_text (labels_of naming.now) engine.now.kept) (pairs_of ids.now)) page.new) }
+        (page.old ++ flat_map (pair_text engine.now.profile (labels_of naming.now) engine.now.kept) (pairs_of ids.now)) page.new) }
     ensures err { OnErr result (AppendsFront (K.taken sink.old) (K.taken sink.new)
-        (page.old ++ flat_map (pair_text (labels_of naming.now) engine.now.kept) (pairs_of ids.now))) }
+        (page.old ++ flat_map (pair_text engine.now.profile (labels_of naming.now) engine.now.kept) (pairs_of ids.now))) }
     ensures cause { HasCause (K.faults sink.old) (K.faults sink.new) result }
 {
     'place: for place in 0..ids.len() {
@@ -86,9 +86,9 @@ pub(crate) fn write_pairs<K: Sink>(
     requires whole { engine.now.broken ≡ false }
     requires few { length ids.now ≤ 65535 }
     ensures ok { OnOk result (Appends (K.taken sink.old) (K.taken sink.new)
-        (pairs_of_ids_text (labels_of naming.now) engine.now.kept ids.now)) }
+        (pairs_of_ids_text engine.now.profile (labels_of naming.now) engine.now.kept ids.now)) }
     ensures err { OnErr result (AppendsFront (K.taken sink.old) (K.taken sink.new)
-        (pairs_of_ids_text (labels_of naming.now) engine.now.kept ids.now)) }
+        (pairs_of_ids_text engine.now.profile (labels_of naming.now) engine.now.kept ids.now)) }
     ensures cause { HasCause (K.faults sink.old) (K.faults sink.new) result }
 {
     let line = pair_count_line(pair_count(ids));

@@ -81,9 +81,9 @@ fn push_paid<K: Sink>(
 ) -> Result<(), Failed>
     requires { engine.now.broken ≡ false }
     ensures ok { OnOk result (Wrote (K.taken sink.old) (K.taken sink.new)
-        (page.old ++ flat_map (paid_text (labels_of naming.now) engine.now.kept) locks.now) page.new) }
+        (page.old ++ flat_map (paid_text engine.now.profile (labels_of naming.now) engine.now.kept) locks.now) page.new) }
     ensures err { OnErr result (AppendsFront (K.taken sink.old) (K.taken sink.new)
-        (page.old ++ flat_map (paid_text (labels_of naming.now) engine.now.kept) locks.now)) }
+        (page.old ++ flat_map (paid_text engine.now.profile (labels_of naming.now) engine.now.kept) locks.now)) }
     ensures cause { HasCause (K.faults sink.old) (K.faults sink.new) result }
 {
     'lock: for lock in locks {
@@ -104,9 +104,9 @@ fn push_all_paid<K: Sink>(
     requires whole { engine.now.broken ≡ false }
     requires few { length locks.now ≤ 2097152 }
     ensures ok { OnOk result (Wrote (K.taken sink.old) (K.taken sink.new)
-        (page.old ++ all_paid_text (labels_of naming.now) engine.now.kept locks.now) page.new) }
+        (page.old ++ all_paid_text engine.now.profile (labels_of naming.now) engine.now.kept locks.now) page.new) }
     ensures err { OnErr result (AppendsFront (K.taken sink.old) (K.taken sink.new)
-        (page.old ++ all_paid_text (labels_of naming.now) engine.now.kept locks.now)) }
+        (page.old ++ all_paid_text engine.now.profile (labels_of naming.now) engine.now.kept locks.now)) }
     ensures cause { HasCause (K.faults sink.old) (K.faults sink.new) result }
 {
     let line = balance_count_line(locks.len() as u32);
@@ -132,10 +132,10 @@ pub(crate) fn write_report<K: Sink>(
     requires few_locks { length locks.now ≤ 2097152 }
     ensures ok { OnOk result (Appends (K.taken sink.old) (K.taken sink.new)
         (counts_text engine.now.kept
-        ++ (all_accepted_text (labels_of naming.now) ids.now ++ all_paid_text (labels_of naming.now) engine.now.kept locks.now))) }
+        ++ (all_accepted_text (labels_of naming.now) ids.now ++ all_paid_text engine.now.profile (labels_of naming.now) engine.now.kept locks.now))) }
     ensures err { OnErr result (AppendsFront (K.taken sink.old) (K.taken sink.new)
         (counts_text engine.now.kept
-        ++ (all_accepted_text (labels_of naming.now) ids.now ++ all_paid_text (labels_of naming.now) engine.now.kept locks.now))) }
+        ++ (all_accepted_text (labels_of naming.now) ids.now ++ all_paid_text engine.now.profile (labels_of naming.now) engine.now.kept locks.now))) }
     ensures cause { HasCause (K.faults sink.old) (K.faults sink.new) result }
 {
     let line = counts_line(engine);

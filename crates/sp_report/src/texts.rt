@@ -26,9 +26,9 @@ fn write_all_pairs<K: Sink>(
 ) -> Result<(), TextFault>
     requires { engine.now.broken ≡ false }
     ensures ok { OnOk result
-        (Appends (K.taken sink.old) (K.taken sink.new) (pairs_text (labels_of naming.now) engine.now.kept)) }
+        (Appends (K.taken sink.old) (K.taken sink.new) (pairs_text engine.now.profile (labels_of naming.now) engine.now.kept)) }
     ensures err { OnErr result
-        (AppendsFront (K.taken sink.old) (K.taken sink.new) (pairs_text (labels_of naming.now) engine.now.kept)) }
+        (AppendsFront (K.taken sink.old) (K.taken sink.new) (pairs_text engine.now.profile (labels_of naming.now) engine.now.kept)) }
     ensures cause { result ≡ Err TextFault.WriteFault → Rose (K.faults sink.old) (K.faults sink.new) }
     ensures memory { result ≡ Err TextFault.Memory → sink.new ≡ sink.old }
     ensures quiet { result ≢ Err TextFault.WriteFault → K.faults sink.new ≡ K.faults sink.old }
@@ -49,9 +49,9 @@ fn write_whole_report<K: Sink>(
 ) -> Result<(), TextFault>
     requires { engine.now.broken ≡ false }
     ensures ok { OnOk result
-        (Appends (K.taken sink.old) (K.taken sink.new) (report_text (labels_of naming.now) engine.now.kept)) }
+        (Appends (K.taken sink.old) (K.taken sink.new) (report_text engine.now.profile (labels_of naming.now) engine.now.kept)) }
     ensures err { OnErr result
-        (AppendsFront (K.taken sink.old) (K.taken sink.new) (report_text (labels_of naming.now) engine.now.kept)) }
+        (AppendsFront (K.taken sink.old) (K.taken sink.new) (report_text engine.now.profile (labels_of naming.now) engine.now.kept)) }
     ensures cause { result ≡ Err TextFault.WriteFault → Rose (K.faults sink.old) (K.faults sink.new) }
     ensures memory { result ≡ Err TextFault.Memory → sink.new ≡ sink.old }
     ensures quiet { result ≢ Err TextFault.WriteFault → K.faults sink.new ≡ K.faults sink.old }
@@ -79,10 +79,10 @@ pub fn write_text<K: Sink>(
 ) -> Result<(), TextFault>
     requires { engine.now.broken ≡ false }
     ensures ok { OnOk result
-        (Appends (K.taken sink.old) (K.taken sink.new) (text_of (labels_of naming.now) engine.now.kept text.now)) }
+        (Appends (K.taken sink.old) (K.taken sink.new) (text_of engine.now.profile (labels_of naming.now) engine.now.kept text.now)) }
 
     ensures err { OnErr result
-        (AppendsFront (K.taken sink.old) (K.taken sink.new) (text_of (labels_of naming.now) engine.now.kept text.now)) }
+        (AppendsFront (K.taken sink.old) (K.taken sink.new) (text_of engine.now.profile (labels_of naming.now) engine.now.kept text.now)) }
     ensures cause { result ≡ Err TextFault.WriteFault → Rose (K.faults sink.old) (K.faults sink.new) }
     ensures memory { result ≡ Err TextFault.Memory → sink.new ≡ sink.old }
     ensures quiet { result ≢ Err TextFault.WriteFault → K.faults sink.new ≡ K.faults sink.old }

@@ -3,6 +3,7 @@
 use sp_bits::Row;
 use sp_dag::Dag;
 use sp_fixtures::graph::{add, id};
+use sp_model::Profile;
 use std::alloc::Global;
 use std::test::Fail;
 
@@ -31,7 +32,7 @@ const PAIRS: &[(u16, u16)] = &[(1, 2), (1, 5), (3, 5), (4, 5)];
 
 /// The blocks, each of which got the number of its place.
 fn worked_out(alloc: Global, blocks: &[Block]) -> Result<Dag, Fail> {
-    let mut dag = Dag::new(alloc, id(GENESIS))?;
+    let mut dag = Dag::new(alloc, id(GENESIS), 0, Profile::One)?;
     for block in blocks {
         let next = dag.len();
         if block.id != GENESIS && add(alloc, &mut dag, block.id, block.parents)? != next {

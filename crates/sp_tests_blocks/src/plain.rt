@@ -7,6 +7,7 @@ ghost use Rattle.sp_plain.specs.Plain.{IsClosed};
 use sp_bits::Row as Places;
 use sp_dag::Dag;
 use sp_fixtures::graph::{add, id};
+use sp_model::Profile;
 use sp_plain::plain_votes;
 use std::alloc::Global;
 use std::test::Fail;
@@ -59,7 +60,7 @@ const ROWS: &[Row] = &[
 ];
 
 fn dag_of(alloc: Global, blocks: Graph) -> Result<Dag, Fail> {
-    let mut dag = Dag::new(alloc, id(0))?;
+    let mut dag = Dag::new(alloc, id(0), 0, Profile::One)?;
     let mut number = 0u8;
     for parents in blocks {
         number = number.saturating_add(1);
@@ -71,7 +72,7 @@ fn dag_of(alloc: Global, blocks: Graph) -> Result<Dag, Fail> {
 /// So many first blocks.
 fn first(dag: &Dag, count: u16) -> Places
     requires { count ≤ length dag.now.parents }
-    ensures { IsClosed (graph_of dag.now.parents) (length dag.now.parents) result }
+    ensures { IsClosed (graph_of dag.now) (length dag.now.parents) result }
 {
     // Tells the proof that the blocks stand in order.
     let _blocks = dag.len();

@@ -6,8 +6,8 @@ use Rattle.std.proofs.lemmas.Bool.{cases_lt}
 use Rattle.std.proofs.lemmas.List.Filters.{length-filter_more}
 use Rattle.std.proofs.lemmas.Option.{get_or_from_slice_get}
 use Rattle.sp_model.specs.Votes.{virt}
-use Rattle.sp_dag.specs.Numbered.{graph_of}
-use Rattle.sp_dag.proofs.Whole.{keys_are_numbers}
+use Rattle.sp_dag.specs.Numbered.{Numbered, graph_of}
+use Rattle.sp_dag.proofs.Ranked.{keys_are_numbers}
 use Rattle.sp_plain.specs.Virts.{entry, HasVirts, Virts}
 use Rattle.sp_carry.specs.declared.carrier.Carrier.{Carrier}
 use Rattle.sp_carry.proofs.Members.{contains_from_in, in_append_left, in_append_right, in_from_contains}
@@ -21,12 +21,12 @@ pub is_last : (pairs : List (ℕ × ℕ)) (pair : ℕ × ℕ) → Contains (pair
 is_last pairs pair = contains_from_in (pairs ++ pair ∷ []) pair (in_append_right pairs (pair ∷ []) pair (inl refl))
 
 -- the votes of the first blocks, and those of all, tell on which pairs they differ
-pub told : (table : List (List ℕ)) (n : ℕ) (pairs : List (ℕ × ℕ)) (before now : Virts) → n ≤ length table
-    → HasVirts (graph_of table) (range_with_len 0 n) (length table) before → HasVirts (graph_of table) (range_with_len 0 (length table)) (length table) now
+pub told : (table : Numbered) (n : ℕ) (pairs : List (ℕ × ℕ)) (before now : Virts) → n ≤ length table.parents
+    → HasVirts (graph_of table) (range_with_len 0 n) (length table.parents) before → HasVirts (graph_of table) (range_with_len 0 (length table.parents)) (length table.parents) now
     → ((x y : ℕ) → x < y → y < n → entry before x y ≢ entry now x y → Contains pairs (x, y)) → TellsChanges table n pairs
 told table n pairs before now few first all differing = λ x y lower within unrelated other.
-    let x_in : x < length table = omega (arith, lower, within, few) in
-    let y_in : y < length table = omega (arith, within, few) in
+    let x_in : x < length table.parents = omega (arith, lower, within, few) in
+    let y_in : y < length table.parents = omega (arith, within, few) in
     differing x y lower within (λ same. other
     (sym (first.each x y x_in y_in) ∙ same ∙ all.each x y x_in y_in ∙ ap (λ (s : List ℕ). virt (graph_of table) s x y) (sym (keys_are_numbers table))))
 

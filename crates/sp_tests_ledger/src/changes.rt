@@ -66,9 +66,9 @@ pub fn changed(
     others: &[(u16, u16)],
 ) -> Result<Vec<(u16, u16)>, Memory>
     requires few { count ≤ length dag.now.parents }
-    requires votes { HasVirts (graph_of dag.now.parents) (numbers dag.now)
+    requires votes { HasVirts (graph_of dag.now) (numbers dag.now)
         (length dag.now.parents) votes.now }
-    ensures { IfOk result (λ pairs. TellsChanges dag.now.parents count pairs.items) }
+    ensures { IfOk result (λ pairs. TellsChanges dag.now count pairs.items) }
 {
     let before = votes_of_first(alloc, dag, count)?;
     let pairs = differing(alloc, &before, votes, count, others)?;

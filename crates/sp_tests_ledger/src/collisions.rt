@@ -7,6 +7,7 @@ use sp_carry::Carriers;
 use sp_dag::Dag;
 use sp_fixtures::graph;
 use sp_ids::{Lock, Outpoint, TxId};
+use sp_model::Profile;
 use sp_tx::{Bytes, Input, Inputs, Output, Outputs, Tx, Txs};
 use std::alloc::Global;
 use std::collections::HashMap;
@@ -253,6 +254,6 @@ fn judge(rt: &(impl Clock + Abort), alloc: Global, dag: &mut Dag) -> Result<(), 
 
 #[test]
 fn crowded_outpoints(rt: HostRuntime) -> Result<(), Fail> {
-    let mut dag = Dag::new(rt.alloc(), graph::id(0))?;
+    let mut dag = Dag::new(rt.alloc(), graph::id(0), 0, Profile::One)?;
     judge(&rt, rt.alloc(), &mut dag)
 }

@@ -4,7 +4,7 @@
 use sp_engine::{Answer, Engine, Refusal};
 use sp_fixtures::genesis_of;
 use sp_ids::BlockId;
-use sp_model::Word;
+use sp_model::{Profile, Word};
 use std::alloc::Global;
 use std::test::Fail;
 
@@ -13,7 +13,7 @@ pub fn engine_of(alloc: Global, genesis: &[u8], bits: u8) -> Result<Engine, Fail
     if bits > 64 {
         return Err("more than 64 bits".into());
     }
-    Ok(Engine::new(alloc, genesis_of(alloc, genesis)?, bits)?)
+    Ok(Engine::new(alloc, genesis_of(alloc, genesis)?, bits, Profile::One)?)
 }
 
 /// An answer, without the id of the block that came.

@@ -4,7 +4,7 @@
 ghost use Rattle.std.specs.Bool.{OnTrue};
 ghost use Rattle.std.specs.Prelude.{◌≡◌, ◌++◌, ◌∷◌, [], ℕ, List, All, IsTrue, OnOk, OnErr};
 ghost use Rattle.sp_model.specs.Graph.{has};
-ghost use Rattle.sp_dag.specs.Numbered.{AreInOrder};
+ghost use Rattle.sp_dag.specs.Numbered.{AreInOrder, IsNumbered, with_next};
 
 use crate::changes::{carriers_below, changed};
 use crate::plain::votes_of_all;
@@ -13,6 +13,7 @@ use sp_accept::Accepted;
 use sp_carry::{Carriers, Flip};
 use sp_dag::Dag;
 use sp_ids::{BlockId, TxId};
+use sp_model::Profile;
 use sp_money::Purse;
 use sp_tx::Txs;
 use std::alloc::Global;
@@ -28,7 +29,8 @@ fn are_in(dag: &Dag, ids: &[BlockId]) -> bool
 /// Adds a block on others that are there.
 fn stand(dag: &mut Dag, new: BlockId, parents: &[BlockId]) -> Result<(), Fail>
     ensures grown { OnOk result
-        ((row : List ℕ) × (dag.new.parents ≡ dag.old.parents ++ row ∷ [])) }
+        ((row : List ℕ) × (dag.new ≡ with_next dag.old new 0 row)) }
+    ensures numbered { OnOk result (IsNumbered dag.old) }
     ensures order { OnOk result (AreInOrder dag.new.parents) }
     ensures err { OnErr result (dag.new ≡ dag.old) }
 {
@@ -38,7 +40,7 @@ fn stand(dag: &mut Dag, new: BlockId, parents: &[BlockId]) -> Result<(), Fail>
     if dag.len() >= 512 || parents.is_empty() {
         return Err("too many blocks, or no parent".into());
     }
-    dag.add(new, parents)?;
+    dag.add(new, 0, parents)?;
     // Tells the proof that the blocks stand in order.
     let _blocks = dag.len();
     Ok(())
@@ -77,7 +79,7 @@ impl Model for Ledger {
 
     ghost view = { λ l. length l.dag.parents };
 
-    ghost invariant = { λ l. IsDecided l.dag.parents l.carriers l.accepted l.decided };
+    ghost invariant = { λ l. IsDecided l.dag l.carriers l.accepted l.decided };
 }
 
 impl Drop for Ledger {
@@ -98,7 +100,7 @@ impl Drop for Ledger {
 impl Ledger {
     /// Genesis alone, of this id, without its carriers.
     pub fn of(alloc: Global, genesis: BlockId) -> Result<Ledger, Fail> {
-        let dag = Dag::new(alloc, genesis)?;
+        let dag = Dag::new(alloc, genesis, 0, Profile::One)?;
         let carriers = Carriers::new(alloc);
         // These tell the proof what always holds of a graph and of carriers.
         let _present = dag.len();

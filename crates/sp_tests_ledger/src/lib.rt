@@ -3,7 +3,8 @@
 //!
 //! `rivals` tests which carriers conflict, and `collisions` that outpoints which crowd a table by hash
 //! don't make the look-ups of carriers slow. `turns` tests which transactions turn as blocks come.
-//! `votes` tests what an engine says of each two blocks, and `shared_rows` the rows that its views share.
+//! `votes` tests what an engine says of each two blocks, `settled` what it says where blocks settle ties,
+//! and `shared_rows` the rows that its views share.
 //! `arrivals`, `refusals` and `full_engine` test what an engine says of the bytes that come, and
 //! `acceptance` which transactions it accepts. `purse` tests what is left as transactions are accepted
 //! and taken back, by the purse itself, and `balances` what an engine says is left. `spent_twice` tests
@@ -65,6 +66,8 @@ mod refusals;
 mod rivals;
 #[cfg(test)]
 mod rows;
+#[cfg(test)]
+mod settled;
 #[cfg(test)]
 mod shared_rows;
 #[cfg(test)]

@@ -31,7 +31,7 @@ fn row_below(count: u16) -> Row
 pub fn votes_of_first(alloc: Global, dag: &Dag, count: u16) -> Result<Matrix, Memory>
     requires { count ≤ length dag.now.parents }
     ensures { IfOk result
-        (HasVirts (graph_of dag.now.parents) (range_with_len 0 count) (length dag.now.parents)) }
+        (HasVirts (graph_of dag.now) (range_with_len 0 count) (length dag.now.parents)) }
 {
     // Tells the proof that the blocks stand in order.
     let _blocks = dag.len();
@@ -42,7 +42,7 @@ pub fn votes_of_first(alloc: Global, dag: &Dag, count: u16) -> Result<Matrix, Me
 /// The virtual votes of all blocks on each two of them.
 pub fn votes_of_all(alloc: Global, dag: &Dag) -> Result<Matrix, Memory>
     ensures { IfOk result
-        (HasVirts (graph_of dag.now.parents) (numbers dag.now) (length dag.now.parents)) }
+        (HasVirts (graph_of dag.now) (numbers dag.now) (length dag.now.parents)) }
 {
     votes_of_first(alloc, dag, dag.len())
 }
@@ -61,7 +61,7 @@ fn word_of(vote: i8) -> Word {
 fn row_agrees(engine: &Engine, votes: &Matrix, x: u16) -> bool
     requires whole { engine.now.broken ≡ false }
     requires within { x < length engine.now.numbered.parents }
-    requires votes { HasVirts (graph_of engine.now.numbered.parents)
+    requires votes { HasVirts (graph_of engine.now.numbered)
         (numbers engine.now.numbered) (length engine.now.numbered.parents) votes.now }
 {
     let dag = engine.dag();

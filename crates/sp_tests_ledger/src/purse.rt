@@ -15,6 +15,7 @@ use sp_carry::{Carriers, Flip};
 use sp_dag::Dag;
 use sp_fixtures::graph;
 use sp_ids::{Lock, Outpoint, TxId};
+use sp_model::Profile;
 use sp_money::Purse;
 use sp_tx::Txs;
 use std::alloc::Global;
@@ -22,7 +23,7 @@ use std::test::Fail;
 
 /// Genesis and three blocks on it.
 fn graph_of_four(alloc: Global) -> Result<Dag, Fail> {
-    let mut dag = Dag::new(alloc, graph::id(0))?;
+    let mut dag = Dag::new(alloc, graph::id(0), 0, Profile::One)?;
     for new in 1u8..4 {
         graph::add(alloc, &mut dag, new, &[0])?;
     }

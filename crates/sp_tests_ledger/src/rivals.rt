@@ -6,6 +6,7 @@ use crate::rows::holds;
 use sp_carry::Carriers;
 use sp_dag::Dag;
 use sp_fixtures::graph;
+use sp_model::Profile;
 use std::alloc::Global;
 use std::test::Fail;
 
@@ -82,7 +83,7 @@ fn judge(
 }
 
 fn have_rivals(alloc: Global, row: Rivals) -> Result<bool, Fail> {
-    let mut dag = Dag::new(alloc, graph::id(0))?;
+    let mut dag = Dag::new(alloc, graph::id(0), 0, Profile::One)?;
     let mut carriers = Carriers::new(alloc);
     let judged = judge(alloc, &mut dag, &mut carriers, row);
     drop(carriers);

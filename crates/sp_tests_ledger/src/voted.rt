@@ -28,16 +28,16 @@ pub struct VotedOrder<'a> {
 }
 
 impl<'a> Model for VotedOrder<'a> {
-    ghost use Rattle.std.specs.Prelude.{List, ℕ, length};
-    ghost use Rattle.sp_dag.specs.Numbered.{graph_of};
+    ghost use Rattle.std.specs.Prelude.{length};
+    ghost use Rattle.sp_dag.specs.Numbered.{Numbered, graph_of};
     ghost use Rattle.sp_plain.specs.Virts.{HasVirts};
     ghost use Rattle.sp_engine.specs.Engine.{numbers};
 
-    ghost Value = { List (List ℕ) };
+    ghost Value = { Numbered };
 
-    ghost view = { λ o. o.dag.now.parents };
+    ghost view = { λ o. o.dag.now };
 
-    ghost invariant = { λ o. HasVirts (graph_of o.dag.now.parents) (numbers o.dag.now)
+    ghost invariant = { λ o. HasVirts (graph_of o.dag.now) (numbers o.dag.now)
         (length o.dag.now.parents) o.votes.now };
 }
 

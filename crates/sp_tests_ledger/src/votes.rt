@@ -82,7 +82,7 @@ pub fn engine_of_scene(alloc: Global, scene: &Scene) -> Result<Engine, Fail> {
 }
 
 /// Whether all is right after each block of a scene; how many blocks came.
-fn scene_comes(alloc: Global, engine: &mut Engine, scene: &Scene) -> Result<u16, Fail> {
+pub fn scene_comes(alloc: Global, engine: &mut Engine, scene: &Scene) -> Result<u16, Fail> {
     let mut came = 0u16;
     for place in 0..scene.len() {
         if let Message::Block(bytes) = scene.message(place) {

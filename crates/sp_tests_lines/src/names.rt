@@ -9,6 +9,7 @@ use sp_feed::{FeedHead, Message};
 use sp_fixtures::genesis_of;
 use sp_ids::{BlockId, Lock, TxId};
 use sp_io::{Fails, MemSink};
+use sp_model::Profile;
 use sp_names::{Name, Names};
 use sp_report::{Ask, Naming, Text, answer_line, ask_line, present_ids, write_text};
 use std::alloc::Global;
@@ -232,7 +233,7 @@ fn is_told_after(alloc: Global, engine: &mut Engine, row: Row, text: &str) -> Re
 }
 
 fn engine_of(alloc: Global) -> Result<Engine, Fail> {
-    Ok(Engine::new(alloc, genesis_of(alloc, GRANTING)?, 0)?)
+    Ok(Engine::new(alloc, genesis_of(alloc, GRANTING)?, 0, Profile::One)?)
 }
 
 fn is_told_anew(alloc: Global, row: Row, text: &str) -> Result<bool, Fail> {

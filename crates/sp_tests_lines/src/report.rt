@@ -6,6 +6,7 @@ use crate::tale::{Tale, is_whole, wrong_in};
 use sp_engine::Engine;
 use sp_fixtures::{GENESIS, genesis_of};
 use sp_ids::Lock;
+use sp_model::Profile;
 use sp_report::{Ask, Text};
 use std::alloc::Global;
 use std::test::Fail;
@@ -82,7 +83,7 @@ fn wrong_questions(alloc: Global, engine: &mut Engine) -> Result<&'static str, F
 
 /// An engine of this genesis block alone, which asks for no work.
 fn engine_of(alloc: Global, genesis: &[u8]) -> Result<Engine, Fail> {
-    Ok(Engine::new(alloc, genesis_of(alloc, genesis)?, 0)?)
+    Ok(Engine::new(alloc, genesis_of(alloc, genesis)?, 0, Profile::One)?)
 }
 
 fn wrong_questions_anew(alloc: Global) -> Result<&'static str, Fail> {

@@ -1,6 +1,6 @@
 -- Two views over one pool, where one of them comes, goes or grows.
 use Rattle.std.proofs.Common.{◌≡◌, ℕ, ◌+◌, ◌<◌, List, [], sym, ap, subst, arith}
-use Rattle.sp_dag.specs.Numbered.{AreInOrder}
+use Rattle.sp_dag.specs.Numbered.{Numbered, AreInOrder}
 use Rattle.sp_frozen.specs.Voters.{FrozenRows}
 use Rattle.sp_rows.specs.Pool.{Counted, Pool}
 use Rattle.sp_rows.specs.Pool as counted
@@ -10,7 +10,7 @@ use Rattle.sp_view.proofs.Staying.{view_moves}
 use Rattle.sp_view.proofs.Starting.{nothing, view_nothing}
 use Rattle.sp_tests_views.specs.Voting.{AreTwo, CanVote, IsBased}
 
-module _ (table : List (List ℕ)) (frozen : FrozenRows) (pool : Pool) (one other : Viewed) where
+module _ (table : Numbered) (frozen : FrozenRows) (pool : Pool) (one other : Viewed) where
   pub can_one : AreTwo table frozen pool one other → CanVote table frozen pool one
   can_one two = record { based = two.based; is = two.is }
 
@@ -21,7 +21,7 @@ module _ (table : List (List ℕ)) (frozen : FrozenRows) (pool : Pool) (one othe
   two_turned two = record { based = two.based; is = two.beside; beside = two.is; counts = λ r. (let c = two.counts r in omega (arith, c)) }
 
   -- both hold nothing
-  pub two_start : IsBased table frozen → AreInOrder table → pool.rows ≡ [] → one ≡ nothing → other ≡ nothing → AreTwo table frozen pool one other
+  pub two_start : IsBased table frozen → AreInOrder table.parents → pool.rows ≡ [] → one ≡ nothing → other ≡ nothing → AreTwo table frozen pool one other
   two_start based order rows e e' = record {
     based = based;
     is = subst (λ (v : Viewed). IsView table v pool) (sym e) (view_nothing table pool order);
@@ -34,7 +34,7 @@ module _ (table : List (List ℕ)) (frozen : FrozenRows) (pool : Pool) (one othe
   }
 
   -- beside a block more
-  pub two_stay : (more : List (List ℕ)) (frozen' : FrozenRows) → IsBased more frozen' → ((view : Viewed) (pool : Pool) → IsView table view pool → IsView more view pool)
+  pub two_stay : (more : Numbered) (frozen' : FrozenRows) → IsBased more frozen' → ((view : Viewed) (pool : Pool) → IsView table view pool → IsView more view pool)
       → AreTwo table frozen pool one other → AreTwo more frozen' pool one other
   two_stay more frozen' based stay two = record { based = based; is = stay one pool two.is; beside = stay other pool two.beside; counts = two.counts }
 

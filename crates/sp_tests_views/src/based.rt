@@ -13,6 +13,7 @@ use sp_bits::Row;
 use sp_dag::Dag;
 use sp_frozen::Frozen;
 use sp_ids::{BlockId, Memory};
+use sp_model::Profile;
 use sp_rows::RowPool;
 use sp_view::View;
 use std::alloc::Global;
@@ -40,9 +41,9 @@ fn is_in(dag: &Dag, id: &BlockId) -> bool
 /// Adds the last block of a graph to the frozen votes, by a view of its past that is derived from
 /// nothing.
 fn freeze_last(alloc: Global, dag: &Dag, frozen: &mut Frozen) -> Result<(), Memory>
-    requires frozen { HoldsFrozen dag.now.parents frozen.old }
+    requires frozen { HoldsFrozen dag.now frozen.old }
     requires next { length dag.now.parents ≡ frozen.old.blocks + 1 }
-    ensures { OnOk result (IsBased dag.now.parents frozen.new) }
+    ensures { OnOk result (IsBased dag.now frozen.new) }
 {
     let b = dag.len() - 1;
     let past = dag.past(b);
@@ -58,9 +59,9 @@ fn freeze_last(alloc: Global, dag: &Dag, frozen: &mut Frozen) -> Result<(), Memo
 impl Based {
     /// Genesis alone.
     pub(crate) fn start(alloc: Global) -> Result<Based, Memory>
-        ensures { IfOk result (λ based. IsBased based.dag.parents based.frozen) }
+        ensures { IfOk result (λ based. IsBased based.dag based.frozen) }
     {
-        let dag = Dag::new(alloc, id(0))?;
+        let dag = Dag::new(alloc, id(0), 0, Profile::One)?;
         let mut frozen = Frozen::new(alloc);
         freeze_last(alloc, &dag, &mut frozen)?;
         Ok(Based { alloc, dag, frozen })
@@ -68,17 +69,17 @@ impl Based {
 
     /// Adds a block on another one.
     pub(crate) fn grow(&mut self, name: u8, parent: u8) -> Result<(), Fail>
-        requires { IsBased self.old.dag.parents self.old.frozen }
-        ensures based { OnOk result (IsBased self.new.dag.parents self.new.frozen) }
+        requires { IsBased self.old.dag self.old.frozen }
+        ensures based { OnOk result (IsBased self.new.dag self.new.frozen) }
         ensures views { OnOk result ((view : Viewed) (pool : Pool) →
-            IsView self.old.dag.parents view pool → IsView self.new.dag.parents view pool) }
+            IsView self.old.dag view pool → IsView self.new.dag view pool) }
     {
         let new = id(name);
         let on = id(parent);
         if is_in(&self.dag, &new) || !is_in(&self.dag, &on) || self.dag.len() == 512 {
             return Err("known, on an unknown block, or too many".into());
         }
-        self.dag.add(new, &[on])?;
+        self.dag.add(new, 0, &[on])?;
         // Tells the proof that the blocks stand in order.
         let _blocks = self.dag.len();
         freeze_last(self.alloc, &self.dag, &mut self.frozen)?;
@@ -87,12 +88,12 @@ impl Based {
 
     /// Adds a block to a view, if the view has its past and not the block.
     pub(crate) fn join(&self, pool: &mut RowPool, view: &mut View, b: u16) -> Result<(), Fail>
-        requires based { IsBased self.now.dag.parents self.now.frozen }
-        requires is { IsView self.now.dag.parents view.old pool.old }
-        ensures is { OnOk result (IsView self.now.dag.parents view.new pool.new) }
+        requires based { IsBased self.now.dag self.now.frozen }
+        requires is { IsView self.now.dag view.old pool.old }
+        ensures is { OnOk result (IsView self.now.dag view.new pool.new) }
         ensures beside { OnOk result ((other : Viewed) →
-            AreTwo self.now.dag.parents self.now.frozen pool.old other view.old →
-            AreTwo self.now.dag.parents self.now.frozen pool.new other view.new) }
+            AreTwo self.now.dag self.now.frozen pool.old other view.old →
+            AreTwo self.now.dag self.now.frozen pool.new other view.new) }
     {
         if b >= self.dag.len() || pool.live() >= 1 << 20 {
             return Err("no such block, or too many rows".into());
@@ -106,8 +107,8 @@ impl Based {
 
     /// All blocks, by a view that takes one after another.
     pub(crate) fn all(&self) -> Result<Row, Fail>
-        requires { IsBased self.now.dag.parents self.now.frozen }
-        ensures asked { IfOk result (IsAsked (graph_of self.now.dag.parents)) }
+        requires { IsBased self.now.dag self.now.frozen }
+        ensures asked { IfOk result (IsAsked (graph_of self.now.dag)) }
         ensures below { IfOk result (λ all. (z : ℕ) → IsTrue (has all z) →
             z < self.now.frozen.blocks) }
     {

@@ -28,7 +28,7 @@ fn is_right(
     pool: &RowPool,
     view: &View,
 ) -> Result<bool, Fail>
-    requires { CanVote dag.now.parents frozen.now pool.now view.now }
+    requires { CanVote dag.now frozen.now pool.now view.now }
 {
     let votes = plain_of(alloc, dag, frozen, pool, view)?;
     Ok(has_votes(dag, frozen, pool, view, &votes))
@@ -44,8 +44,8 @@ fn is_whole(
     view: &View,
     all: &View,
 ) -> Result<bool, Fail>
-    requires can { CanVote dag.now.parents frozen.now pool.now view.now }
-    requires can_all { CanVote dag.now.parents frozen.now pool.now all.now }
+    requires can { CanVote dag.now frozen.now pool.now view.now }
+    requires can_all { CanVote dag.now frozen.now pool.now all.now }
 {
     let before = plain_of(alloc, dag, frozen, pool, view)?;
     let after = plain_of(alloc, dag, frozen, pool, all)?;

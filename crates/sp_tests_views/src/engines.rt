@@ -5,13 +5,14 @@ ghost use Rattle.sp_tests_views.specs.Voting.{CanVote};
 
 use sp_engine::{Answer, Engine};
 use sp_fixtures::{Numbered, genesis_of};
+use sp_model::Profile;
 use sp_view::View;
 use std::alloc::Global;
 use std::test::Fail;
 
 /// An engine of genesis alone.
 pub(crate) fn engine_of(alloc: Global, blocks: &Numbered) -> Result<Engine, Fail> {
-    Ok(Engine::new(alloc, genesis_of(alloc, blocks.text(0))?, 0)?)
+    Ok(Engine::new(alloc, genesis_of(alloc, blocks.text(0))?, 0, Profile::One)?)
 }
 
 /// A block comes to an engine, whose parents are all present.
@@ -30,7 +31,7 @@ pub(crate) fn come(engine: &mut Engine, blocks: &Numbered, number: usize) -> Res
 pub(crate) fn view_at(engine: &Engine, n: u16) -> Option<&View>
     requires whole { engine.now.broken ≡ false }
     requires within { n ≤ length engine.now.numbered.parents }
-    ensures { IfSome result (λ view. CanVote engine.now.numbered.parents
+    ensures { IfSome result (λ view. CanVote engine.now.numbered
         engine.now.votes.frozen engine.now.votes.rows view.now) }
 {
     // Tells the proof that all blocks have frozen votes.

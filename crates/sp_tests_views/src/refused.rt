@@ -53,9 +53,9 @@ fn is_as(pool: &RowPool, view: &View, before: &[Standing], live: usize) -> bool 
 
 /// Makes the other view that of the first three, behind which 3 stands on 1 and 4 on 2.
 fn begin(two: &mut Two) -> Result<(), Fail>
-    requires { AreTwo two.old.based.dag.parents two.old.based.frozen
+    requires { AreTwo two.old.based.dag two.old.based.frozen
         two.old.pool two.old.one two.old.other }
-    ensures { OnOk result (AreTwo two.new.based.dag.parents two.new.based.frozen
+    ensures { OnOk result (AreTwo two.new.based.dag two.new.based.frozen
         two.new.pool two.new.one two.new.other) }
 {
     two.derive()?;
@@ -66,7 +66,7 @@ fn begin(two: &mut Two) -> Result<(), Fail>
 /// Adds 3 to the view of the first three. Where that is refused it says whether the view and all rows
 /// are as they were.
 fn add_fourth(two: &mut Two) -> Result<(bool, Result<(), Fail>), Fail>
-    requires { AreTwo two.old.based.dag.parents two.old.based.frozen
+    requires { AreTwo two.old.based.dag two.old.based.frozen
         two.old.pool two.old.one two.old.other }
 {
     begin(two)?;
@@ -85,7 +85,7 @@ fn add_fourth(two: &mut Two) -> Result<(bool, Result<(), Fail>), Fail>
 /// Derives the view of all from that of the first three. Where that is refused it says whether all rows
 /// are as they were.
 fn derive_all(two: &mut Two) -> Result<(bool, Result<(), Fail>), Fail>
-    requires { AreTwo two.old.based.dag.parents two.old.based.frozen
+    requires { AreTwo two.old.based.dag two.old.based.frozen
         two.old.pool two.old.one two.old.other }
 {
     begin(two)?;

@@ -56,7 +56,7 @@ fn is_newer(pool: &RowPool, view: &View) -> Result<bool, Fail> {
 
 /// Whether the other view votes so, and the plain votes of the four are the same.
 fn votes_so(two: &Two) -> Result<bool, Fail>
-    requires { AreTwo two.now.based.dag.parents two.now.based.frozen
+    requires { AreTwo two.now.based.dag two.now.based.frozen
         two.now.pool two.now.one two.now.other }
 {
     let (dag, frozen, pool) = (&two.based.dag, &two.based.frozen, &two.pool);
@@ -67,7 +67,7 @@ fn votes_so(two: &Two) -> Result<bool, Fail>
 
 /// Whether just both pairs changed from the one view to the other.
 fn both_changed(two: &Two) -> Result<bool, Fail>
-    requires { AreTwo two.now.based.dag.parents two.now.based.frozen
+    requires { AreTwo two.now.based.dag two.now.based.frozen
         two.now.pool two.now.one two.now.other }
 {
     let (dag, frozen, pool) = (&two.based.dag, &two.based.frozen, &two.pool);
@@ -102,9 +102,9 @@ fn is_start(two: &Two, rows: (RowId, RowId)) -> Result<bool, Fail> {
 
 /// Makes the one view that of genesis, 1 and 2, and answers its rows.
 fn begin(two: &mut Two) -> Result<(RowId, RowId), Fail>
-    requires { AreTwo two.old.based.dag.parents two.old.based.frozen
+    requires { AreTwo two.old.based.dag two.old.based.frozen
         two.old.pool two.old.one two.old.other }
-    ensures { OnOk result (AreTwo two.new.based.dag.parents two.new.based.frozen
+    ensures { OnOk result (AreTwo two.new.based.dag two.new.based.frozen
         two.new.pool two.new.one two.new.other) }
 {
     two.derive()?;
@@ -119,7 +119,7 @@ fn begin(two: &mut Two) -> Result<(RowId, RowId), Fail>
 
 /// What is wrong with both views, with the newer one once the older one went, and once both did.
 fn wrong_then(two: &mut Two, before: (RowId, RowId)) -> Result<&'static str, Fail>
-    requires { AreTwo two.old.based.dag.parents two.old.based.frozen
+    requires { AreTwo two.old.based.dag two.old.based.frozen
         two.old.pool two.old.one two.old.other }
 {
     if !(share_one(two, before)? && votes_so(two)? && both_changed(two)?) {
@@ -139,7 +139,7 @@ fn wrong_then(two: &mut Two, before: (RowId, RowId)) -> Result<&'static str, Fai
 }
 
 fn wrong_forked(two: &mut Two) -> Result<&'static str, Fail>
-    requires { AreTwo two.old.based.dag.parents two.old.based.frozen
+    requires { AreTwo two.old.based.dag two.old.based.frozen
         two.old.pool two.old.one two.old.other }
 {
     let before = begin(two)?;
@@ -153,7 +153,7 @@ fn wrong_forked(two: &mut Two) -> Result<&'static str, Fail>
 }
 
 fn wrong_derived(two: &mut Two) -> Result<&'static str, Fail>
-    requires { AreTwo two.old.based.dag.parents two.old.based.frozen
+    requires { AreTwo two.old.based.dag two.old.based.frozen
         two.old.pool two.old.one two.old.other }
 {
     let before = begin(two)?;

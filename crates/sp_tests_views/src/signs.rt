@@ -20,7 +20,7 @@ pub(crate) type Votes = Vec<Option<i8>>;
 
 /// The plain votes of a set on each pair.
 pub(crate) fn plain_signs(alloc: Global, dag: &Dag, members: &Row) -> Result<Votes, Memory>
-    requires { IsClosed (graph_of dag.now.parents) (length dag.now.parents) members.now }
+    requires { IsClosed (graph_of dag.now) (length dag.now.parents) members.now }
 {
     // Tells the proof that there are at most 512 blocks.
     let _blocks = dag.len();
@@ -42,7 +42,7 @@ pub(crate) fn plain_of(
     pool: &RowPool,
     view: &View,
 ) -> Result<Votes, Memory>
-    requires { CanVote dag.now.parents frozen.now pool.now view.now }
+    requires { CanVote dag.now frozen.now pool.now view.now }
 {
     plain_signs(alloc, dag, view.members())
 }
@@ -55,7 +55,7 @@ pub(crate) fn vote_on(
     view: &View,
     pair: u32,
 ) -> Option<i8>
-    requires { CanVote dag.now.parents frozen.now pool.now view.now }
+    requires { CanVote dag.now frozen.now pool.now view.now }
 {
     match view.rows(pair) {
         Some(_) => Some(view.virtual_vote(frozen, pool, pair)),
@@ -71,7 +71,7 @@ pub(crate) fn has_votes(
     view: &View,
     votes: &[Option<i8>],
 ) -> bool
-    requires { CanVote dag.now.parents frozen.now pool.now view.now }
+    requires { CanVote dag.now frozen.now pool.now view.now }
 {
     for pair in 0..dag.pair_count() {
         if votes.get(pair as usize).copied() != Some(vote_on(dag, frozen, pool, view, pair)) {
@@ -88,7 +88,7 @@ pub(crate) fn past_votes(
     pool: &RowPool,
     view: &View,
 ) -> Result<PastVotes, Memory>
-    requires { CanVote dag.now.parents frozen.now pool.now view.now }
+    requires { CanVote dag.now frozen.now pool.now view.now }
 {
     // Tells the proof that there are at most 130,816 pairs.
     let _pairs = dag.pair_count();
@@ -103,8 +103,8 @@ pub(crate) fn changes(
     older: &View,
     view: &View,
 ) -> Result<Vec<u32>, Memory>
-    requires can { CanVote dag.now.parents frozen.now pool.now view.now }
-    requires can_older { CanVote dag.now.parents frozen.now pool.now older.now }
+    requires can { CanVote dag.now frozen.now pool.now view.now }
+    requires can_older { CanVote dag.now frozen.now pool.now older.now }
 {
     // Tells the proof that there are at most 130,816 pairs.
     let _pairs = dag.pair_count();

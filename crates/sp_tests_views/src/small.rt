@@ -93,7 +93,7 @@ const SIDES: &[(Graph, u16, u16, Sides)] = &[
 
 /// A pair of two blocks, if they are unrelated.
 fn pair_of(dag: &Dag, x: u16, y: u16) -> Result<Option<u32>, Fail>
-    ensures { IfOk result (λ o. IfSome o (λ i. i < length (pairs_of dag.now.parents))) }
+    ensures { IfOk result (λ o. IfSome o (λ i. i < length (pairs_of dag.now))) }
 {
     if x >= dag.len() || y >= dag.len() {
         return Err("no such block".into());
@@ -116,8 +116,8 @@ fn four_rows(
     view: &View,
     pair: u32,
 ) -> Result<Four, Fail>
-    requires can { CanVote dag.now.parents frozen.now pool.now view.now }
-    requires listed { pair < length (pairs_of dag.now.parents) }
+    requires can { CanVote dag.now frozen.now pool.now view.now }
+    requires listed { pair < length (pairs_of dag.now) }
 {
     let (plus, minus) = frozen_rows(dag, frozen, pair);
     match view.rows(pair) {
@@ -140,7 +140,7 @@ fn sum_on(
     pair: u32,
     rows: &Four,
 ) -> Result<i32, Fail>
-    requires can { CanVote dag.now.parents frozen.now pool.now view.now }
+    requires can { CanVote dag.now frozen.now pool.now view.now }
 {
     let members = view.members();
     let sum = members
@@ -162,7 +162,7 @@ fn said_of(
     x: u16,
     y: u16,
 ) -> Result<Said, Fail>
-    requires { CanVote dag.now.parents frozen.now pool.now view.now }
+    requires { CanVote dag.now frozen.now pool.now view.now }
 {
     let Some(pair) = pair_of(dag, x, y)? else {
         return Ok(None);
@@ -181,9 +181,9 @@ fn derived(
     view: &View,
     own: &mut RowPool,
 ) -> Result<View, Memory>
-    requires can { CanVote dag.now.parents frozen.now pool.now view.now }
+    requires can { CanVote dag.now frozen.now pool.now view.now }
     requires empty { own.old.rows ≡ [] }
-    ensures { IfOk result (λ again. CanVote dag.now.parents frozen.now own.new again) }
+    ensures { IfOk result (λ again. CanVote dag.now frozen.now own.new again) }
 {
     View::derive(alloc, &[], dag, frozen, own, view.members())
 }
@@ -198,7 +198,7 @@ fn said_again(
     x: u16,
     y: u16,
 ) -> Result<Said, Fail>
-    requires { CanVote dag.now.parents frozen.now pool.now view.now }
+    requires { CanVote dag.now frozen.now pool.now view.now }
 {
     let mut own = RowPool::new(alloc);
     let again = derived(alloc, dag, frozen, pool, view, &mut own)?;

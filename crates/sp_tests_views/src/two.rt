@@ -27,7 +27,7 @@ impl Two {
     /// Genesis with 1 and 2 on it, and both views of no blocks.
     pub(crate) fn start(alloc: Global) -> Result<Two, Fail>
         ensures { IfOk result (λ two.
-            AreTwo two.based.dag.parents two.based.frozen two.pool two.one two.other) }
+            AreTwo two.based.dag two.based.frozen two.pool two.one two.other) }
     {
         let mut based = Based::start(alloc)?;
         based.grow(1, 0)?;
@@ -44,9 +44,9 @@ impl Two {
 
     /// Adds a block on another one to the graph and its frozen votes.
     pub(crate) fn grow(&mut self, name: u8, parent: u8) -> Result<(), Fail>
-        requires { AreTwo self.old.based.dag.parents self.old.based.frozen
+        requires { AreTwo self.old.based.dag self.old.based.frozen
             self.old.pool self.old.one self.old.other }
-        ensures { OnOk result (AreTwo self.new.based.dag.parents self.new.based.frozen
+        ensures { OnOk result (AreTwo self.new.based.dag self.new.based.frozen
             self.new.pool self.new.one self.new.other) }
     {
         self.based.grow(name, parent)?;
@@ -55,9 +55,9 @@ impl Two {
 
     /// Exchanges the two views.
     pub(crate) fn turn(&mut self)
-        requires { AreTwo self.old.based.dag.parents self.old.based.frozen
+        requires { AreTwo self.old.based.dag self.old.based.frozen
             self.old.pool self.old.one self.old.other }
-        ensures { AreTwo self.new.based.dag.parents self.new.based.frozen
+        ensures { AreTwo self.new.based.dag self.new.based.frozen
             self.new.pool self.new.one self.new.other }
     {
         swap(&mut self.one, &mut self.other);
@@ -65,9 +65,9 @@ impl Two {
 
     /// Lets the other view go, in whose place that of no blocks stands then.
     pub(crate) fn let_go(&mut self)
-        requires { AreTwo self.old.based.dag.parents self.old.based.frozen
+        requires { AreTwo self.old.based.dag self.old.based.frozen
             self.old.pool self.old.one self.old.other }
-        ensures two { AreTwo self.new.based.dag.parents self.new.based.frozen
+        ensures two { AreTwo self.new.based.dag self.new.based.frozen
             self.new.pool self.new.one self.new.other }
         ensures none { self.new.other ≡ record { members = []; entries = [] } }
     {
@@ -78,9 +78,9 @@ impl Two {
 
     /// Makes the other view a fork of the one.
     pub(crate) fn fork(&mut self) -> Result<(), Memory>
-        requires { AreTwo self.old.based.dag.parents self.old.based.frozen
+        requires { AreTwo self.old.based.dag self.old.based.frozen
             self.old.pool self.old.one self.old.other }
-        ensures { OnOk result (AreTwo self.new.based.dag.parents self.new.based.frozen
+        ensures { OnOk result (AreTwo self.new.based.dag self.new.based.frozen
             self.new.pool self.new.one self.new.other) }
     {
         self.let_go();
@@ -90,9 +90,9 @@ impl Two {
 
     /// Adds a block to the other view.
     pub(crate) fn join(&mut self, b: u16) -> Result<(), Fail>
-        requires { AreTwo self.old.based.dag.parents self.old.based.frozen
+        requires { AreTwo self.old.based.dag self.old.based.frozen
             self.old.pool self.old.one self.old.other }
-        ensures { OnOk result (AreTwo self.new.based.dag.parents self.new.based.frozen
+        ensures { OnOk result (AreTwo self.new.based.dag self.new.based.frozen
             self.new.pool self.new.one self.new.other) }
     {
         self.based.join(&mut self.pool, &mut self.other, b)
@@ -100,9 +100,9 @@ impl Two {
 
     /// Derives the other view from the one, as that of all blocks.
     pub(crate) fn derive(&mut self) -> Result<(), Fail>
-        requires { AreTwo self.old.based.dag.parents self.old.based.frozen
+        requires { AreTwo self.old.based.dag self.old.based.frozen
             self.old.pool self.old.one self.old.other }
-        ensures { OnOk result (AreTwo self.new.based.dag.parents self.new.based.frozen
+        ensures { OnOk result (AreTwo self.new.based.dag self.new.based.frozen
             self.new.pool self.new.one self.new.other) }
     {
         self.let_go();

@@ -18,8 +18,8 @@ use std::test::Fail;
 
 /// The two frozen rows of a pair.
 pub(crate) fn frozen_rows(dag: &Dag, frozen: &Frozen, pair: u32) -> (Row, Row)
-    requires based { IsBased dag.now.parents frozen.now }
-    requires listed { pair < length (pairs_of dag.now.parents) }
+    requires based { IsBased dag.now frozen.now }
+    requires listed { pair < length (pairs_of dag.now) }
 {
     // Tells the proof which blocks they are.
     let _both = dag.pair(pair);
@@ -28,8 +28,8 @@ pub(crate) fn frozen_rows(dag: &Dag, frozen: &Frozen, pair: u32) -> (Row, Row)
 
 /// The frozen vote of a block on a pair.
 fn frozen_on(dag: &Dag, frozen: &Frozen, pair: u32, z: u16) -> Option<i8>
-    requires based { IsBased dag.now.parents frozen.now }
-    requires listed { pair < length (pairs_of dag.now.parents) }
+    requires based { IsBased dag.now frozen.now }
+    requires listed { pair < length (pairs_of dag.now) }
     requires z_in { z < length dag.now.parents }
 {
     // Tells the proof which blocks they are.
@@ -39,7 +39,7 @@ fn frozen_on(dag: &Dag, frozen: &Frozen, pair: u32, z: u16) -> Option<i8>
 
 /// The vote of a frozen voter on a pair by the plain votes of its past; there is none for a loose one.
 fn plain_frozen(dag: &Dag, past: &[Option<i8>], pair: u32, z: u16) -> Option<i8>
-    requires listed { pair < length (pairs_of dag.now.parents) }
+    requires listed { pair < length (pairs_of dag.now) }
     requires z_in { z < length dag.now.parents }
 {
     let (x, y) = dag.pair(pair);
@@ -59,7 +59,7 @@ fn plain_frozen(dag: &Dag, past: &[Option<i8>], pair: u32, z: u16) -> Option<i8>
 
 /// Whether a block's frozen vote is, on each pair, what the plain votes of its past say.
 fn is_frozen(dag: &Dag, frozen: &Frozen, past: &[Option<i8>], z: u16) -> bool
-    requires based { IsBased dag.now.parents frozen.now }
+    requires based { IsBased dag.now frozen.now }
     requires z_in { z < length dag.now.parents }
 {
     // Tells the proof that there are at most 512 blocks.
@@ -88,7 +88,7 @@ fn plain_past(alloc: Global, dag: &Dag, z: u16) -> Result<Vec<Option<i8>>, Memor
 
 /// Whether each block's frozen votes are those of its past.
 pub(crate) fn are_frozen(alloc: Global, dag: &Dag, frozen: &Frozen) -> Result<bool, Memory>
-    requires { IsBased dag.now.parents frozen.now }
+    requires { IsBased dag.now frozen.now }
 {
     for z in 0..dag.len() {
         let past = plain_past(alloc, dag, z)?;
@@ -102,8 +102,8 @@ pub(crate) fn are_frozen(alloc: Global, dag: &Dag, frozen: &Frozen) -> Result<bo
 /// What has the sign of a member's vote on a pair, and whether the member is loose, by the rows of those
 /// above it that vote +1 and -1.
 fn vote_of(dag: &Dag, frozen: &Frozen, pair: u32, z: u16, plus: &Row, minus: &Row) -> (i32, bool)
-    requires based { IsBased dag.now.parents frozen.now }
-    requires listed { pair < length (pairs_of dag.now.parents) }
+    requires based { IsBased dag.now frozen.now }
+    requires listed { pair < length (pairs_of dag.now) }
     requires z_in { z < length dag.now.parents }
 {
     match frozen_on(dag, frozen, pair, z) {
@@ -115,8 +115,8 @@ fn vote_of(dag: &Dag, frozen: &Frozen, pair: u32, z: u16, plus: &Row, minus: &Ro
 /// The loose members of a set that vote +1 on a pair, and those that vote -1, found from the highest
 /// down.
 fn loose_voters(dag: &Dag, frozen: &Frozen, members: &Row, pair: u32) -> (Row, Row)
-    requires based { IsBased dag.now.parents frozen.now }
-    requires listed { pair < length (pairs_of dag.now.parents) }
+    requires based { IsBased dag.now frozen.now }
+    requires listed { pair < length (pairs_of dag.now) }
 {
     let (mut plus, mut minus) = (Row::empty(), Row::empty());
     let (mut loose_plus, mut loose_minus) = (Row::empty(), Row::empty());
@@ -147,7 +147,7 @@ pub(crate) fn are_held(
     pool: &RowPool,
     view: &View,
 ) -> Result<bool, Fail>
-    requires { IsBased dag.now.parents frozen.now }
+    requires { IsBased dag.now frozen.now }
 {
     for pair in 0..dag.pair_count() {
         if let Some((plus, minus)) = view.rows(pair) {

@@ -7,7 +7,7 @@ use Rattle.std.proofs.lemmas.List.Concat.{flat_map-append}
 use Rattle.std.proofs.lemmas.List.Elements.{filter-append}
 use Rattle.sp_bits.specs.Places.{IsRow, places_where}
 use Rattle.sp_bits.proofs.RowSets.{filter-filter}
-use Rattle.sp_dag.specs.Numbered.{graph_of, pairs_of, pairs_below, unrelated_below}
+use Rattle.sp_dag.specs.Numbered.{Numbered, graph_of, pairs_of, pairs_below, unrelated_below}
 use Rattle.sp_dag.proofs.NewPairs.{range_more}
 use Rattle.sp_model.specs.Graph.{Graph, has, in_past, related, anticone}
 use Rattle.sp_model.specs.Joining.{Joins}
@@ -224,9 +224,9 @@ module _ (g : Graph) (b : ℕ) (set more : List ℕ) (joins : Joins g b set more
       omega (arith, most, is, ap (λ (k : ℕ). length (filter apart (range_with_len 0 k))) all))
 
 -- the rows that a joining block moves: two for each member that is unrelated to it, and those of old pairs that change
-pub moved_brought : (table : List (List ℕ)) (b : ℕ) (set more : List ℕ) → IsRow set → b < length table → length table ≤ 512 → Joins (graph_of table) b set more
+pub moved_brought : (table : Numbered) (b : ℕ) (set more : List ℕ) → IsRow set → b < length table.parents → length table.parents ≤ 512 → Joins (graph_of table) b set more
     → moved_rows (graph_of table) set more (pairs_of table) ≤ 2 * length (anticone (graph_of table) set b) + changed_rows (graph_of table) set more (pairs_of table)
 unfolding new_below
 moved_brought table b set more row within small joins =
     let g : Graph = graph_of table in
-    omega (arith, moved_new g set more (pairs_of table), (few_new g b set more joins (length table)).1, few_apart g b set more joins (length table) row small)
+    omega (arith, moved_new g set more (pairs_of table), (few_new g b set more joins (length table.parents)).1, few_apart g b set more joins (length table.parents) row small)

@@ -3,7 +3,7 @@ use Rattle.std.proofs.Common.{◌≡◌, ℕ, ◌<◌, true, ◌&&◌, List, [],
 use Rattle.std.specs.Prelude.{slice_get}
 use Rattle.std.proofs.lemmas.Bool.{and_from, and_parts}
 use Rattle.sp_bits.specs.Places.{difference}
-use Rattle.sp_dag.specs.Numbered.{graph_of, pairs_of}
+use Rattle.sp_dag.specs.Numbered.{Numbered, graph_of, pairs_of}
 use Rattle.sp_frozen.specs.Voters.{FrozenRows}
 use Rattle.sp_model.specs.Graph.{Graph, has}
 use Rattle.sp_rows.specs.Pool.{Pool}
@@ -13,7 +13,7 @@ use Rattle.sp_view.specs.Views.{IsEntry, KeepIds}
 use Rattle.sp_view.specs.Voting.{IsGrown}
 use Rattle.sp_view.proofs.JoinedRows.{unasked_sides}
 
-module _ (table : List (List ℕ)) (frozen : FrozenRows) (before set : List ℕ) (grown : IsGrown table frozen before set) (i x y : ℕ) (pool : Pool) (e : ℕ × ℕ)
+module _ (table : Numbered) (frozen : FrozenRows) (before set : List ℕ) (grown : IsGrown table frozen before set) (i x y : ℕ) (pool : Pool) (e : ℕ × ℕ)
     (is : IsEntry (graph_of table) before x y pool (Some e)) where
   both : (has before x ≡ true) × (has before y ≡ true)
   both = and_parts (has before x) (has before y) is.0

@@ -6,8 +6,8 @@ use Rattle.std.proofs.lemmas.Int.{ints}
 use Rattle.std.proofs.lemmas.Bool.{false≢true}
 use Rattle.sp_bits.specs.Places.{places_where, meet, difference, IsRow}
 use Rattle.sp_bits.proofs.RowSets.{has_difference, row_small}
-use Rattle.sp_dag.specs.Numbered.{graph_of, pairs_of}
-use Rattle.sp_dag.proofs.Whole.{downset_numbered}
+use Rattle.sp_dag.specs.Numbered.{Numbered, graph_of, pairs_of}
+use Rattle.sp_dag.proofs.Ranked.{downset_numbered}
 use Rattle.sp_model.specs.Graph.{Graph, IsDownset, has, keys}
 use Rattle.sp_model.specs.Votes.{sgn, virt}
 use Rattle.sp_model.proofs.Sets.{all_at}
@@ -58,7 +58,7 @@ sum_gains g older set joined x y plus minus ups downs whole asked asked' grown f
     )
 
 -- so it is in two views that have the same rows of a pair
-pub view_gains : (table : List (List ℕ)) (older view : Viewed) (pool : Pool) (frozen : FrozenRows) (joined : List ℕ) (i x y : ℕ) (gain : ℤ)
+pub view_gains : (table : Numbered) (older view : Viewed) (pool : Pool) (frozen : FrozenRows) (joined : List ℕ) (i x y : ℕ) (gain : ℤ)
     → gain ≡ pos (length (meet joined (get_or frozen.pluses i []))) -ℤ pos (length (meet joined (get_or frozen.minuses i [])))
     → AreJoined older.members view.members joined → entry_at older.entries i ≡ entry_at view.entries i → IsSome (entry_at view.entries i) → i < length frozen.pluses
     → IsView table view pool → IsView table older pool → HoldsFrozen table frozen

@@ -3,7 +3,7 @@ use Rattle.std.proofs.Common.{◌≡◌, ◌≢◌, ◌⊎◌, ℕ, zero, suc, �
 use Rattle.std.specs.Prelude.{slice_get, IfSome, IsSome}
 use Rattle.std.proofs.lemmas.Option.{slice_get-get_or}
 use Rattle.std.proofs.lemmas.Bool.{cases_eq, cases_lt, lt-ltb, le-ltb, false≢true}
-use Rattle.sp_dag.specs.Numbered.{graph_of, pairs_of}
+use Rattle.sp_dag.specs.Numbered.{Numbered, graph_of, pairs_of}
 use Rattle.sp_model.specs.Graph.{Graph}
 use Rattle.sp_rows.specs.Pool.{Pool}
 use Rattle.sp_view.specs.Stored.{count_of, row_of}
@@ -53,12 +53,12 @@ keeps_itself g set more x y None = tt
 keeps_itself g set more x y (Some e) = (λ _. refl, λ _. refl)
 
 -- the entries up to i are those of the one set, and the others those of the other one
-abbrev pub AreEntriesTo : List (List ℕ) → List ℕ → List ℕ → ℕ → Pool → List (Option (ℕ × ℕ)) → Type 0
+abbrev pub AreEntriesTo : Numbered → List ℕ → List ℕ → ℕ → Pool → List (Option (ℕ × ℕ)) → Type 0
 AreEntriesTo table before more i pool entries =
     (j x y : ℕ) → slice_get (pairs_of table) j ≡ Some (x, y) → IsEntry (graph_of table) (cond (ltb j i) more before) x y pool (entry_at entries j)
 
 -- one entry more
-pub entries_step : (table : List (List ℕ)) (before more : List ℕ) (i : ℕ) (pool pool' : Pool) (entries : List (Option (ℕ × ℕ))) (entry : Option (ℕ × ℕ)) → i < length entries
+pub entries_step : (table : Numbered) (before more : List ℕ) (i : ℕ) (pool pool' : Pool) (entries : List (Option (ℕ × ℕ))) (entry : Option (ℕ × ℕ)) → i < length entries
     → ((row : ℕ) → held entries row ≤ count_of pool row)
     → ((row : ℕ) → holds (entry_at entries i) row < count_of pool row → row_of pool' row ≡ row_of pool row)
     → ((x y : ℕ) → slice_get (pairs_of table) i ≡ Some (x, y) → IsEntry (graph_of table) before x y pool (entry_at entries i) → IsEntry (graph_of table) more x y pool' entry)
@@ -85,7 +85,7 @@ entries_step table before more i pool pool' entries entry lt live others turned 
         (entry_moves (graph_of table) (cond (ltb j i) more before) x y pool pool' (entry_at entries j)
         (λ row some. others row (omega (arith, holds_two entries i j row (λ e. other (sym e)), live row))) (known j x y at))
 
-pub kept_step : (table : List (List ℕ)) (before more : List ℕ) (i : ℕ) (first entries : List (Option (ℕ × ℕ))) (entry : Option (ℕ × ℕ)) → i < length entries
+pub kept_step : (table : Numbered) (before more : List ℕ) (i : ℕ) (first entries : List (Option (ℕ × ℕ))) (entry : Option (ℕ × ℕ)) → i < length entries
     → ((x y : ℕ) → slice_get (pairs_of table) i ≡ Some (x, y) → KeepIds (graph_of table) before more x y (entry_at first i) entry)
     → AreKeptIds table before more first entries → AreKeptIds table before more first (set entries i entry)
 kept_step table before more i first entries entry lt turned known j x y at =

@@ -23,6 +23,8 @@ pub mod Staying
 pub mod Bests
 pub mod Derived
 pub mod Starting
+pub mod Following
+pub mod Lone
 pub mod Fresh
 pub mod Changes
 pub mod Listing

@@ -6,9 +6,9 @@ use Rattle.sp_bits.specs.Places.{places_where, IsRow}
 use Rattle.sp_bits.specs.Members.{has-places_where}
 use Rattle.sp_bits.proofs.Sets.{places_same}
 use Rattle.sp_bits.proofs.RowSets.{has_places, row_small}
-use Rattle.sp_dag.specs.Numbered.{graph_of, AreInOrder}
+use Rattle.sp_dag.specs.Numbered.{Numbered, graph_of, AreInOrder}
 use Rattle.sp_dag.proofs.Whole.{AreDistinct-range}
-use Rattle.sp_dag.proofs.Whole.{complete_numbered}
+use Rattle.sp_dag.proofs.Ranked.{complete_numbered}
 use Rattle.sp_model.specs.Graph.{AreDistinct, has, in_past}
 use Rattle.sp_model.specs.Joining.{Joins}
 use Rattle.sp_model.proofs.Match.{distinct_filter}
@@ -24,8 +24,8 @@ pub row_distinct : (set : List ℕ) → IsRow set → AreDistinct set
 unfolding IsRow places_where
 row_distinct set row = subst AreDistinct (sym row) (distinct_filter (has set) (range_with_len 0 512) (AreDistinct-range 0 512))
 
-module _ (table : List (List ℕ)) (order : AreInOrder table) (small : length table ≤ 512) (set : List ℕ) (b : ℕ)
-    (asked : IsAsked (graph_of table) set) (below : (z : ℕ) → has set z ≡ true → z < length table) (within : b < length table)
+module _ (table : Numbered) (order : AreInOrder table.parents) (small : length table.parents ≤ 512) (set : List ℕ) (b : ℕ)
+    (asked : IsAsked (graph_of table) set) (below : (z : ℕ) → has set z ≡ true → z < length table.parents) (within : b < length table.parents)
     (new : has set b ≡ false) (past : (z : ℕ) → in_past (graph_of table) z b ≡ true → has set z ≡ true) where
   -- the set with the block
   pub has_more : (z : ℕ) → has (places_where (λ p. has set p || eqb p b)) z ≡ (has set z || eqb z b)
@@ -43,7 +43,7 @@ module _ (table : List (List ℕ)) (order : AreInOrder table) (small : length ta
   pub more_there : has (places_where (λ p. has set p || eqb p b)) b ≡ true
   more_there = has_more b ∙ or_right (has set b) (eqb b b) (eq-eqb b b refl)
 
-  pub more_below : (z : ℕ) → has (places_where (λ p. has set p || eqb p b)) z ≡ true → z < length table
+  pub more_below : (z : ℕ) → has (places_where (λ p. has set p || eqb p b)) z ≡ true → z < length table.parents
   more_below z h = elim (more_parts z h) [ inl there ↦ below z there | inr e ↦ omega arith ]
 
   pub more_asked : IsAsked (graph_of table) (places_where (λ p. has set p || eqb p b))

@@ -1,5 +1,5 @@
 -- How many rows a set moves that grows, pair by pair.
-use Rattle.std.proofs.Common.{◌≡◌, ◌≢◌, ℕ, zero, suc, ◌+◌, ◌≤◌, Bool, true, false, cond, ◌&&◌, List, [], ◌∷◌, length, take, Option, Some, None, refl, sym, ap, subst, ◌∙◌, eqb, arith}
+use Rattle.std.proofs.Common.{◌≡◌, ◌≢◌, ℕ, zero, suc, ◌+◌, ◌*◌, ◌≤◌, Bool, true, false, cond, ◌&&◌, List, [], ◌∷◌, length, take, Option, Some, None, refl, sym, ap, subst, ◌∙◌, eqb, arith}
 use Rattle.std.specs.Prelude.{filter, slice_get}
 use Rattle.std.proofs.lemmas.Bool.{eq-eqb, and_parts, and_from, false_from_ne_true}
 use Rattle.sp_bits.specs.Places.{IsRow}
@@ -126,6 +126,17 @@ pub moved_take_le : (g : Graph) (set more : List ℕ) (pairs : List (ℕ × ℕ)
 moved_take_le g set more pairs zero = omega arith
 moved_take_le g set more [] (suc i) = omega arith
 moved_take_le g set more (p ∷ ps) (suc i) = (let rest = moved_take_le g set more ps i in omega (arith, rest))
+
+-- each pair moves two rows at most
+pub all_moved_few : (g : Graph) (set more : List ℕ) (pairs : List (ℕ × ℕ)) → IsRow set → IsRow more → moved_rows g set more pairs ≤ 2 * length pairs
+all_moved_few g set more [] row row' = omega arith
+all_moved_few g set more (p ∷ ps) row row' =
+    at (has set p.0 && has set p.1) (has more p.0 && has more p.1) (changes_of g set more p.0 p.1) (changes_few g set more p.0 p.1 row row') (all_moved_few g set more ps row row')
+  where
+    at : (s m : Bool) (c : ℕ) → c ≤ 2 → moved_rows g set more ps ≤ 2 * length ps → cond s c (cond m 2 0) + moved_rows g set more ps ≤ 2 * suc (length ps)
+    at true m c few rest = omega (arith, few, rest)
+    at false true c few rest = omega (arith, rest)
+    at false false c few rest = omega (arith, rest)
 
 pub take_whole : {A : Type 0} (xs : List A) (i : ℕ) → length xs ≤ i → take i xs ≡ xs
 take_whole [] zero h = refl

@@ -4,29 +4,29 @@ use Rattle.std.specs.Prelude.{not, IfSome, IsNone, ◌↔◌}
 use Rattle.std.proofs.lemmas.Bool.{false≢true, eqb-true, and_parts, and_from, or_left, or_right, not_from_false}
 use Rattle.sp_bits.specs.Places.{difference, members_below, union, IsGreatest}
 use Rattle.sp_bits.proofs.RowSets.{has_difference, has_union}
-use Rattle.sp_dag.specs.Numbered.{graph_of, AreInOrder}
-use Rattle.sp_dag.proofs.Whole.{ancestors_lower, complete_numbered, past_members}
+use Rattle.sp_dag.specs.Numbered.{Numbered, graph_of, AreInOrder}
+use Rattle.sp_dag.proofs.Ranked.{ancestors_lower, complete_numbered, past_members}
 use Rattle.sp_model.specs.Graph.{has, in_past, past, IsDownset}
 use Rattle.sp_model.proofs.Pasts.{past_trans}
 use Rattle.sp_view.specs.Settled.{left_of}
 use Rattle.sp_view.proofs.Downward.{left_first, left_next}
 
 -- each block is left, or its past is there
-abbrev pub AreCovered : List (List ℕ) → List ℕ → List ℕ → Option ℕ → List ℕ → Type 0
+abbrev pub AreCovered : Numbered → List ℕ → List ℕ → Option ℕ → List ℕ → Type 0
 AreCovered table blocks left next below =
     (b : ℕ) → has blocks b ≡ true → (left_of left next b ≡ true) ⊎ ((z : ℕ) → in_past (graph_of table) z b ≡ true → has below z ≡ true)
 
-pub covered_first : (table : List (List ℕ)) (blocks below : List ℕ) (next : Option ℕ) → IfSome next (IsGreatest blocks) → IsNone next ↔ (blocks ≡ []) → AreCovered table blocks blocks next below
+pub covered_first : (table : Numbered) (blocks below : List ℕ) (next : Option ℕ) → IfSome next (IsGreatest blocks) → IsNone next ↔ (blocks ≡ []) → AreCovered table blocks blocks next below
 covered_first table blocks below next some none b h = inl (sym (left_first blocks next some none b) ∙ h)
 
-pub covered_last : (table : List (List ℕ)) (blocks left below : List ℕ) → AreCovered table blocks left None below
+pub covered_last : (table : Numbered) (blocks left below : List ℕ) → AreCovered table blocks left None below
     → (b z : ℕ) → has blocks b ≡ true → in_past (graph_of table) z b ≡ true → has below z ≡ true
 covered_last table blocks left below covered b z h r = elim (covered b h) [
   | inl there ↦ absurd (false≢true (and_parts (has left b) false there).1)
   | inr all ↦ all z r
 ]
 
-module _ (table : List (List ℕ)) (order : AreInOrder table) (few : length table ≤ 512) (block : ℕ) (within : block < length table)
+module _ (table : Numbered) (order : AreInOrder table.parents) (few : length table.parents ≤ 512) (block : ℕ) (within : block < length table.parents)
     (below left : List ℕ) (small : (z : ℕ) → has below z ≡ true → z < 512) (left_small : (z : ℕ) → has left z ≡ true → z < 512) where
   past_small : (z : ℕ) → has (past (graph_of table) block) z ≡ true → z < 512
   past_small z h =

@@ -3,7 +3,7 @@ use Rattle.std.proofs.Common.{◌≡◌, true, ℕ, List, [], Option, Some, refl
 use Rattle.std.specs.Prelude.{slice_get}
 use Rattle.std.proofs.lemmas.Bool.{false≢true}
 use Rattle.sp_bits.specs.Places.{IsRow}
-use Rattle.sp_dag.specs.Numbered.{graph_of, AreInOrder}
+use Rattle.sp_dag.specs.Numbered.{Numbered, graph_of, AreInOrder}
 use Rattle.sp_dag.proofs.Grown.{nowhere}
 use Rattle.sp_model.specs.Graph.{has}
 use Rattle.sp_rows.specs.Pool.{Pool}
@@ -18,7 +18,7 @@ empty_row : IsRow []
 unfolding IsRow
 empty_row = sym nowhere
 
-pub view_nothing : (table : List (List ℕ)) (pool : Pool) → AreInOrder table → IsView table nothing pool
+pub view_nothing : (table : Numbered) (pool : Pool) → AreInOrder table.parents → IsView table nothing pool
 view_nothing table pool order = record {
   order = order;
   asked = record { row = empty_row; down = record { all_complete = λ z h. absurd (false≢true h); closed = λ z a h r. absurd (false≢true h) } };
@@ -30,7 +30,7 @@ view_nothing table pool order = record {
 }
 
 -- what a view starts from is a view within the target
-pub view_start : (table : List (List ℕ)) (views : List Viewed) (target : List ℕ) (pool : Pool) (view : Viewed) → AreInOrder table → IsStart views target view
+pub view_start : (table : Numbered) (views : List Viewed) (target : List ℕ) (pool : Pool) (view : Viewed) → AreInOrder table.parents → IsStart views target view
     → ((i : ℕ) (view : Viewed) → slice_get views i ≡ Some view → IsView table view pool) → IsView table view pool
 view_start table views target pool view order start each = elim start [
   | inl best ↦ each best.0 view best.1.at

@@ -2,7 +2,7 @@
 use Rattle.std.proofs.Common.{◌≡◌, ◌≢◌, ◌⊎◌, ℕ, zero, suc, ◌+◌, ◌<◌, ◌≤◌, Bool, true, cond, ◌&&◌, List, [], length, get_or, Some, refl, sym, ap, ◌∙◌, eqb, inl, inr, arith}
 use Rattle.std.specs.Prelude.{not, slice_get, Option, unwrap_or}
 use Rattle.std.proofs.lemmas.Bool.{cases_eq, eq-eqb, ne_eqb, lt-ltb}
-use Rattle.sp_dag.specs.Numbered.{graph_of, pairs_of}
+use Rattle.sp_dag.specs.Numbered.{Numbered, graph_of, pairs_of}
 use Rattle.sp_model.specs.Graph.{has, keys}
 use Rattle.sp_model.specs.Votes.{vote}
 use Rattle.sp_model.specs.Loose.{is_loose, is_plus, is_minus}
@@ -10,7 +10,7 @@ use Rattle.sp_frozen.specs.Voters.{AreFrozen, AreFrozenBelow, FrozenRows, HoldsF
 use Rattle.sp_view.specs.Views.{IsOnce}
 
 -- the frozen rows of a pair serve each set of blocks that were added
-pub frozen_among : (table : List (List ℕ)) (frozen : FrozenRows) (set : List ℕ) (i x y : ℕ) → HoldsFrozen table frozen
+pub frozen_among : (table : Numbered) (frozen : FrozenRows) (set : List ℕ) (i x y : ℕ) → HoldsFrozen table frozen
     → slice_get (pairs_of table) i ≡ Some (x, y) → i < length frozen.pluses → ((z : ℕ) → has set z ≡ true → z < frozen.blocks)
     → AreFrozen (graph_of table) set x y (get_or frozen.pluses i []) (get_or frozen.minuses i [])
 frozen_among table frozen set i x y holds at lt added =

@@ -1,5 +1,5 @@
 -- Sums of votes, in a set and in an older one that it has the members of.
-use Rattle.std.specs.Prelude.{ℕ, true, ◌≡◌, List, ℤ}
+use Rattle.std.specs.Prelude.{ℕ, true, ◌≡◌, ◌<◌, ◌==◌, List, ℤ}
 use Rattle.sp_bits.specs.Places.{difference}
 use Rattle.sp_model.specs.Graph.{Graph, has}
 use Rattle.sp_model.specs.Votes.{total, vote}
@@ -12,3 +12,8 @@ sum_of g set x y = total (λ z. vote g set z x y) set
 pub record AreJoined (older set joined : List ℕ) : Type 0 where
   pub into : (z : ℕ) → has older z ≡ true → has set z ≡ true
   pub joined_is : joined ≡ difference set older
+
+-- a row that has one place alone
+pub record IsLone (row : List ℕ) (place : ℕ) : Type 0 where
+  pub small : place < 512
+  pub only : (z : ℕ) → has row z ≡ (z == place)

@@ -2,7 +2,7 @@
 use Rattle.std.specs.Prelude.{ℕ, true, false, ◌≡◌, ◌⊎◌, ◌≤◌, ◌<◌, ◌+◌, ◌==◌, ◌&&◌, List, [], ◌∷◌, length, Option, Some, None, if◌then◌else◌, slice_get, slice_index_or, IfSome}
 use Rattle.sp_model.specs.Graph.{Graph, has}
 use Rattle.sp_model.specs.Loose.{plus, minus}
-use Rattle.sp_dag.specs.Numbered.{graph_of, pairs_of, AreInOrder}
+use Rattle.sp_dag.specs.Numbered.{Numbered, graph_of, pairs_of, AreInOrder}
 use Rattle.sp_rows.specs.Pool.{Pool}
 use Rattle.sp_view.specs.Stored.{count_of, row_of}
 use Rattle.sp_view.specs.Settled.{IsAsked, AreSides}
@@ -32,10 +32,10 @@ IsEntry g set x y pool None = (has set x && has set y) ≡ false
 IsEntry g set x y pool (Some entry) = ((has set x && has set y) ≡ true) × AreSides g set x y (row_of pool entry.0) (row_of pool entry.1)
 
 -- the view of a set of blocks of a graph, whose rows are in a pool
-pub record IsView (table : List (List ℕ)) (view : Viewed) (pool : Pool) : Type 0 where
-  pub order : AreInOrder table
+pub record IsView (table : Numbered) (view : Viewed) (pool : Pool) : Type 0 where
+  pub order : AreInOrder table.parents
   pub asked : IsAsked (graph_of table) view.members
-  pub below : (z : ℕ) → has view.members z ≡ true → z < length table
+  pub below : (z : ℕ) → has view.members z ≡ true → z < length table.parents
   pub few : length view.entries ≤ length (pairs_of table)
   pub entry : (i x y : ℕ) → slice_get (pairs_of table) i ≡ Some (x, y) → IsEntry (graph_of table) view.members x y pool (entry_at view.entries i)
   pub live : (row : ℕ) → held view.entries row ≤ count_of pool row
@@ -48,12 +48,12 @@ KeepIds g set more x y (Some before) None = ⊥
 KeepIds g set more x y (Some before) (Some after) = (plus g set x y ≡ plus g more x y → after.0 ≡ before.0) × (minus g set x y ≡ minus g more x y → after.1 ≡ before.1)
 
 -- each entry is one of the set
-abbrev pub AreEntries : List (List ℕ) → List ℕ → Pool → List (Option (ℕ × ℕ)) → Type 0
+abbrev pub AreEntries : Numbered → List ℕ → Pool → List (Option (ℕ × ℕ)) → Type 0
 AreEntries table set pool entries =
     (i x y : ℕ) → slice_get (pairs_of table) i ≡ Some (x, y) → IsEntry (graph_of table) set x y pool (entry_at entries i)
 
 -- each row of an old entry whose places are the same in both sets has its id in the new entry
-abbrev pub AreKeptIds : List (List ℕ) → List ℕ → List ℕ → List (Option (ℕ × ℕ)) → List (Option (ℕ × ℕ)) → Type 0
+abbrev pub AreKeptIds : Numbered → List ℕ → List ℕ → List (Option (ℕ × ℕ)) → List (Option (ℕ × ℕ)) → Type 0
 AreKeptIds table set more entries entries' =
     (i x y : ℕ) → slice_get (pairs_of table) i ≡ Some (x, y) → KeepIds (graph_of table) set more x y (entry_at entries i) (entry_at entries' i)
 

@@ -3,26 +3,26 @@ use Rattle.std.specs.Prelude.{ℕ, true, ◌≡◌, ◌<◌, List, length}
 use Rattle.sp_bits.specs.Places.{IsRow}
 use Rattle.sp_model.specs.Graph.{has}
 use Rattle.sp_model.specs.Joining.{Joins}
-use Rattle.sp_dag.specs.Numbered.{graph_of, AreInOrder}
+use Rattle.sp_dag.specs.Numbered.{Numbered, graph_of, AreInOrder}
 use Rattle.sp_frozen.specs.Voters.{FrozenRows, HoldsFrozen}
 use Rattle.sp_view.specs.Settled.{IsAsked}
 
 -- the set is a row of blocks of the table that were added to the frozen votes, with the past of each
-pub record IsVoting (table : List (List ℕ)) (frozen : FrozenRows) (set : List ℕ) : Type 0 where
-  pub order : AreInOrder table
+pub record IsVoting (table : Numbered) (frozen : FrozenRows) (set : List ℕ) : Type 0 where
+  pub order : AreInOrder table.parents
   pub asked : IsAsked (graph_of table) set
-  pub below : (z : ℕ) → has set z ≡ true → z < length table
+  pub below : (z : ℕ) → has set z ≡ true → z < length table.parents
   pub held : HoldsFrozen table frozen
   pub added : (z : ℕ) → has set z ≡ true → z < frozen.blocks
 
 -- such a set that a block has just joined
-pub record IsJoined (table : List (List ℕ)) (frozen : FrozenRows) (b : ℕ) (before set : List ℕ) : Type 0 where
+pub record IsJoined (table : Numbered) (frozen : FrozenRows) (b : ℕ) (before set : List ℕ) : Type 0 where
   pub voting : IsVoting table frozen set
   pub joins : Joins (graph_of table) b before set
   pub row : IsRow before
 
 -- such a set that holds a smaller one, which has the past of each of its members too
-pub record IsGrown (table : List (List ℕ)) (frozen : FrozenRows) (before set : List ℕ) : Type 0 where
+pub record IsGrown (table : Numbered) (frozen : FrozenRows) (before set : List ℕ) : Type 0 where
   pub voting : IsVoting table frozen set
   pub asked : IsAsked (graph_of table) before
   pub into : (z : ℕ) → has before z ≡ true → has set z ≡ true

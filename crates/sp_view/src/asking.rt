@@ -1,16 +1,15 @@
 //! Which votes on a pair a block that joins the set asks anew: those of the loose voters in its past
 //! that don't vote as it does. Where it votes for neither, or where there are none, the pair stays as it is.
 
-ghost use Rattle.std.specs.Prelude.{◌≡◌, ◌<◌, ◌≤◌, ◌*◌, ◌&&◌, false, ◌↔◌, [], ℕ, List, length, IsTrue, if◌then◌else◌, slice_get, Some, IfSome};
+ghost use Rattle.std.specs.Prelude.{◌≡◌, ◌<◌, ◌≤◌, ◌&&◌, ◌↔◌, [], ℕ, List, length, IsTrue, if◌then◌else◌, slice_get, Some};
 ghost use Rattle.sp_bits.specs.Places.{difference, IsRow};
 ghost use Rattle.sp_model.specs.Graph.{has};
 ghost use Rattle.sp_model.specs.Joining.{Joins};
 ghost use Rattle.sp_dag.specs.Numbered.{graph_of, pairs_of};
 ghost use Rattle.sp_view.specs.Stored.{count_of, row_of};
 ghost use Rattle.sp_view.specs.Settled.{AreKept, AreOpen, AreSides};
-ghost use Rattle.sp_view.specs.Voting.{IsVoting, IsJoined};
-ghost use Rattle.sp_view.specs.Views.{holds, held, entry_at, AreEntries, IsEntry};
-ghost use Rattle.sp_view.specs.Moving.{moves_of, moved_rows};
+ghost use Rattle.sp_view.specs.Voting.{IsVoting};
+ghost use Rattle.sp_view.specs.Views.{holds, entry_at};
 
 use crate::pair_rows::open_voters;
 use crate::stored::{RowName, row_at};
@@ -49,19 +48,19 @@ pub(crate) fn asked(
     pair: u32,
     entry: &(RowName, RowName),
 ) -> Row
-    requires voting { IsVoting dag.now.parents frozen.now members.now }
+    requires voting { IsVoting dag.now frozen.now members.now }
     requires joined { IsTrue (has members.now b) }
-    requires listed { pair < length (pairs_of dag.now.parents) }
+    requires listed { pair < length (pairs_of dag.now) }
     requires inside { pair < length frozen.now.pluses }
     requires live { (r : ℕ) → holds (Some entry.now) r ≤ count_of pool.now r }
     ensures within { (z : ℕ) → IsTrue (has result z) → IsTrue (has members.now z) }
     ensures kept { (before : List ℕ) (x y : ℕ) →
-        slice_get (pairs_of dag.now.parents) pair ≡ Some (x, y) →
-        Joins (graph_of dag.now.parents) b before members.now → IsRow before →
-        AreSides (graph_of dag.now.parents) before x y
+        slice_get (pairs_of dag.now) pair ≡ Some (x, y) →
+        Joins (graph_of dag.now) b before members.now → IsRow before →
+        AreSides (graph_of dag.now) before x y
         (row_of pool.now entry.now.0) (row_of pool.now entry.now.1) →
-        AreOpen (graph_of dag.now.parents) members.now x y (has result)
-        × AreKept (graph_of dag.now.parents) members.now x y (has result)
+        AreOpen (graph_of dag.now) members.now x y (has result)
+        × AreKept (graph_of dag.now) members.now x y (has result)
         (difference (row_of pool.now entry.now.0) result)
         (difference (row_of pool.now entry.now.1) result) }
 {
@@ -76,32 +75,6 @@ pub(crate) fn asked(
     open_voters(dag, &agree, x, y, b)
 }
 
-// How many rows an old pair may take when block `b` joins.
-fn old_needs(
-    dag: &Dag,
-    frozen: &Frozen,
-    pool: &RowPool,
-    members: &Row,
-    b: u16,
-    pair: u32,
-    entry: (RowName, RowName),
-) -> u32
-    requires voting { IsVoting dag.now.parents frozen.now members.now }
-    requires joined { IsTrue (has members.now b) }
-    requires listed { pair < length (pairs_of dag.now.parents) }
-    requires inside { pair < length frozen.now.pluses }
-    requires live { (r : ℕ) → holds (Some entry) r ≤ count_of pool.now r }
-    ensures enough { (before : List ℕ) (x y : ℕ) →
-        slice_get (pairs_of dag.now.parents) pair ≡ Some (x, y) →
-        IsJoined dag.now.parents frozen.now b before members.now →
-        IsEntry (graph_of dag.now.parents) before x y pool.now (Some entry) →
-        moves_of (graph_of dag.now.parents) before members.now x y ≤ result }
-    ensures few { result ≤ 2 }
-{
-    let todo = asked(dag, frozen, pool, members, b, pair, &entry);
-    if is_none(&todo) { 0 } else { 2 }
-}
-
 // Whether both blocks of a pair are members.
 pub(crate) fn has_both(members: &Row, x: u16, y: u16) -> bool
     requires x_in { x < 512 }
@@ -109,49 +82,6 @@ pub(crate) fn has_both(members: &Row, x: u16, y: u16) -> bool
     ensures { result ≡ (has members.now x && has members.now y) }
 {
     members.test(x) && members.test(y)
-}
-
-// How many rows a pair takes that was not inside the set before.
-fn new_needs(dag: &Dag, members: &Row, pair: u32) -> u32
-    requires { pair < length (pairs_of dag.now.parents) }
-    ensures enough { (before : List ℕ) (x y : ℕ) →
-        slice_get (pairs_of dag.now.parents) pair ≡ Some (x, y) →
-        (has before x && has before y) ≡ false →
-        moves_of (graph_of dag.now.parents) before members.now x y ≤ result }
-    ensures few { result ≤ 2 }
-{
-    // Tells the proof that there are at most 512 blocks.
-    let _blocks = dag.len();
-    let (x, y) = dag.pair(pair);
-    if has_both(members, x, y) { 2 } else { 0 }
-}
-
-// How many rows a pair may take when block `b` joins.
-fn pair_needs(
-    dag: &Dag,
-    frozen: &Frozen,
-    pool: &RowPool,
-    members: &Row,
-    b: u16,
-    pair: u32,
-    entry: Option<(RowName, RowName)>,
-) -> u32
-    requires voting { IsVoting dag.now.parents frozen.now members.now }
-    requires joined { IsTrue (has members.now b) }
-    requires listed { pair < length (pairs_of dag.now.parents) }
-    requires inside { IfSome entry (λ _. pair < length frozen.now.pluses) }
-    requires live { (r : ℕ) → holds entry r ≤ count_of pool.now r }
-    ensures enough { (before : List ℕ) (x y : ℕ) →
-        slice_get (pairs_of dag.now.parents) pair ≡ Some (x, y) →
-        IsJoined dag.now.parents frozen.now b before members.now →
-        IsEntry (graph_of dag.now.parents) before x y pool.now entry →
-        moves_of (graph_of dag.now.parents) before members.now x y ≤ result }
-    ensures few { result ≤ 2 }
-{
-    match entry {
-        Some(rows) => old_needs(dag, frozen, pool, members, b, pair, rows),
-        None => new_needs(dag, members, pair),
-    }
 }
 
 // The entry of a pair; behind the last one there is none.
@@ -165,33 +95,4 @@ pub(crate) fn entry_of(
         Some(entry) => *entry,
         None => None,
     }
-}
-
-// How many rows all pairs may take when block `b` joins: two for each new pair, and two for each old
-// one of which a vote is asked.
-pub(crate) fn rows_needed(
-    dag: &Dag,
-    frozen: &Frozen,
-    pool: &RowPool,
-    members: &Row,
-    b: u16,
-    entries: &[Option<(RowName, RowName)>],
-) -> u32
-    requires voting { IsVoting dag.now.parents frozen.now members.now }
-    requires joined { IsTrue (has members.now b) }
-    requires inside { (i x y : ℕ) → slice_get (pairs_of dag.now.parents) i ≡ Some (x, y) →
-        IfSome (entry_at entries.now i) (λ _. y < frozen.now.blocks) }
-    requires live { (r : ℕ) → held entries.now r ≤ count_of pool.now r }
-    ensures enough { (before : List ℕ) →
-        IsJoined dag.now.parents frozen.now b before members.now →
-        AreEntries dag.now.parents before pool.now entries.now →
-        moved_rows (graph_of dag.now.parents) before members.now (pairs_of dag.now.parents) ≤ result }
-    ensures few { result ≤ 2 * length (pairs_of dag.now.parents) }
-{
-    let mut rows = 0;
-    'pairs: for pair in 0..dag.pair_count() {
-        let entry = entry_of(entries, pair as usize);
-        rows += pair_needs(dag, frozen, pool, members, b, pair, entry);
-    }
-    rows
 }

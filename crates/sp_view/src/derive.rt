@@ -87,20 +87,20 @@ fn old_entry(
     pair: u32,
     entry: (RowName, RowName),
 ) -> Result<(RowName, RowName), Memory>
-    requires grown { IsGrown dag.now.parents frozen.now from.now target.now }
-    requires listed { pair < length (pairs_of dag.now.parents) }
+    requires grown { IsGrown dag.now frozen.now from.now target.now }
+    requires listed { pair < length (pairs_of dag.now) }
     requires live { (r : ℕ) → holds (Some entry) r ≤ count_of pool.old r }
     requires once { (r : ℕ) → holds (Some entry) r ≤ 1 }
     requires few { (r : ℕ) → 0 < holds (Some entry) r → count_of pool.old r < 2 ^ 32 - 1 }
     requires room { live pool.old + 2 ≤ 2 ^ 31 }
-    requires entry { (x y : ℕ) → slice_get (pairs_of dag.now.parents) pair ≡ Some (x, y) →
-        IsEntry (graph_of dag.now.parents) from.now x y pool.old (Some entry) }
+    requires entry { (x y : ℕ) → slice_get (pairs_of dag.now) pair ≡ Some (x, y) →
+        IsEntry (graph_of dag.now) from.now x y pool.old (Some entry) }
     ensures entry { IfOk result (λ rows. (x y : ℕ) →
-        slice_get (pairs_of dag.now.parents) pair ≡ Some (x, y) →
-        IsEntry (graph_of dag.now.parents) target.now x y pool.new (Some rows)) }
+        slice_get (pairs_of dag.now) pair ≡ Some (x, y) →
+        IsEntry (graph_of dag.now) target.now x y pool.new (Some rows)) }
     ensures kept { IfOk result (λ rows. (x y : ℕ) →
-        slice_get (pairs_of dag.now.parents) pair ≡ Some (x, y) →
-        KeepIds (graph_of dag.now.parents) from.now target.now x y (Some entry) (Some rows)) }
+        slice_get (pairs_of dag.now) pair ≡ Some (x, y) →
+        KeepIds (graph_of dag.now) from.now target.now x y (Some entry) (Some rows)) }
     ensures counts { IfOk result (λ rows. (r : ℕ) →
         count_of pool.new r ≡ count_of pool.old r + holds (Some rows) r) }
     ensures err { OnErr result (pool.new.rows ≡ pool.old.rows) }
@@ -128,12 +128,12 @@ fn brought_entry(
     target: &Row,
     pair: u32,
 ) -> Result<Option<(RowName, RowName)>, Memory>
-    requires voting { IsVoting dag.now.parents frozen.now target.now }
-    requires listed { pair < length (pairs_of dag.now.parents) }
+    requires voting { IsVoting dag.now frozen.now target.now }
+    requires listed { pair < length (pairs_of dag.now) }
     requires room { live pool.old + 2 ≤ 2 ^ 31 }
     ensures entry { IfOk result (λ entry. (x y : ℕ) →
-        slice_get (pairs_of dag.now.parents) pair ≡ Some (x, y) →
-        IsEntry (graph_of dag.now.parents) target.now x y pool.new entry) }
+        slice_get (pairs_of dag.now) pair ≡ Some (x, y) →
+        IsEntry (graph_of dag.now) target.now x y pool.new entry) }
     ensures counts { IfOk result (λ entry. (r : ℕ) →
         count_of pool.new r ≡ count_of pool.old r + holds entry r) }
     ensures err { OnErr result (pool.new.rows ≡ pool.old.rows) }
@@ -162,20 +162,20 @@ fn derived_entry(
     pair: u32,
     before: Option<(RowName, RowName)>,
 ) -> Result<Option<(RowName, RowName)>, Memory>
-    requires grown { IsGrown dag.now.parents frozen.now from.now target.now }
-    requires listed { pair < length (pairs_of dag.now.parents) }
+    requires grown { IsGrown dag.now frozen.now from.now target.now }
+    requires listed { pair < length (pairs_of dag.now) }
     requires live { (r : ℕ) → holds before r ≤ count_of pool.old r }
     requires once { (r : ℕ) → holds before r ≤ 1 }
     requires few { (r : ℕ) → 0 < holds before r → count_of pool.old r < 2 ^ 32 - 1 }
     requires room { live pool.old + 2 ≤ 2 ^ 31 }
-    requires entry { (x y : ℕ) → slice_get (pairs_of dag.now.parents) pair ≡ Some (x, y) →
-        IsEntry (graph_of dag.now.parents) from.now x y pool.old before }
+    requires entry { (x y : ℕ) → slice_get (pairs_of dag.now) pair ≡ Some (x, y) →
+        IsEntry (graph_of dag.now) from.now x y pool.old before }
     ensures entry { IfOk result (λ entry. (x y : ℕ) →
-        slice_get (pairs_of dag.now.parents) pair ≡ Some (x, y) →
-        IsEntry (graph_of dag.now.parents) target.now x y pool.new entry) }
+        slice_get (pairs_of dag.now) pair ≡ Some (x, y) →
+        IsEntry (graph_of dag.now) target.now x y pool.new entry) }
     ensures kept { IfOk result (λ entry. (x y : ℕ) →
-        slice_get (pairs_of dag.now.parents) pair ≡ Some (x, y) →
-        KeepIds (graph_of dag.now.parents) from.now target.now x y before entry) }
+        slice_get (pairs_of dag.now) pair ≡ Some (x, y) →
+        KeepIds (graph_of dag.now) from.now target.now x y before entry) }
     ensures counts { IfOk result (λ entry. (r : ℕ) →
         count_of pool.new r ≡ count_of pool.old r + holds entry r) }
     ensures err { OnErr result (pool.new.rows ≡ pool.old.rows) }
@@ -203,25 +203,25 @@ pub(crate) fn derive_entries(
     base: &[Option<(RowName, RowName)>],
     entries: &mut Vec<Option<(RowName, RowName)>>,
 ) -> Result<(), Memory>
-    requires grown { IsGrown dag.now.parents frozen.now from.now target.now }
-    requires entry { AreEntries dag.now.parents from.now pool.old base.now }
+    requires grown { IsGrown dag.now frozen.now from.now target.now }
+    requires entry { AreEntries dag.now from.now pool.old base.now }
     requires live { (r : ℕ) → held base.now r ≤ count_of pool.old r }
     requires once { (r : ℕ) → held base.now r ≤ 1 }
     requires few { (r : ℕ) → 0 < held base.now r → count_of pool.old r < 2 ^ 32 - 1 }
     requires empty { entries.old.items ≡ [] }
-    requires capacity { length (pairs_of dag.now.parents) ≤ vec_capacity entries.old }
+    requires capacity { length (pairs_of dag.now) ≤ vec_capacity entries.old }
     requires room { live pool.old < 2 ^ 29 }
-    ensures long { OnOk result (length entries.new.items ≡ length (pairs_of dag.now.parents)) }
+    ensures long { OnOk result (length entries.new.items ≡ length (pairs_of dag.now)) }
     ensures entry { OnOk result
-        (AreEntries dag.now.parents target.now pool.new entries.new.items) }
-    ensures kept { OnOk result (AreKeptIds dag.now.parents from.now target.now
+        (AreEntries dag.now target.now pool.new entries.new.items) }
+    ensures kept { OnOk result (AreKeptIds dag.now from.now target.now
         base.now entries.new.items) }
     ensures counts { (r : ℕ) →
         count_of pool.new r ≡ count_of pool.old r + held entries.new.items r }
     ensures others { (r : ℕ) → 0 < count_of pool.old r → row_of pool.new r ≡ row_of pool.old r }
     ensures once { (r : ℕ) → held entries.new.items r ≤ 1 }
     ensures live { OnOk result (live pool.new ≤ live pool.old
-        + moved_rows (graph_of dag.now.parents) from.now target.now (pairs_of dag.now.parents)) }
+        + moved_rows (graph_of dag.now) from.now target.now (pairs_of dag.now)) }
 {
     'pairs: for pair in 0..dag.pair_count() {
         let before = entry_of(base, pair as usize);

@@ -66,16 +66,16 @@ pub(crate) fn asked_rows(
     entry: &(RowName, RowName),
     todo: &Row,
 ) -> Sides
-    requires voting { IsVoting dag.now.parents frozen.now members.now }
+    requires voting { IsVoting dag.now frozen.now members.now }
     requires inside { pair < length frozen.now.pluses }
     requires live { (r : ℕ) → holds (Some entry.now) r ≤ count_of pool.now r }
     requires within { (z : ℕ) → IsTrue (has todo.now z) → IsTrue (has members.now z) }
-    ensures { (x y : ℕ) → slice_get (pairs_of dag.now.parents) pair ≡ Some (x, y) →
-        AreOpen (graph_of dag.now.parents) members.now x y (has todo.now)
-        × AreKept (graph_of dag.now.parents) members.now x y (has todo.now)
+    ensures { (x y : ℕ) → slice_get (pairs_of dag.now) pair ≡ Some (x, y) →
+        AreOpen (graph_of dag.now) members.now x y (has todo.now)
+        × AreKept (graph_of dag.now) members.now x y (has todo.now)
         (difference (row_of pool.now entry.now.0) todo.now)
         (difference (row_of pool.now entry.now.1) todo.now) →
-        AreSides (graph_of dag.now.parents) members.now x y result.plus result.minus }
+        AreSides (graph_of dag.now) members.now x y result.plus result.minus }
 {
     let sides = Sides {
         plus: row_at(pool, entry.0),
@@ -104,26 +104,26 @@ fn asked_entry(
     entry: (RowName, RowName),
     todo: &Row,
 ) -> (RowName, RowName)
-    requires joined { IsJoined dag.now.parents frozen.now b before.now members.now }
-    requires listed { pair < length (pairs_of dag.now.parents) }
+    requires joined { IsJoined dag.now frozen.now b before.now members.now }
+    requires listed { pair < length (pairs_of dag.now) }
     requires inside { pair < length frozen.now.pluses }
     requires live { (r : ℕ) → holds (Some entry) r ≤ count_of pool.old r }
-    requires sides { (x y : ℕ) → slice_get (pairs_of dag.now.parents) pair ≡ Some (x, y) →
-        AreSides (graph_of dag.now.parents) before.now x y
+    requires sides { (x y : ℕ) → slice_get (pairs_of dag.now) pair ≡ Some (x, y) →
+        AreSides (graph_of dag.now) before.now x y
         (row_of pool.old entry.0) (row_of pool.old entry.1) }
-    requires room { (x y : ℕ) → slice_get (pairs_of dag.now.parents) pair ≡ Some (x, y) →
-        changes_of (graph_of dag.now.parents) before.now members.now x y ≤ spare pool.old }
+    requires room { (x y : ℕ) → slice_get (pairs_of dag.now) pair ≡ Some (x, y) →
+        changes_of (graph_of dag.now) before.now members.now x y ≤ spare pool.old }
     requires within { (z : ℕ) → IsTrue (has todo.now z) → IsTrue (has members.now z) }
-    requires asked { (x y : ℕ) → slice_get (pairs_of dag.now.parents) pair ≡ Some (x, y) →
-        AreOpen (graph_of dag.now.parents) members.now x y (has todo.now)
-        × AreKept (graph_of dag.now.parents) members.now x y (has todo.now)
+    requires asked { (x y : ℕ) → slice_get (pairs_of dag.now) pair ≡ Some (x, y) →
+        AreOpen (graph_of dag.now) members.now x y (has todo.now)
+        × AreKept (graph_of dag.now) members.now x y (has todo.now)
         (difference (row_of pool.old entry.0) todo.now)
         (difference (row_of pool.old entry.1) todo.now) }
-    ensures rows { (x y : ℕ) → slice_get (pairs_of dag.now.parents) pair ≡ Some (x, y) →
-        AreSides (graph_of dag.now.parents) members.now x y
+    ensures rows { (x y : ℕ) → slice_get (pairs_of dag.now) pair ≡ Some (x, y) →
+        AreSides (graph_of dag.now) members.now x y
         (row_of pool.new result.0) (row_of pool.new result.1) }
-    ensures kept { (x y : ℕ) → slice_get (pairs_of dag.now.parents) pair ≡ Some (x, y) →
-        KeepIds (graph_of dag.now.parents) before.now members.now x y (Some entry) (Some result) }
+    ensures kept { (x y : ℕ) → slice_get (pairs_of dag.now) pair ≡ Some (x, y) →
+        KeepIds (graph_of dag.now) before.now members.now x y (Some entry) (Some result) }
     ensures counts { (r : ℕ) → count_of pool.new r + holds (Some entry) r ≡
         count_of pool.old r + holds (Some result) r }
     ensures others { (r : ℕ) → holds (Some entry) r < count_of pool.old r →
@@ -151,20 +151,20 @@ fn joined_entry(
     pair: u32,
     entry: (RowName, RowName),
 ) -> (RowName, RowName)
-    requires joined { IsJoined dag.now.parents frozen.now b before.now members.now }
-    requires listed { pair < length (pairs_of dag.now.parents) }
+    requires joined { IsJoined dag.now frozen.now b before.now members.now }
+    requires listed { pair < length (pairs_of dag.now) }
     requires inside { pair < length frozen.now.pluses }
     requires live { (r : ℕ) → holds (Some entry) r ≤ count_of pool.old r }
-    requires sides { (x y : ℕ) → slice_get (pairs_of dag.now.parents) pair ≡ Some (x, y) →
-        AreSides (graph_of dag.now.parents) before.now x y
+    requires sides { (x y : ℕ) → slice_get (pairs_of dag.now) pair ≡ Some (x, y) →
+        AreSides (graph_of dag.now) before.now x y
         (row_of pool.old entry.0) (row_of pool.old entry.1) }
-    requires room { (x y : ℕ) → slice_get (pairs_of dag.now.parents) pair ≡ Some (x, y) →
-        changes_of (graph_of dag.now.parents) before.now members.now x y ≤ spare pool.old }
-    ensures rows { (x y : ℕ) → slice_get (pairs_of dag.now.parents) pair ≡ Some (x, y) →
-        AreSides (graph_of dag.now.parents) members.now x y
+    requires room { (x y : ℕ) → slice_get (pairs_of dag.now) pair ≡ Some (x, y) →
+        changes_of (graph_of dag.now) before.now members.now x y ≤ spare pool.old }
+    ensures rows { (x y : ℕ) → slice_get (pairs_of dag.now) pair ≡ Some (x, y) →
+        AreSides (graph_of dag.now) members.now x y
         (row_of pool.new result.0) (row_of pool.new result.1) }
-    ensures kept { (x y : ℕ) → slice_get (pairs_of dag.now.parents) pair ≡ Some (x, y) →
-        KeepIds (graph_of dag.now.parents) before.now members.now x y (Some entry) (Some result) }
+    ensures kept { (x y : ℕ) → slice_get (pairs_of dag.now) pair ≡ Some (x, y) →
+        KeepIds (graph_of dag.now) before.now members.now x y (Some entry) (Some result) }
     ensures counts { (r : ℕ) → count_of pool.new r + holds (Some entry) r ≡
         count_of pool.old r + holds (Some result) r }
     ensures others { (r : ℕ) → holds (Some entry) r < count_of pool.old r →
@@ -190,12 +190,12 @@ fn new_entry(
     members: &Row,
     pair: u32,
 ) -> (RowName, RowName)
-    requires voting { IsVoting dag.now.parents frozen.now members.now }
-    requires listed { pair < length (pairs_of dag.now.parents) }
+    requires voting { IsVoting dag.now frozen.now members.now }
+    requires listed { pair < length (pairs_of dag.now) }
     requires inside { pair < length frozen.now.pluses }
     requires room { 2 ≤ spare pool.old }
-    ensures rows { (x y : ℕ) → slice_get (pairs_of dag.now.parents) pair ≡ Some (x, y) →
-        AreSides (graph_of dag.now.parents) members.now x y
+    ensures rows { (x y : ℕ) → slice_get (pairs_of dag.now) pair ≡ Some (x, y) →
+        AreSides (graph_of dag.now) members.now x y
         (row_of pool.new result.0) (row_of pool.new result.1) }
     ensures fresh { IsFresh pool.old pool.new result }
     ensures counts { (r : ℕ) → count_of pool.new r ≡
@@ -223,18 +223,18 @@ fn step_entry(
     pair: u32,
     entry: Option<(RowName, RowName)>,
 ) -> Option<(RowName, RowName)>
-    requires joined { IsJoined dag.now.parents frozen.now b before.now members.now }
-    requires listed { pair < length (pairs_of dag.now.parents) }
+    requires joined { IsJoined dag.now frozen.now b before.now members.now }
+    requires listed { pair < length (pairs_of dag.now) }
     requires inside { IfSome entry (λ _. pair < length frozen.now.pluses) }
     requires live { (r : ℕ) → holds entry r ≤ count_of pool.old r }
-    requires entry { (x y : ℕ) → slice_get (pairs_of dag.now.parents) pair ≡ Some (x, y) →
-        IsEntry (graph_of dag.now.parents) before.now x y pool.old entry }
-    requires room { (x y : ℕ) → slice_get (pairs_of dag.now.parents) pair ≡ Some (x, y) →
-        moves_of (graph_of dag.now.parents) before.now members.now x y ≤ spare pool.old }
-    ensures entry { (x y : ℕ) → slice_get (pairs_of dag.now.parents) pair ≡ Some (x, y) →
-        IsEntry (graph_of dag.now.parents) members.now x y pool.new result }
-    ensures kept { (x y : ℕ) → slice_get (pairs_of dag.now.parents) pair ≡ Some (x, y) →
-        KeepIds (graph_of dag.now.parents) before.now members.now x y entry result }
+    requires entry { (x y : ℕ) → slice_get (pairs_of dag.now) pair ≡ Some (x, y) →
+        IsEntry (graph_of dag.now) before.now x y pool.old entry }
+    requires room { (x y : ℕ) → slice_get (pairs_of dag.now) pair ≡ Some (x, y) →
+        moves_of (graph_of dag.now) before.now members.now x y ≤ spare pool.old }
+    ensures entry { (x y : ℕ) → slice_get (pairs_of dag.now) pair ≡ Some (x, y) →
+        IsEntry (graph_of dag.now) members.now x y pool.new result }
+    ensures kept { (x y : ℕ) → slice_get (pairs_of dag.now) pair ≡ Some (x, y) →
+        KeepIds (graph_of dag.now) before.now members.now x y entry result }
     ensures counts { (r : ℕ) → count_of pool.new r + holds entry r ≡
         count_of pool.old r + holds result r }
     ensures others { (r : ℕ) → holds entry r < count_of pool.old r →
@@ -242,12 +242,12 @@ fn step_entry(
     ensures alive { (r : ℕ) → 0 < count_of pool.old r → 0 < count_of pool.new r }
     ensures once { (r : ℕ) → IsOnce (count_of pool.old r) (holds entry r) (holds result r) }
     ensures fresh { entry ≡ None → IfSome result (IsFresh pool.old pool.new) }
-    ensures spare { (x y : ℕ) → slice_get (pairs_of dag.now.parents) pair ≡ Some (x, y) →
+    ensures spare { (x y : ℕ) → slice_get (pairs_of dag.now) pair ≡ Some (x, y) →
         spare pool.old ≤ spare pool.new
-        + moves_of (graph_of dag.now.parents) before.now members.now x y }
-    ensures live { (x y : ℕ) → slice_get (pairs_of dag.now.parents) pair ≡ Some (x, y) →
+        + moves_of (graph_of dag.now) before.now members.now x y }
+    ensures live { (x y : ℕ) → slice_get (pairs_of dag.now) pair ≡ Some (x, y) →
         live pool.new ≤ live pool.old
-        + moves_of (graph_of dag.now.parents) before.now members.now x y }
+        + moves_of (graph_of dag.now) before.now members.now x y }
 {
     match entry {
         Some(rows) => Some(joined_entry(dag, frozen, pool, before, members, b, pair, rows)),
@@ -274,18 +274,18 @@ pub(crate) fn join_entries(
     b: u16,
     entries: &mut Vec<Option<(RowName, RowName)>>,
 )
-    requires joined { IsJoined dag.now.parents frozen.now b before.now members.now }
-    requires long { vec_len entries.old ≡ length (pairs_of dag.now.parents) }
-    requires inside { (i x y : ℕ) → slice_get (pairs_of dag.now.parents) i ≡ Some (x, y) →
+    requires joined { IsJoined dag.now frozen.now b before.now members.now }
+    requires long { vec_len entries.old ≡ length (pairs_of dag.now) }
+    requires inside { (i x y : ℕ) → slice_get (pairs_of dag.now) i ≡ Some (x, y) →
         IfSome (entry_at entries.old.items i) (λ _. y < frozen.now.blocks) }
     requires live { (r : ℕ) → held entries.old.items r ≤ count_of pool.old r }
     requires once { (r : ℕ) → held entries.old.items r ≤ 1 }
-    requires entry { AreEntries dag.now.parents before.now pool.old entries.old.items }
-    requires room { moved_rows (graph_of dag.now.parents) before.now members.now
-        (pairs_of dag.now.parents) ≤ spare pool.old }
+    requires entry { AreEntries dag.now before.now pool.old entries.old.items }
+    requires room { moved_rows (graph_of dag.now) before.now members.now
+        (pairs_of dag.now) ≤ spare pool.old }
     ensures long { vec_len entries.new ≡ vec_len entries.old }
-    ensures entry { AreEntries dag.now.parents members.now pool.new entries.new.items }
-    ensures kept { AreKeptIds dag.now.parents before.now members.now
+    ensures entry { AreEntries dag.now members.now pool.new entries.new.items }
+    ensures kept { AreKeptIds dag.now before.now members.now
         entries.old.items entries.new.items }
     ensures counts { (r : ℕ) → count_of pool.new r + held entries.old.items r ≡
         count_of pool.old r + held entries.new.items r }
@@ -294,7 +294,7 @@ pub(crate) fn join_entries(
     ensures once { (r : ℕ) → held entries.new.items r ≤ 1 }
     ensures fresh { AreFresh entries.old.items entries.new.items pool.old pool.new }
     ensures live { live pool.new ≤ live pool.old
-        + moved_rows (graph_of dag.now.parents) before.now members.now (pairs_of dag.now.parents) }
+        + moved_rows (graph_of dag.now) before.now members.now (pairs_of dag.now) }
 {
     // Tells the proof that there are at most 130,816 pairs.
     let _pairs = dag.pair_count();

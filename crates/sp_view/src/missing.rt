@@ -25,8 +25,8 @@ use sp_rows::RowPool;
 fn pasts_of(dag: &Dag, blocks: &Row) -> Row
     requires { (b : ℕ) → IsTrue (has blocks.now b) → b < length dag.now.parents }
     ensures covers { (b z : ℕ) → IsTrue (has blocks.now b) →
-        IsTrue (in_past (graph_of dag.now.parents) z b) → IsTrue (has result z) }
-    ensures within { (set : List ℕ) → IsDownset (graph_of dag.now.parents) set →
+        IsTrue (in_past (graph_of dag.now) z b) → IsTrue (has result z) }
+    ensures within { (set : List ℕ) → IsDownset (graph_of dag.now) set →
         ((b : ℕ) → IsTrue (has blocks.now b) → IsTrue (has set b)) →
         (z : ℕ) → IsTrue (has result z) → IsTrue (has set z) }
     ensures small { (z : ℕ) → IsTrue (has result z) → z < 512 }
@@ -56,10 +56,10 @@ fn opened_by(
     side: RowName,
 ) -> Row
     requires below { (z : ℕ) → IsTrue (has target.now z) → z < length dag.now.parents }
-    requires down { IsDownset (graph_of dag.now.parents) target.now }
+    requires down { IsDownset (graph_of dag.now) target.now }
     requires live { 0 < count_of pool.now side }
     ensures covers { (b z : ℕ) → IsTrue (has target.now b) → IsFalse (has from.now b) →
-        IsTrue (has voters.now b) → IsTrue (in_past (graph_of dag.now.parents) z b) →
+        IsTrue (has voters.now b) → IsTrue (in_past (graph_of dag.now) z b) →
         IsFalse (has (row_of pool.now side) z) → IsTrue (has result z) }
     ensures within { (z : ℕ) → IsTrue (has result z) → IsTrue (has target.now z) }
 {
@@ -78,10 +78,10 @@ fn opened_by(
 
 // Those of some voters that are loose on a pair.
 fn loose_of(dag: &Dag, voters: &Row, pair: u32) -> Row
-    requires listed { pair < length (pairs_of dag.now.parents) }
+    requires listed { pair < length (pairs_of dag.now) }
     requires small { (z : ℕ) → IsTrue (has voters.now z) → z < 512 }
-    ensures { (x y : ℕ) → slice_get (pairs_of dag.now.parents) pair ≡ Some (x, y) →
-        (z : ℕ) → has result z ≡ (has voters.now z && is_loose (graph_of dag.now.parents) z x y) }
+    ensures { (x y : ℕ) → slice_get (pairs_of dag.now) pair ≡ Some (x, y) →
+        (z : ℕ) → has result z ≡ (has voters.now z && is_loose (graph_of dag.now) z x y) }
 {
     if is_none(voters) {
         return *voters;
@@ -105,16 +105,16 @@ pub(crate) fn asked_by_growth(
     pair: u32,
     entry: &(RowName, RowName),
 ) -> Row
-    requires grown { IsGrown dag.now.parents frozen.now from.now target.now }
-    requires listed { pair < length (pairs_of dag.now.parents) }
+    requires grown { IsGrown dag.now frozen.now from.now target.now }
+    requires listed { pair < length (pairs_of dag.now) }
     requires inside { pair < length frozen.now.pluses }
     requires live { (r : ℕ) → holds (Some entry.now) r ≤ count_of pool.now r }
     ensures within { (z : ℕ) → IsTrue (has result z) → IsTrue (has target.now z) }
-    ensures kept { (x y : ℕ) → slice_get (pairs_of dag.now.parents) pair ≡ Some (x, y) →
-        AreSides (graph_of dag.now.parents) from.now x y
+    ensures kept { (x y : ℕ) → slice_get (pairs_of dag.now) pair ≡ Some (x, y) →
+        AreSides (graph_of dag.now) from.now x y
         (row_of pool.now entry.now.0) (row_of pool.now entry.now.1) →
-        AreOpen (graph_of dag.now.parents) target.now x y (has result)
-        × AreKept (graph_of dag.now.parents) target.now x y (has result)
+        AreOpen (graph_of dag.now) target.now x y (has result)
+        × AreKept (graph_of dag.now) target.now x y (has result)
         (difference (row_of pool.now entry.now.0) result)
         (difference (row_of pool.now entry.now.1) result) }
 {

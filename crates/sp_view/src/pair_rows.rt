@@ -24,7 +24,7 @@ pub(crate) struct Sides {
 pub(crate) fn bound_on(dag: &Dag, x: u16, y: u16) -> Row
     requires x_in { x < length dag.now.parents }
     requires y_in { y < length dag.now.parents }
-    ensures { result ≡ places_where (λ z. not (is_loose (graph_of dag.now.parents) z x y)) }
+    ensures { result ≡ places_where (λ z. not (is_loose (graph_of dag.now) z x y)) }
 {
     // Tells the proof that there are at most 512 blocks.
     let _blocks = dag.len();
@@ -45,15 +45,15 @@ fn settled_rows(
     kept: &Sides,
     todo: &Row,
 ) -> Sides
-    requires asked { IsAsked (graph_of dag.now.parents) members.now }
+    requires asked { IsAsked (graph_of dag.now) members.now }
     requires below { (z : ℕ) → IsTrue (has members.now z) → z < length dag.now.parents }
     requires within { (z : ℕ) → IsTrue (has todo.now z) → IsTrue (has members.now z) }
     ensures rows { (x y : ℕ) →
-        AreFrozen (graph_of dag.now.parents) members.now x y frozen_plus.now frozen_minus.now →
-        AreOpen (graph_of dag.now.parents) members.now x y (has todo.now) →
-        AreKept (graph_of dag.now.parents) members.now x y (has todo.now)
+        AreFrozen (graph_of dag.now) members.now x y frozen_plus.now frozen_minus.now →
+        AreOpen (graph_of dag.now) members.now x y (has todo.now) →
+        AreKept (graph_of dag.now) members.now x y (has todo.now)
         kept.now.plus kept.now.minus →
-        AreSides (graph_of dag.now.parents) members.now x y result.plus result.minus }
+        AreSides (graph_of dag.now) members.now x y result.plus result.minus }
 {
     // Tells the proof that the blocks stand in order.
     let _blocks = dag.len();
@@ -78,12 +78,12 @@ pub(crate) fn new_rows(
     x: u16,
     y: u16,
 ) -> Sides
-    requires asked { IsAsked (graph_of dag.now.parents) members.now }
+    requires asked { IsAsked (graph_of dag.now) members.now }
     requires below { (z : ℕ) → IsTrue (has members.now z) → z < length dag.now.parents }
     requires x_in { x < length dag.now.parents }
     requires y_in { y < length dag.now.parents }
-    requires frozen { AreFrozen (graph_of dag.now.parents) members.now x y frozen_plus.now frozen_minus.now }
-    ensures { AreSides (graph_of dag.now.parents) members.now x y result.plus result.minus }
+    requires frozen { AreFrozen (graph_of dag.now) members.now x y frozen_plus.now frozen_minus.now }
+    ensures { AreSides (graph_of dag.now) members.now x y result.plus result.minus }
 {
     let mut todo = *members;
     todo.without(&bound_on(dag, x, y));
@@ -100,7 +100,7 @@ pub(crate) fn open_voters(dag: &Dag, agree: &Row, x: u16, y: u16, b: u16) -> Row
     requires y_in { y < length dag.now.parents }
     requires b_in { b < length dag.now.parents }
     ensures { (z : ℕ) → has result z
-        ≡ ((in_past (graph_of dag.now.parents) z b && is_loose (graph_of dag.now.parents) z x y)
+        ≡ ((in_past (graph_of dag.now) z b && is_loose (graph_of dag.now) z x y)
         && not (has agree.now z)) }
 {
     // Tells the proof that there are at most 512 blocks, in order.
@@ -121,15 +121,15 @@ pub(crate) fn joined_rows(
     sides: &Sides,
     todo: &Row,
 ) -> Sides
-    requires asked { IsAsked (graph_of dag.now.parents) members.now }
+    requires asked { IsAsked (graph_of dag.now) members.now }
     requires below { (z : ℕ) → IsTrue (has members.now z) → z < length dag.now.parents }
     requires within { (z : ℕ) → IsTrue (has todo.now z) → IsTrue (has members.now z) }
     ensures rows { (x y : ℕ) →
-        AreFrozen (graph_of dag.now.parents) members.now x y frozen_plus.now frozen_minus.now →
-        AreOpen (graph_of dag.now.parents) members.now x y (has todo.now) →
-        AreKept (graph_of dag.now.parents) members.now x y (has todo.now)
+        AreFrozen (graph_of dag.now) members.now x y frozen_plus.now frozen_minus.now →
+        AreOpen (graph_of dag.now) members.now x y (has todo.now) →
+        AreKept (graph_of dag.now) members.now x y (has todo.now)
         (difference sides.now.plus todo.now) (difference sides.now.minus todo.now) →
-        AreSides (graph_of dag.now.parents) members.now x y result.plus result.minus }
+        AreSides (graph_of dag.now) members.now x y result.plus result.minus }
 {
     let mut kept = *sides;
     kept.plus.without(todo);

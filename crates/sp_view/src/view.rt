@@ -3,24 +3,24 @@
 ghost use Rattle.std.specs.Prelude.{◌≡◌, ◌<◌, ◌≤◌, ◌+◌, ◌-◌, ◌^◌, ◌==◌, ◌||◌, ◌*◌, ◌↔◌, ℕ, List, [], None, Some, length, IsTrue, IsFalse, IsSome, IfSome, IfNone, IfOk, OnOk, OnErr, slice_get, vec_len, vec_capacity};
 ghost use Rattle.sp_bits.specs.Places.{places_where};
 ghost use Rattle.sp_model.specs.Graph.{has, in_past, anticone};
-ghost use Rattle.sp_dag.specs.Numbered.{graph_of, pairs_of};
+ghost use Rattle.sp_dag.specs.Numbered.{Numbered, graph_of, pairs_of};
 ghost use Rattle.sp_model.specs.Votes.{virt};
 ghost use Rattle.sp_frozen.specs.Voters.{HoldsFrozen};
 ghost use Rattle.sp_frozen.specs.PastVotes.{signs_of};
 ghost use Rattle.sp_view.specs.Stored.{count_of, row_of, live};
 ghost use Rattle.sp_view.specs.Changed.{changed_of, has_changed};
 ghost use Rattle.sp_view.specs.Settled.{IsAsked};
-ghost use Rattle.sp_view.specs.Sums.{sum_of, AreJoined};
+ghost use Rattle.sp_view.specs.Sums.{sum_of, AreJoined, IsLone};
 ghost use Rattle.sp_view.specs.Views.{Viewed, entry_at, held, IsBest, IsStart, IsView, AreFresh, AreKeptIds, AreListed};
 ghost use Rattle.sp_view.specs.Moving.{changed_rows, moved_rows};
 
-use crate::asking::{entry_of, rows_needed};
+use crate::asking::entry_of;
 use crate::best::best_within;
 use crate::derive::derive_entries;
 use crate::entries::join_entries;
 use crate::sharing::{give_entries, share_entries};
 use crate::stored::{RowName, row_at};
-use crate::tally::{side, tally};
+use crate::tally::{gain, lone_of, side, tally};
 use sp_bits::Row;
 use sp_dag::Dag;
 use sp_frozen::{Frozen, PastVotes, Signs};
@@ -60,6 +60,16 @@ fn grow(entries: &mut Vec<Option<(RowName, RowName)>>, long: usize)
 {
     'entries: for _ in entries.len()..long {
         entries.push_reserved(None);
+    }
+}
+
+// The only place of a row, where there is one and it has one alone.
+fn lone_among(row: &Option<Row>) -> Option<u16>
+    ensures { IfSome row.now (λ row. IfSome result (IsLone row)) }
+{
+    match row {
+        Some(row) => lone_of(row),
+        None => None,
     }
 }
 
@@ -134,18 +144,18 @@ impl View {
         pool: &mut RowPool,
         b: u16,
     ) -> Result<(), Memory>
-        requires view { IsView dag.now.parents self.old pool.old }
-        requires frozen { HoldsFrozen dag.now.parents frozen.now }
+        requires view { IsView dag.now self.old pool.old }
+        requires frozen { HoldsFrozen dag.now frozen.now }
         requires added { (z : ℕ) → IsTrue (has self.old.members z) → z < frozen.now.blocks }
         requires b_added { b < frozen.now.blocks }
         requires new { IsFalse (has self.old.members b) }
-        requires past { (z : ℕ) → IsTrue (in_past (graph_of dag.now.parents) z b) →
+        requires past { (z : ℕ) → IsTrue (in_past (graph_of dag.now) z b) →
             IsTrue (has self.old.members z) }
         requires few { live pool.old < 2 ^ 30 }
-        ensures ok { OnOk result (IsView dag.now.parents self.new pool.new) }
+        ensures ok { OnOk result (IsView dag.now self.new pool.new) }
         ensures members { OnOk result (self.new.members
             ≡ places_where (λ p. has self.old.members p || (p == b))) }
-        ensures kept { OnOk result (AreKeptIds dag.now.parents self.old.members self.new.members
+        ensures kept { OnOk result (AreKeptIds dag.now self.old.members self.new.members
             self.old.entries self.new.entries) }
         ensures counts { (r : ℕ) → count_of pool.new r + held self.old.entries r ≡
             count_of pool.old r + held self.new.entries r }
@@ -153,10 +163,10 @@ impl View {
             row_of pool.new r ≡ row_of pool.old r }
         ensures fresh { OnOk result (AreFresh self.old.entries self.new.entries pool.old pool.new) }
         ensures live { OnOk result (live pool.new ≤ live pool.old
-            + (2 * length (anticone (graph_of dag.now.parents) self.old.members b)
-            + changed_rows (graph_of dag.now.parents) self.old.members self.new.members
-            (pairs_of dag.now.parents))) }
-        ensures long { length self.new.entries ≤ length (pairs_of dag.now.parents) }
+            + (2 * length (anticone (graph_of dag.now) self.old.members b)
+            + changed_rows (graph_of dag.now) self.old.members self.new.members
+            (pairs_of dag.now))) }
+        ensures long { length self.new.entries ≤ length (pairs_of dag.now) }
         ensures err { OnErr result (self.new ≡ self.old) }
         ensures err_rows { OnErr result (pool.new.rows ≡ pool.old.rows) }
     {
@@ -167,8 +177,8 @@ impl View {
         let mut members = before;
         members.set(b);
         self.entries.reserve(pairs - self.entries.len())?;
-        let rows = rows_needed(dag, frozen, pool, &members, b, &self.entries);
-        pool.reserve(rows)?;
+        // Each pair may take both its rows anew.
+        pool.reserve(2 * dag.pair_count())?;
         grow(&mut self.entries, pairs);
         join_entries(dag, frozen, pool, &before, &members, b, &mut self.entries);
         self.members = members;
@@ -180,7 +190,7 @@ impl View {
         requires inside { IsSome (entry_at self.now.entries pair) }
         requires listed { pair < length frozen.now.pluses }
         requires live { (r : ℕ) → held self.now.entries r ≤ count_of pool.now r }
-        ensures { (table : List (List ℕ)) (x y : ℕ) → IsView table self.now pool.now →
+        ensures { (table : Numbered) (x y : ℕ) → IsView table self.now pool.now →
             HoldsFrozen table frozen.now →
             ((z : ℕ) → IsTrue (has self.now.members z) → z < frozen.now.blocks) →
             slice_get (pairs_of table) pair ≡ Some (x, y) →
@@ -204,7 +214,7 @@ impl View {
         requires inside { IsSome (entry_at self.now.entries pair) }
         requires listed { pair < length frozen.now.pluses }
         requires live { (r : ℕ) → held self.now.entries r ≤ count_of pool.now r }
-        ensures { (table : List (List ℕ)) (x y : ℕ) → IsView table self.now pool.now →
+        ensures { (table : Numbered) (x y : ℕ) → IsView table self.now pool.now →
             HoldsFrozen table frozen.now →
             ((z : ℕ) → IsTrue (has self.now.members z) → z < frozen.now.blocks) →
             slice_get (pairs_of table) pair ≡ Some (x, y) →
@@ -222,7 +232,7 @@ impl View {
         requires listed { AreListed self.now.entries (length frozen.now.pluses) }
         requires live { (r : ℕ) → held self.now.entries r ≤ count_of pool.now r }
         requires few { length self.now.entries ≤ 130816 }
-        ensures { IfOk result (λ votes. (table : List (List ℕ)) → IsView table self.now pool.now →
+        ensures { IfOk result (λ votes. (table : Numbered) → IsView table self.now pool.now →
             HoldsFrozen table frozen.now →
             ((z : ℕ) → IsTrue (has self.now.members z) → z < frozen.now.blocks) →
             votes.signs ≡ signs_of table self.now.members) }
@@ -294,24 +304,24 @@ impl View {
         target: &Row,
     ) -> Result<View, Memory>
         requires views { (i : ℕ) (view : Viewed) → slice_get views.now i ≡ Some view →
-            IsView dag.now.parents view pool.old }
+            IsView dag.now view pool.old }
         requires counts { (i : ℕ) (view : Viewed) → slice_get views.now i ≡ Some view →
             (r : ℕ) → 0 < held view.entries r → count_of pool.old r < 2 ^ 32 - 1 }
-        requires frozen { HoldsFrozen dag.now.parents frozen.now }
-        requires asked { IsAsked (graph_of dag.now.parents) target.now }
+        requires frozen { HoldsFrozen dag.now frozen.now }
+        requires asked { IsAsked (graph_of dag.now) target.now }
         requires added { (z : ℕ) → IsTrue (has target.now z) → z < frozen.now.blocks }
         requires few { live pool.old < 2 ^ 29 }
-        ensures ok { IfOk result (λ view. IsView dag.now.parents view pool.new) }
+        ensures ok { IfOk result (λ view. IsView dag.now view pool.new) }
         ensures members { IfOk result (λ view. view.members ≡ target.now) }
         ensures kept { IfOk result (λ view. (i : ℕ) (base : Viewed) →
             IsBest views.now target.now i base →
-            AreKeptIds dag.now.parents base.members target.now base.entries view.entries) }
+            AreKeptIds dag.now base.members target.now base.entries view.entries) }
         ensures counts { IfOk result (λ view. (r : ℕ) →
             count_of pool.new r ≡ count_of pool.old r + held view.entries r) }
         ensures rows { (r : ℕ) → 0 < count_of pool.old r → row_of pool.new r ≡ row_of pool.old r }
         ensures live { OnOk result ((base : Viewed) → IsStart views.now target.now base →
-            live pool.new ≤ live pool.old + moved_rows (graph_of dag.now.parents)
-            base.members target.now (pairs_of dag.now.parents)) }
+            live pool.new ≤ live pool.old + moved_rows (graph_of dag.now)
+            base.members target.now (pairs_of dag.now)) }
         ensures err { OnErr result ((r : ℕ) → count_of pool.new r ≡ count_of pool.old r) }
     {
         // Tells the proof that there are at most 130,816 pairs, of blocks that stand in order.
@@ -363,12 +373,21 @@ impl View {
     }
 
     // Whether the joined members turned the vote on a pair whose rows an older view has too. That one's
-    // sum is then this one less theirs: two counts tell where theirs is 0, and elsewhere four more do.
-    fn turned(&self, joined: &Row, frozen: &Frozen, pool: &RowPool, pair: u32) -> bool
+    // sum is then this one less theirs. Where theirs isn't 0, four counts tell this one; two tell theirs, or a
+    // test of two places where one block joined.
+    fn turned(
+        &self,
+        joined: &Row,
+        lone: Option<u16>,
+        frozen: &Frozen,
+        pool: &RowPool,
+        pair: u32,
+    ) -> bool
+        requires lone { IfSome lone (IsLone joined.now) }
         requires inside { IsSome (entry_at self.now.entries pair) }
         requires listed { pair < length frozen.now.pluses }
         requires live { (r : ℕ) → held self.now.entries r ≤ count_of pool.now r }
-        ensures { (table : List (List ℕ)) (x y : ℕ) (older : Viewed) →
+        ensures { (table : Numbered) (x y : ℕ) (older : Viewed) →
             AreJoined older.members self.now.members joined.now →
             entry_at older.entries pair ≡ entry_at self.now.entries pair →
             IsView table self.now pool.now → IsView table older pool.now →
@@ -378,7 +397,7 @@ impl View {
             slice_get (pairs_of table) pair ≡ Some (x, y) →
             result ≡ has_changed (graph_of table) older.members self.now.members (x, y) }
     {
-        let gain = joined.balance(frozen.plus(pair), frozen.minus(pair));
+        let gain = gain(joined, lone, frozen.plus(pair), frozen.minus(pair));
         if gain == 0 {
             return false;
         }
@@ -391,16 +410,18 @@ impl View {
         &self,
         older: &View,
         joined: &Option<Row>,
+        lone: Option<u16>,
         frozen: &Frozen,
         pool: &RowPool,
         pair: u32,
     ) -> bool
         requires joined { IfSome joined.now (AreJoined older.now.members self.now.members) }
+        requires lone { IfSome joined.now (λ row. IfSome lone (IsLone row)) }
         requires inside { IsSome (entry_at self.now.entries pair) }
         requires listed { pair < length frozen.now.pluses }
         requires live { (r : ℕ) → held self.now.entries r ≤ count_of pool.now r }
         requires older_live { (r : ℕ) → held older.now.entries r ≤ count_of pool.now r }
-        ensures { (table : List (List ℕ)) (x y : ℕ) → IsView table self.now pool.now →
+        ensures { (table : Numbered) (x y : ℕ) → IsView table self.now pool.now →
             IsView table older.now pool.now → HoldsFrozen table frozen.now →
             ((z : ℕ) → IsTrue (has self.now.members z) → z < frozen.now.blocks) →
             ((z : ℕ) → IsTrue (has older.now.members z) → z < frozen.now.blocks) →
@@ -413,7 +434,7 @@ impl View {
         if let Some(joined) = joined
             && self.has_rows(pair, rows)
         {
-            return self.turned(joined, frozen, pool, pair);
+            return self.turned(joined, lone, frozen, pool, pair);
         }
         self.virtual_vote(frozen, pool, pair) != older.virtual_vote(frozen, pool, pair)
     }
@@ -428,17 +449,20 @@ impl View {
         requires live { (r : ℕ) → held self.now.entries r ≤ count_of pool.now r }
         requires older_live { (r : ℕ) → held older.now.entries r ≤ count_of pool.now r }
         requires few { length self.now.entries ≤ 130816 }
-        ensures { IfOk result (λ list. (table : List (List ℕ)) → IsView table self.now pool.now →
+        ensures { IfOk result (λ list. (table : Numbered) → IsView table self.now pool.now →
             IsView table older.now pool.now → HoldsFrozen table frozen.now →
             ((z : ℕ) → IsTrue (has self.now.members z) → z < frozen.now.blocks) →
             ((z : ℕ) → IsTrue (has older.now.members z) → z < frozen.now.blocks) →
             list.items ≡ changed_of table older.now.members self.now.members) }
     {
         let joined = self.joined(older);
+        let lone = lone_among(&joined);
         let mut list = Vec::new(self.alloc);
         'pairs: for i in 0..self.entries.len() {
             let pair = i as u32;
-            if self.entry(pair).is_some() && self.differs(older, &joined, frozen, pool, pair) {
+            if self.entry(pair).is_some()
+                && self.differs(older, &joined, lone, frozen, pool, pair)
+            {
                 list.push(pair)?;
             }
         }

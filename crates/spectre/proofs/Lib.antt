@@ -12,3 +12,4 @@ pub mod Replayed
 pub mod Resting
 pub mod Played
 pub mod Tallies
+pub mod DiskFirst

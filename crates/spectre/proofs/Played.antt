@@ -6,6 +6,7 @@ use Rattle.std.proofs.lemmas.List.{append-nil, take_all, take_more, take-append-
 use Rattle.std.proofs.lemmas.Option.{get_or_from_slice_get, slice_get_cases}
 use Rattle.std.proofs.lemmas.Grind.{flat_map-append}
 use Rattle.sp_block.specs.Block.{ReadBlock}
+use Rattle.sp_model.specs.declared.profile.Profile.TheVariants.{One}
 use Rattle.sp_engine.specs.Arrivals.{kept_by_all}
 use Rattle.sp_feed.specs.Kinds.{Said}
 use Rattle.sp_io.specs.Whole.{AppendsFront, Wrote}
@@ -99,8 +100,8 @@ module _ (scene : Scene) (labels : AllLabels) (genesis : ReadBlock) (bits : ℕ)
       ap (λ (x : AllLabels). answers x genesis bits [] scene.messages) l ∙ ap (λ (n : ℕ). answers scene.names genesis n [] scene.messages) b
       ∙ sym (ap (λ r. lines_by scene.names r scene.bits [] scene.messages) (ap (block_in true) (sym same) ∙ spelled))
 
-  pub summary_is : summary labels (kept_by_all bits genesis (flat_map arrivals_of scene.messages)) ≡ summary_in scene
+  pub summary_is : summary One labels (kept_by_all bits genesis (flat_map arrivals_of scene.messages)) ≡ summary_in scene
   summary_is =
-      ap (λ (x : AllLabels). summary x (kept_by_all bits genesis (flat_map arrivals_of scene.messages))) l
-      ∙ ap (λ (n : ℕ). summary scene.names (kept_by_all n genesis (flat_map arrivals_of scene.messages))) b
+      ap (λ (x : AllLabels). summary One x (kept_by_all bits genesis (flat_map arrivals_of scene.messages))) l
+      ∙ ap (λ (n : ℕ). summary One scene.names (kept_by_all n genesis (flat_map arrivals_of scene.messages))) b
       ∙ sym (ap (λ r. summary_by r scene) (ap (block_in true) (sym same) ∙ spelled))

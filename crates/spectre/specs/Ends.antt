@@ -103,6 +103,21 @@ KeepsTo status.Memory = Unit {0}
 KeepsTo status.Damaged = Unit {0}
 KeepsTo status.TooLong = Unit {0}
 
+-- the statuses that a run can end with where what the disk holds is at fault: that fault's, or one of the outside or of memory
+abbrev pub EndsByDisk : Status → Type 0
+EndsByDisk status.Done = ⊥
+EndsByDisk status.Usage = ⊥
+EndsByDisk status.Malformed = ⊥
+EndsByDisk status.Truncated = ⊥
+EndsByDisk status.ReadFault = ⊥
+EndsByDisk status.WriteFault = Unit {0}
+EndsByDisk status.DiskFault = Unit {0}
+EndsByDisk status.NotJournal = Unit {0}
+EndsByDisk status.OtherChain = ⊥
+EndsByDisk status.Memory = Unit {0}
+EndsByDisk status.Damaged = Unit {0}
+EndsByDisk status.TooLong = ⊥
+
 -- the statuses that some words can end with
 abbrev pub Comes : Option Job → Status → Type 0
 Comes None s = s ≡ status.Usage

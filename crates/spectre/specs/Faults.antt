@@ -1,6 +1,6 @@
 -- Which fault the input of a job has, what of it stays unread, and what was written where a
 -- read failed.
-use Rattle.std.specs.Prelude.{◌≡◌, ◌<◌, ◌≤◌, ℕ, List, [], drop, length, Option, Some, None, IsSome, IsNone}
+use Rattle.std.specs.Prelude.{◌≡◌, ◌⊎◌, ◌<◌, ◌≤◌, ℕ, Bool, List, [], drop, length, Option, Some, None, IsSome, IsNone}
 use Rattle.sp_feed.specs.Feed.{End, Malformed, TooLong, Truncated, Whole}
 use Rattle.sp_feed.specs.declared.fault.FeedFault.{FeedFault}
 use Rattle.sp_feed.specs.declared.fault.FeedFault.TheVariants as faults
@@ -124,6 +124,24 @@ IsDamaged (Some Play) disk = ⊥
 IsDamaged (Some Build) disk = ⊥
 IsDamaged (Some (Make n seed width)) disk = ⊥
 IsDamaged (Some (Drill n seed width)) disk = ⊥
+
+-- what the disk holds is at fault, before a feed is looked at
+
+abbrev pub IsKeptAtFault : Bool → List ℕ → Type 0
+IsKeptAtFault fresh disk = HasNoJournal fresh disk ⊎ IsDamagedDisk disk
+
+abbrev pub IsShownAtFault : List ℕ → Type 0
+IsShownAtFault disk = (records disk ≡ NoJournal) ⊎ IsDamagedDisk disk
+
+abbrev pub IsDiskAtFault : Option Job → List ℕ → Type 0
+IsDiskAtFault None disk = ⊥
+IsDiskAtFault (Some Replay) disk = ⊥
+IsDiskAtFault (Some (Keep path fresh)) disk = IsKeptAtFault fresh disk
+IsDiskAtFault (Some (Show path)) disk = IsShownAtFault disk
+IsDiskAtFault (Some Play) disk = ⊥
+IsDiskAtFault (Some Build) disk = ⊥
+IsDiskAtFault (Some (Make n seed width)) disk = ⊥
+IsDiskAtFault (Some (Drill n seed width)) disk = ⊥
 
 -- that of another chain
 abbrev pub IsOtherChain : Option Job → List ℕ → List ℕ → Type 0

@@ -5,6 +5,7 @@ use Rattle.std.specs.Str.{bytes_eq}
 use Rattle.sp_ids.specs.Digest.{sha256_number}
 use Rattle.sp_block.specs.Block.{ReadBlock}
 use Rattle.sp_block.specs.declared.fault.BlockFault.{BlockFault}
+use Rattle.sp_model.specs.declared.profile.Profile.TheVariants.{One}
 use Rattle.sp_engine.specs.Arrivals.{kept_by_all}
 use Rattle.sp_engine.specs.Blocks.{block_in}
 use Rattle.sp_feed.specs.Format.{Head}
@@ -57,7 +58,7 @@ unfoldable pub kept_output : Bool → List ℕ → List ℕ → List ℕ
 kept_output fresh disk input = kept_by fresh disk (records disk) input
 
 abbrev pub report_by : Contents → Result ReadBlock BlockFault → List ℕ
-report_by c (Ok genesis) = report_text no_labels (kept_by_all c.bits genesis c.blocks)
+report_by c (Ok genesis) = report_text One no_labels (kept_by_all c.bits genesis c.blocks)
 report_by c (Err fault) = []
 
 abbrev pub shown_by : Records → List ℕ

@@ -3,6 +3,7 @@ use Rattle.std.specs.Prelude.{ℕ, true, List, [], ◌++◌, Option, Some, None,
 use Rattle.std.specs.List.{flat_map}
 use Rattle.sp_block.specs.Block.{ReadBlock}
 use Rattle.sp_block.specs.declared.fault.BlockFault.{BlockFault}
+use Rattle.sp_model.specs.declared.profile.Profile.TheVariants.{One}
 use Rattle.sp_engine.specs.Arrivals.{kept_by_all}
 use Rattle.sp_engine.specs.Blocks.{block_in}
 use Rattle.sp_feed.specs.Kinds.{Said}
@@ -43,7 +44,7 @@ abbrev pub kept_in : ReadBlock → Scene → List ReadBlock
 kept_in genesis scene = kept_by_all scene.bits genesis (flat_map arrivals_of scene.messages)
 
 abbrev pub summary_by : Result ReadBlock BlockFault → Scene → List ℕ
-summary_by (Ok genesis) scene = summary scene.names (kept_in genesis scene)
+summary_by (Ok genesis) scene = summary One scene.names (kept_in genesis scene)
 summary_by (Err fault) scene = []
 
 -- the summary of a scene after all its messages

@@ -4,12 +4,13 @@ use Rattle.std.specs.Prelude.{ℕ, ◌+◌, ◌-◌, ◌≤◌, ◌==◌, Bool, 
 use Rattle.std.specs.Fmt.{decimal}
 use Rattle.sp_block.specs.Block.{ReadBlock}
 use Rattle.sp_model.specs.Votes.{word}
+use Rattle.sp_model.specs.declared.profile.Profile.{Profile}
 use Rattle.sp_model.specs.declared.word.Word.{Word}
 use Rattle.sp_model.specs.declared.word.Word.TheVariants as words
 use Rattle.sp_carry.specs.Ledger.{is_accepted}
 use Rattle.sp_engine.specs.Transactions.{balance_by_id, ledger_by_id, locks, tx_ids}
 use Rattle.sp_names.specs.Labels.{AllLabels}
-use Rattle.sp_pool.specs.Kept.{graph_of, present}
+use Rattle.sp_pool.specs.Kept.{graph_in, present}
 use Rattle.sp_report.specs.Lines.{accepted_count_text, balance_count_text, blocks_text}
 use Rattle.sp_report.specs.Texts.{pairs_of, present_ids}
 use Rattle.spectre.specs.declared.counts.Counts.{Counts}
@@ -41,12 +42,12 @@ abbrev pub tally_of : List Word → Tally
 tally_of said = record { before = count_by is_before said; after = count_by is_after said; tie = count_by is_tie said }
 
 -- what all present blocks say of a pair
-abbrev pub pair_word : List ReadBlock → ℕ × ℕ → Word
-pair_word kept pair = word (graph_of kept) (present kept) pair.0 pair.1
+abbrev pub pair_word : Profile → List ReadBlock → ℕ × ℕ → Word
+pair_word profile kept pair = word (graph_in profile kept) (present kept) pair.0 pair.1
 
 -- what they say of each pair of these blocks
-abbrev pub pair_words : List ReadBlock → List ℕ → List Word
-pair_words kept ids = map (pair_word kept) (pairs_of ids)
+abbrev pub pair_words : Profile → List ReadBlock → List ℕ → List Word
+pair_words profile kept ids = map (pair_word profile kept) (pairs_of ids)
 
 -- `pairs N before N after N tie N`
 unfoldable pub tally_text : ℕ → Tally → List ℕ
@@ -54,23 +55,23 @@ tally_text pairs tally =
     codes "pairs " ++ decimal pairs ++ codes " before " ++ decimal tally.before ++ codes " after " ++ decimal tally.after ++ codes " tie " ++ decimal tally.tie ++ 10 ∷ []
 
 -- how many transactions of the present blocks are accepted
-abbrev pub accepted_count : List ReadBlock → ℕ
-accepted_count kept = count_by (λ id. is_accepted (ledger_by_id kept) (present kept) id) (tx_ids kept)
+abbrev pub accepted_count : Profile → List ReadBlock → ℕ
+accepted_count profile kept = count_by (λ id. is_accepted (ledger_by_id profile kept) (present kept) id) (tx_ids kept)
 
 -- under how many locks something is left
-abbrev pub paid_count : List ReadBlock → ℕ
-paid_count kept = count_by (λ lock. not (balance_by_id kept lock == 0)) (locks kept)
+abbrev pub paid_count : Profile → List ReadBlock → ℕ
+paid_count profile kept = count_by (λ lock. not (balance_by_id profile kept lock == 0)) (locks kept)
 
 -- what there is of everything, given the present blocks in the order in which their pairs are taken
-abbrev pub counts_of : List ReadBlock → List ℕ → Counts
-counts_of kept ids =
+abbrev pub counts_of : Profile → List ReadBlock → List ℕ → Counts
+counts_of profile kept ids =
     record {
       present = length (present kept);
       waiting = length kept - length (present kept);
       pairs = length (pairs_of ids);
-      tally = tally_of (pair_words kept ids);
-      accepted = accepted_count kept;
-      paid = paid_count kept;
+      tally = tally_of (pair_words profile kept ids);
+      accepted = accepted_count profile kept;
+      paid = paid_count profile kept;
     }
 
 -- the four lines of these numbers
@@ -80,8 +81,8 @@ counts_text counts =
     ++ (accepted_count_text counts.accepted ++ balance_count_text counts.paid)
 
 -- the pairs go by the order in which the blocks were named
-abbrev pub summary : AllLabels → List ReadBlock → List ℕ
-summary labels kept = counts_text (counts_of kept (present_ids labels kept))
+abbrev pub summary : Profile → AllLabels → List ReadBlock → List ℕ
+summary profile labels kept = counts_text (counts_of profile kept (present_ids labels kept))
 
 -- What the counting adds and how far it may go.
 

@@ -7,17 +7,17 @@ ghost use Rattle.sp_io.specs.Causes.{Rose};
 ghost use Rattle.sp_io.specs.Whole.{AppendsFront, ConsumesUpTo};
 ghost use Rattle.sp_play.specs.Source.{scenario_limit};
 ghost use Rattle.spectre.specs.Crashes.{Recovery};
-ghost use Rattle.spectre.specs.Ends.{Comes};
-ghost use Rattle.spectre.specs.Faults.{beyond, IsDamaged, IsFaultless, IsMalformed, IsNoJournal, IsOtherChain, IsTooLong, IsTruncated, unread};
+ghost use Rattle.spectre.specs.Ends.{Comes, EndsByDisk};
+ghost use Rattle.spectre.specs.Faults.{beyond, IsDamaged, IsDiskAtFault, IsFaultless, IsMalformed, IsNoJournal, IsOtherChain, IsTooLong, IsTruncated, unread};
 ghost use Rattle.spectre.specs.Jobs.{AnswersFeed, job_in, NamesFile, Shows, TakesNothing, TakesScenario, texts};
 ghost use Rattle.spectre.specs.Output.{blocks_before, OnDisk, OnKeep, output};
 ghost use Rattle.spectre.specs.Replay.{replied, replied_but_last};
-ghost use Rattle.spectre.specs.Rests.{AnswersAgree, OrderIsNoMatter};
+ghost use Rattle.spectre.specs.Rests.{AnswersAgree, KeptAgree, OrderIsNoMatter};
 ghost use Rattle.spectre.specs.Taken.{TakesFeed};
 
 use crate::doing::do_job;
 use crate::job::{Job, JobFault, read_job};
-use crate::laws::answers_agree;
+use crate::laws::{answers_agree, kept_agree};
 use crate::status::Status;
 use sp_disk::Disk;
 use sp_io::{Sink, Source};
@@ -83,6 +83,11 @@ pub fn run<S: Source, K: Sink, D: Disk>(
         OnDisk (job_in (texts words.now)) (D.now disk.old).reads (λ bytes.
         Appends (K.taken sink.old) (K.taken sink.new) (output (texts words.now) bytes input)
         × IsDamaged (job_in (texts words.now)) bytes)) }
+
+    // Where what the disk holds is at fault, the run ends by that, whatever the feed is, and nothing of
+    // it is taken.
+    ensures disk_first { OnDisk (job_in (texts words.now)) (D.now disk.old).reads (λ bytes.
+        IsDiskAtFault (job_in (texts words.now)) bytes → EndsByDisk result × (source.new ≡ source.old)) }
 
     // However the run ends, of a scenario 16,777,216 bytes were taken at most. Of a feed no more
     // were than its limit, and none that wasn't needed: each front of them that isn't all ends too
@@ -154,6 +159,7 @@ pub fn run<S: Source, K: Sink, D: Disk>(
     // feed that brought the same blocks in another order each question is answered by the same bytes.
     ensures agree { job_in (texts words.now) ≡ Some Job.Replay
         → IfSome (S.left source.old) AnswersAgree }
+    ensures kept_agree { KeptAgree }
     ensures order { job_in (texts words.now) ≡ Some Job.Replay
         → IfSome (S.left source.old) (λ input. (other : List ℕ) → OrderIsNoMatter input other) }
 
@@ -171,6 +177,7 @@ pub fn run<S: Source, K: Sink, D: Disk>(
 {
     // Tells the proof what every answer to a feed rests on.
     answers_agree();
+    kept_agree();
     match read_job(alloc, words) {
         Ok(job) => do_job(alloc, &job, source, sink, disk),
         Err(JobFault::Usage) => Status::Usage,

@@ -37,7 +37,7 @@ fn count_votes(engine: &Engine, first: &BlockId, others: &[BlockId], before: Tal
     requires few { length others.now ≤ 512 }
     requires bound { AreUpTo before 1048576 }
     ensures tally { result ≡
-        added before (map (λ other. pair_word engine.now.kept (first.now, other)) others.now) }
+        added before (map (λ other. pair_word engine.now.profile engine.now.kept (first.now, other)) others.now) }
 {
     let mut tally = before;
     'other: for other in others {
@@ -50,7 +50,7 @@ fn count_votes(engine: &Engine, first: &BlockId, others: &[BlockId], before: Tal
 fn count_pairs(engine: &Engine, ids: &[BlockId]) -> Tally
     requires whole { engine.now.broken ≡ false }
     requires few { length ids.now ≤ 512 }
-    ensures { result ≡ tally_of (pair_words engine.now.kept ids.now) }
+    ensures { result ≡ tally_of (pair_words engine.now.profile engine.now.kept ids.now) }
 {
     let mut tally = Tally {
         before: 0,
@@ -67,7 +67,7 @@ fn count_pairs(engine: &Engine, ids: &[BlockId]) -> Tally
 // How many transactions of the present blocks are accepted.
 fn count_accepted(engine: &Engine) -> u32
     requires { engine.now.broken ≡ false }
-    ensures { result ≡ accepted_count engine.now.kept }
+    ensures { result ≡ accepted_count engine.now.profile engine.now.kept }
 {
     let mut count = 0;
     'number: for number in 0..engine.tx_count() {
@@ -80,7 +80,7 @@ fn count_accepted(engine: &Engine) -> u32
 // Under how many locks something is left.
 fn count_paid(engine: &Engine) -> u32
     requires { engine.now.broken ≡ false }
-    ensures { result ≡ paid_count engine.now.kept }
+    ensures { result ≡ paid_count engine.now.profile engine.now.kept }
 {
     let mut count = 0;
     'number: for number in 0..engine.lock_count() {
@@ -105,7 +105,7 @@ fn pair_count(ids: &[BlockId]) -> u32
 pub fn count_all(engine: &Engine, ids: &[BlockId]) -> Counts
     requires whole { engine.now.broken ≡ false }
     requires few { length ids.now ≤ 512 }
-    ensures { result ≡ counts_of engine.now.kept ids.now }
+    ensures { result ≡ counts_of engine.now.profile engine.now.kept ids.now }
 {
     Counts {
         present: engine.present(),

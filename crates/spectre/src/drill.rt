@@ -5,6 +5,7 @@ ghost use Rattle.std.specs.Prelude.{◌≡◌, ◌≢◌, ◌∷◌, [], false, 
 ghost use Rattle.std.specs.List.{flat_map};
 ghost use Rattle.std.specs.Io.KnownBytes.{Appends};
 ghost use Rattle.sp_block.specs.Block.{ReadBlock};
+ghost use Rattle.sp_model.specs.declared.profile.Profile.TheVariants.{One};
 ghost use Rattle.sp_engine.specs.Arrivals.{kept_by_all};
 ghost use Rattle.sp_io.specs.Whole.{AppendsFront};
 ghost use Rattle.sp_node.specs.Answers.{arrivals_of};
@@ -54,9 +55,9 @@ fn summarize<K: Sink>(
 ) -> Result<(), Stop>
     requires { engine.now.broken ≡ false }
     ensures ok { OnOk result (Appends (K.taken sink.old) (K.taken sink.new)
-        (meant.summary (labels_of naming.now) engine.now.kept)) }
+        (meant.summary engine.now.profile (labels_of naming.now) engine.now.kept)) }
     ensures err { OnErr result (AppendsFront (K.taken sink.old) (K.taken sink.new)
-        (meant.summary (labels_of naming.now) engine.now.kept)) }
+        (meant.summary engine.now.profile (labels_of naming.now) engine.now.kept)) }
     ensures cause { IfErr result (HasStopCause (K.faults sink.old) (K.faults sink.new)) }
     ensures quiet { result ≢ Err Stop.WriteFault → K.faults sink.new ≡ K.faults sink.old }
 {
@@ -78,10 +79,10 @@ fn keep_and_tell<K: Sink>(
     requires live { node.old.stopped ≡ false }
     requires plain { node.old.journal ≡ None }
     ensures ok { (genesis : ReadBlock) → node.old.kept ≡ genesis ∷ [] → OnOk result
-        (Appends (K.taken sink.old) (K.taken sink.new) (meant.summary scene.now.names
+        (Appends (K.taken sink.old) (K.taken sink.new) (meant.summary One scene.now.names
         (kept_by_all node.old.bits genesis (flat_map arrivals_of scene.now.messages)))) }
     ensures err { (genesis : ReadBlock) → node.old.kept ≡ genesis ∷ [] → OnErr result
-        (AppendsFront (K.taken sink.old) (K.taken sink.new) (meant.summary scene.now.names
+        (AppendsFront (K.taken sink.old) (K.taken sink.new) (meant.summary One scene.now.names
         (kept_by_all node.old.bits genesis (flat_map arrivals_of scene.now.messages)))) }
     ensures cause { IfErr result (HasStopCause (K.faults sink.old) (K.faults sink.new)) }
     ensures quiet { result ≢ Err Stop.WriteFault → K.faults sink.new ≡ K.faults sink.old }

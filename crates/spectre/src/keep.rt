@@ -9,7 +9,8 @@ ghost use Rattle.sp_feed.specs.Reader.{Behind, is_open, new_reader};
 ghost use Rattle.sp_feed.specs.Reads.{moment};
 ghost use Rattle.sp_journal.specs.Settled.{SameTold};
 ghost use Rattle.sp_node.specs.Stored.{IsFound, IsReady, Tells};
-ghost use Rattle.spectre.specs.Ends.{KeepsTo};
+ghost use Rattle.spectre.specs.Ends.{EndsByDisk, KeepsTo};
+ghost use Rattle.spectre.specs.Faults.{IsKeptAtFault};
 ghost use Rattle.spectre.specs.Kept.{KeptEnds};
 ghost use Rattle.spectre.specs.Keeping.{IsBegun, IsUntried, KeepAnswers, of_answers, other_text};
 ghost use Rattle.spectre.specs.Replay.{feed_limit};
@@ -271,6 +272,9 @@ pub fn keep<S: Source, K: Sink, D: Disk>(
 ) -> Status
     ensures ends { KeptEnds fresh (D.now disk.old).reads (S.left source.old) (S.left source.new)
         (K.taken sink.old) (K.taken sink.new) (D.now disk.old) (D.now disk.new) result }
+    // Where what the disk holds is at fault, the run ends by that, and nothing of the feed is taken.
+    ensures disk_first { IfSome (D.now disk.old).reads (λ bytes. IsKeptAtFault fresh bytes
+        → EndsByDisk result × (source.new ≡ source.old)) }
     ensures read_cause { result ≡ Status.ReadFault → Rose (S.faults source.old) (S.faults source.new) }
     ensures write_cause { result ≡ Status.WriteFault → Rose (K.faults sink.old) (K.faults sink.new) }
     ensures disk_cause { result ≡ Status.DiskFault → Rose (D.now disk.old).faults (D.now disk.new).faults }

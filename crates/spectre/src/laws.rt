@@ -2,7 +2,15 @@
 //! contract of a function that does nothing, or that calls another law, so that the check proves it.
 
 ghost use Rattle.std.specs.Prelude.{ℕ, List};
-ghost use Rattle.spectre.specs.Rests.{AnswersAgree, OrderIsNoMatter};
+ghost use Rattle.spectre.specs.Rests.{AnswersAgree, KeptAgree, OrderIsNoMatter};
+
+/// Of whatever bytes arrive, the blocks that are kept agree: no two accepted transactions conflict, each
+/// accepted one has accepted inputs, and no more is left than genesis grants. So it is with each command.
+pub fn kept_agree()
+    ensures { KeptAgree }
+{
+    sp_engine::payments::nothing_is_made();
+}
 
 /// Over the kept blocks on which each answer to a feed rests, no two accepted transactions conflict,
 /// each accepted one has accepted inputs, and no more is left than genesis grants. The first and the

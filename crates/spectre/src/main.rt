@@ -19,6 +19,7 @@ mod laws;
 mod lines;
 mod made;
 mod no_disk;
+mod outside;
 mod play;
 mod purpose;
 mod replay;
@@ -33,10 +34,8 @@ ghost use Rattle.std.specs.Prelude.{◌⊎◌, ◌≡◌, IfErr};
 ghost use Rattle.std.specs.Process.{exit_status};
 ghost use Rattle.spectre.specs.Codes.{code_of};
 
-use command::run;
 use commands::{USAGE, help_text, rows_in};
-use files::path_of;
-use sp_disk::FileDisk;
+use outside::run_on;
 use sp_io::{StdSink, StdSource};
 use status::Status;
 use std::process::ExitCode;
@@ -83,9 +82,7 @@ fn main(rt: HostRuntime) -> ExitCode {
         Ok(words) => {
             let mut source = StdSource::new(rt.stdin());
             let mut sink = StdSink::new(rt.stdout());
-            let (path, make) = path_of(&words).unwrap_or(("", false));
-            let mut disk = FileDisk::new(&rt, path, make);
-            run(rt.alloc(), &words, &mut source, &mut sink, &mut disk)
+            run_on(rt.alloc(), &rt, &words, &mut source, &mut sink)
         }
         Err(status) => status,
     };

@@ -29,9 +29,9 @@ use std::alloc::Global;
 fn tell<K: Sink>(alloc: Global, engine: &Engine, count: u16, sink: &mut K) -> Result<(), Stop>
     requires { engine.now.broken ≡ false }
     ensures ok { OnOk result (Appends (K.taken sink.old) (K.taken sink.new)
-        (recovered_text count ++ report_text no_labels engine.now.kept)) }
+        (recovered_text count ++ report_text engine.now.profile no_labels engine.now.kept)) }
     ensures err { OnErr result (AppendsFront (K.taken sink.old) (K.taken sink.new)
-        (recovered_text count ++ report_text no_labels engine.now.kept)) }
+        (recovered_text count ++ report_text engine.now.profile no_labels engine.now.kept)) }
     ensures cause { IfErr result (HasStopCause (K.faults sink.old) (K.faults sink.new)) }
     ensures quiet { result ≢ Err Stop.WriteFault → K.faults sink.new ≡ K.faults sink.old }
 {

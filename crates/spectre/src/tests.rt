@@ -28,6 +28,7 @@ mod pages;
 mod paired;
 mod payments;
 mod pieces;
+mod real_file;
 mod reports;
 mod shapes;
 mod shown;

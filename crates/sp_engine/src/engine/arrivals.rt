@@ -25,6 +25,7 @@ impl Engine {
         ensures answer { IfOk result (λ answer. answer ≡
             answer_by (standing_of self.old.kept block.id) self.old.kept block) }
         ensures kept { OnOk result (self.new.kept ≡ keep self.old.kept block) }
+        ensures profile { OnOk result (self.new.profile ≡ self.old.profile) }
         ensures bits { self.new.bits ≡ self.old.bits }
         ensures broken { self.new.broken ≡ is_err result }
         ensures idle { IfOk result (λ answer. IsFalse (is_growth answer) →
@@ -52,6 +53,7 @@ impl Engine {
         requires fresh { standing_of self.old.kept block.id ≡ Standing.Fresh }
         ensures answer { IfOk result (λ answer. answer ≡ joined self.old.kept block) }
         ensures kept { OnOk result (self.new.kept ≡ self.old.kept ++ block ∷ []) }
+        ensures profile { OnOk result (self.new.profile ≡ self.old.profile) }
         ensures bits { self.new.bits ≡ self.old.bits }
         ensures broken { self.new.broken ≡ is_err result }
         ensures idle { IfOk result (λ answer. IsFalse (is_growth answer) →

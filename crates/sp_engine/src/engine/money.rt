@@ -1,17 +1,23 @@
 //! What the engine says of transactions, and of what they leave under each lock. All of it stands
-//! ready: no answer takes memory.
+//! ready: no answer takes memory but the list of unspent outputs.
 
-ghost use Rattle.std.specs.Prelude.{◌≡◌, ◌≤◌, ◌<◌, ℕ, false, length, slice_get, Some, ◌↔◌, IsFalse};
+ghost use Rattle.std.specs.Prelude.{◌≡◌, ◌≤◌, ◌<◌, ℕ, false, length, slice_get, Some, ◌↔◌, IfOk, IsFalse};
+ghost use Rattle.std.specs.List.Sorted.{IsPermutation, IsSorted};
+ghost use Rattle.std.specs.Option.{option_copied};
+ghost use Rattle.sp_ids.specs.Outpoints.{outpoint_cmp};
 ghost use Rattle.sp_model.specs.Graph.{has, AreDistinct};
 ghost use Rattle.sp_pool.specs.Kept.{present};
 ghost use Rattle.sp_carry.specs.declared.state.TxState.{TxState};
-ghost use Rattle.sp_carry.specs.Ledger.{is_accepted, is_carried, state, IsPlain};
-ghost use Rattle.sp_carry.specs.Money.{balance};
-ghost use Rattle.sp_engine.specs.Transactions.{balance_by_id, ledger_by_id, ledger_of, locks, state_of, tx_ids};
+ghost use Rattle.sp_carry.specs.Ledger.{carried, is_accepted, is_carried, state, IsPlain};
+ghost use Rattle.sp_carry.specs.Money.{accepted_txs, balance};
+ghost use Rattle.sp_carry.specs.Payment.{output_at};
+ghost use Rattle.sp_money.specs.Names.{names_under};
+ghost use Rattle.sp_engine.specs.Transactions.{balance_by_id, ledger_by_id, ledger_of, locks, names_by_id, output_by_id, state_of, tx_ids};
 
 use crate::engine::Engine;
 use sp_carry::TxState;
-use sp_ids::{Lock, TxId};
+use sp_ids::{Lock, Memory, Outpoint, TxId};
+use sp_tx::Output;
 
 impl Engine {
     /// What the present blocks say of a transaction: accepted, rejected, or carried by none of them.
@@ -22,11 +28,11 @@ impl Engine {
     /// inputs of one SHA-256, each is its own.
     pub fn tx_state(&self, id: &TxId) -> TxState
         requires { self.now.broken ≡ false }
-        ensures value { result ≡ state_of self.now.kept id.now }
+        ensures value { result ≡ state_of self.now.profile self.now.kept id.now }
         ensures absent { (result ≡ TxState.Absent) ↔
-            IsFalse (is_carried (ledger_of self.now.kept) (present self.now.kept) id.now) }
-        ensures state { IsPlain (ledger_of self.now.kept) (present self.now.kept) →
-            result ≡ state (ledger_of self.now.kept) (present self.now.kept) id.now }
+            IsFalse (is_carried (ledger_of self.now.profile self.now.kept) (present self.now.kept) id.now) }
+        ensures state { IsPlain (ledger_of self.now.profile self.now.kept) (present self.now.kept) →
+            result ≡ state (ledger_of self.now.profile self.now.kept) (present self.now.kept) id.now }
     {
         match self.carriers.tx_of(id) {
             None => TxState::Absent,
@@ -46,7 +52,7 @@ impl Engine {
         requires { self.now.broken ≡ false }
         ensures count { result ≡ length (tx_ids self.now.kept) }
         ensures ids { (id : ℕ) → has (tx_ids self.now.kept) id
-            ≡ is_carried (ledger_of self.now.kept) (present self.now.kept) id }
+            ≡ is_carried (ledger_of self.now.profile self.now.kept) (present self.now.kept) id }
         ensures once { AreDistinct (tx_ids self.now.kept) }
         ensures few { result ≤ 131072 }
     {
@@ -63,9 +69,9 @@ impl Engine {
         requires within { i < length (tx_ids self.now.kept) }
         ensures id { slice_get (tx_ids self.now.kept) i ≡ Some result.0 }
         ensures value { result.1 ≡
-            is_accepted (ledger_by_id self.now.kept) (present self.now.kept) result.0 }
-        ensures accepted { IsPlain (ledger_of self.now.kept) (present self.now.kept) →
-            result.1 ≡ is_accepted (ledger_of self.now.kept) (present self.now.kept) result.0 }
+            is_accepted (ledger_by_id self.now.profile self.now.kept) (present self.now.kept) result.0 }
+        ensures accepted { IsPlain (ledger_of self.now.profile self.now.kept) (present self.now.kept) →
+            result.1 ≡ is_accepted (ledger_of self.now.profile self.now.kept) (present self.now.kept) result.0 }
     {
         (self.carriers.tx_id(i), self.accepted.is_accepted(i))
     }
@@ -77,9 +83,9 @@ impl Engine {
     /// The transaction of an id is the first one that has it, as in `tx_state`.
     pub fn balance(&self, lock: &Lock) -> u128
         requires { self.now.broken ≡ false }
-        ensures value { result ≡ balance_by_id self.now.kept lock.now }
-        ensures balance { IsPlain (ledger_of self.now.kept) (present self.now.kept) →
-            result ≡ balance (ledger_of self.now.kept) (present self.now.kept) lock.now }
+        ensures value { result ≡ balance_by_id self.now.profile self.now.kept lock.now }
+        ensures balance { IsPlain (ledger_of self.now.profile self.now.kept) (present self.now.kept) →
+            result ≡ balance (ledger_of self.now.profile self.now.kept) (present self.now.kept) lock.now }
     {
         self.purse.balance(lock)
     }
@@ -92,7 +98,7 @@ impl Engine {
         ensures count { result ≡ length (locks self.now.kept) }
         ensures once { AreDistinct (locks self.now.kept) }
         ensures paid { (lock : ℕ) → has (locks self.now.kept) lock ≡ false →
-            balance_by_id self.now.kept lock ≡ 0 }
+            balance_by_id self.now.profile self.now.kept lock ≡ 0 }
         ensures few { result ≤ 2097152 }
     {
         self.purse.lock_count()
@@ -105,10 +111,48 @@ impl Engine {
         requires whole { self.now.broken ≡ false }
         requires within { i < length (locks self.now.kept) }
         ensures lock { slice_get (locks self.now.kept) i ≡ Some result.0 }
-        ensures value { result.1 ≡ balance_by_id self.now.kept result.0 }
-        ensures balance { IsPlain (ledger_of self.now.kept) (present self.now.kept) →
-            result.1 ≡ balance (ledger_of self.now.kept) (present self.now.kept) result.0 }
+        ensures value { result.1 ≡ balance_by_id self.now.profile self.now.kept result.0 }
+        ensures balance { IsPlain (ledger_of self.now.profile self.now.kept) (present self.now.kept) →
+            result.1 ≡ balance (ledger_of self.now.profile self.now.kept) (present self.now.kept) result.0 }
     {
         self.purse.lock_at(i)
+    }
+
+    /// The names of the outputs under a lock that are unspent, ascending: those whose transaction is
+    /// accepted and which no accepted transaction spends. It goes over all outputs once, and then
+    /// takes the time of a sort of the answer.
+    ///
+    /// The transaction of an id is the first one that has it, as in `tx_state`.
+    ///
+    /// # Errors
+    ///
+    /// Memory was refused.
+    pub fn unspent(&self, lock: &Lock) -> Result<Vec<Outpoint>, Memory>
+        requires { self.now.broken ≡ false }
+        ensures names { IfOk result (λ names. IsPermutation (names_by_id self.now.profile self.now.kept lock.now) names.items) }
+        ensures ascending { IfOk result (λ names. IsSorted outpoint_cmp names.items) }
+        ensures own { IsPlain (ledger_of self.now.profile self.now.kept) (present self.now.kept) → IfOk result (λ names.
+            IsPermutation (names_under (accepted_txs (ledger_of self.now.profile self.now.kept) (present self.now.kept)) lock.now) names.items) }
+    {
+        self.purse.unspent(lock)
+    }
+
+    /// The output that an outpoint names, spent or not, or `None` where no present block carries its
+    /// transaction or that has fewer outputs. It takes about the time of a look-up by hash.
+    ///
+    /// The transaction of an id is the first one that has it, as in `tx_state`.
+    pub fn output(&self, from: &Outpoint) -> Option<&Output>
+        requires { self.now.broken ≡ false }
+        ensures value { option_copied result ≡ output_by_id self.now.kept from.now }
+        ensures own { IsPlain (ledger_of self.now.profile self.now.kept) (present self.now.kept) → option_copied result
+            ≡ output_at (carried (ledger_of self.now.profile self.now.kept) (present self.now.kept)) from.now }
+    {
+        match self.carriers.tx_of(&from.tx) {
+            None => None,
+            Some(tx) => {
+                let outputs = self.carriers.tx(tx).outputs.as_slice();
+                outputs.get(usize::from(from.index))
+            }
+        }
     }
 }

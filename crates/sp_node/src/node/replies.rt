@@ -6,6 +6,7 @@ ghost use Rattle.sp_io.specs.Causes.{Rose};
 ghost use Rattle.sp_io.specs.Whole.{AppendsFront};
 ghost use Rattle.sp_feed.specs.Kinds.{SaysBlock};
 ghost use Rattle.sp_feed.specs.Messages.{said_by};
+ghost use Rattle.sp_model.specs.declared.profile.Profile.TheVariants.{One};
 ghost use Rattle.sp_report.specs.Asks.{ask_text};
 ghost use Rattle.sp_report.specs.Naming.{labels_of};
 ghost use Rattle.sp_report.specs.Texts.{text_of};
@@ -116,10 +117,10 @@ impl Node {
     ) -> Result<(), NodeFault>
         requires { self.old.stopped ≡ false }
         ensures ok { OnOk result
-            (Appends (K.taken sink.old) (K.taken sink.new) (ask_text (labels_of naming.now) self.old.kept ask.now)) }
+            (Appends (K.taken sink.old) (K.taken sink.new) (ask_text One (labels_of naming.now) self.old.kept ask.now)) }
         ensures state { self.new ≡ record self.old { stopped = is_err result } }
         ensures err { OnErr result
-            (AppendsFront (K.taken sink.old) (K.taken sink.new) (ask_text (labels_of naming.now) self.old.kept ask.now)) }
+            (AppendsFront (K.taken sink.old) (K.taken sink.new) (ask_text One (labels_of naming.now) self.old.kept ask.now)) }
         ensures never { IfErr result (λ fault. fault ≡ NodeFault.WriteFault) }
         ensures cause { OnErr result (Rose (K.faults sink.old) (K.faults sink.new)) }
         ensures quiet { result ≢ Err NodeFault.WriteFault → K.faults sink.new ≡ K.faults sink.old }
@@ -144,10 +145,10 @@ impl Node {
     ) -> Result<(), NodeFault>
         requires { self.old.stopped ≡ false }
         ensures ok { OnOk result
-            (Appends (K.taken sink.old) (K.taken sink.new) (text_of (labels_of naming.now) self.old.kept text.now)) }
+            (Appends (K.taken sink.old) (K.taken sink.new) (text_of One (labels_of naming.now) self.old.kept text.now)) }
         ensures state { self.new ≡ record self.old { stopped = is_err result } }
         ensures err { OnErr result
-            (AppendsFront (K.taken sink.old) (K.taken sink.new) (text_of (labels_of naming.now) self.old.kept text.now)) }
+            (AppendsFront (K.taken sink.old) (K.taken sink.new) (text_of One (labels_of naming.now) self.old.kept text.now)) }
         ensures memory { result ≡ Err NodeFault.Memory → sink.new ≡ sink.old }
         ensures never { result ≢ Err NodeFault.DiskFault }
         ensures cause { result ≡ Err NodeFault.WriteFault → Rose (K.faults sink.old) (K.faults sink.new) }

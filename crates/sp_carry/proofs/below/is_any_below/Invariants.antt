@@ -6,4 +6,4 @@ use Rattle.sp_carry.specs.Worth.{block_at}
 use Rattle.sp_carry.proofs.below.is_any_below.Given as goal
 
 abbrev pub invariant-loop-c : goal.invariant-loop-c
-invariant-loop-c l = list_any (λ c. in_past (graph_of l.dag.parents) (block_at l.rows c) l.number) (take l.c-index l.list) ≡ false
+invariant-loop-c l = list_any (λ c. in_past (graph_of l.dag) (block_at l.rows c) l.number) (take l.c-index l.list) ≡ false

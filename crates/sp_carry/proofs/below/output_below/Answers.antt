@@ -14,23 +14,23 @@ is_any_below-requires-clause-list c = rw (c.carriers_of.ensures, c.deref.ensures
 
 pub returns-in-None : goal.returns-in-None
 returns-in-None c =
-    sym (output_none c.args.dag.now.parents (carried_of c.args.table.now) (past (graph_of c.args.dag.now.parents) c.args.table.now.blocks) c.args.from.now
+    sym (output_none c.args.dag.now (carried_of c.args.table.now) (past (graph_of c.args.dag.now) c.args.table.now.blocks) c.args.from.now
     c.requires.linked (sym c.tx_of.ensures ∙ c.in-None.is))
 
 pub returns-then-is_any_below : goal.returns-then-is_any_below
 returns-then-is_any_below c =
-    let below : c.is_any_below.result ≡ is_below (has (past (graph_of c.args.dag.now.parents) c.args.table.now.blocks)) c.args.table.now.rows.items c.in-Some.tx =
+    let below : c.is_any_below.result ≡ is_below (has (past (graph_of c.args.dag.now) c.args.table.now.blocks)) c.args.table.now.rows.items c.in-Some.tx =
     (rw (c.carriers_of.ensures, c.deref.ensures.value) at c.is_any_below.ensures)
-    ∙ below_is c.args.dag.now.parents (carried_of c.args.table.now) c.args.table.now.blocks c.in-Some.tx c.requires.order c.requires.number in
+    ∙ below_is c.args.dag.now (carried_of c.args.table.now) c.args.table.now.blocks c.in-Some.tx c.requires.order c.requires.number in
     c.output_of.ensures
     ∙ ap (λ (txs : List Transaction). slice_get (outputs_or_none (slice_get txs c.in-Some.tx)) c.args.from.now.index) c.deref-then-is_any_below.ensures.value
-    ∙ sym (output_some c.args.dag.now.parents (carried_of c.args.table.now) (past (graph_of c.args.dag.now.parents) c.args.table.now.blocks) c.args.from.now
+    ∙ sym (output_some c.args.dag.now (carried_of c.args.table.now) (past (graph_of c.args.dag.now) c.args.table.now.blocks) c.args.from.now
     c.in-Some.tx true c.requires.linked (sym c.tx_of.ensures ∙ c.in-Some.is) (sym below ∙ c.if-is_any_below.true))
 
 pub returns-else-is_any_below : goal.returns-else-is_any_below
 returns-else-is_any_below c =
-    let below : c.is_any_below.result ≡ is_below (has (past (graph_of c.args.dag.now.parents) c.args.table.now.blocks)) c.args.table.now.rows.items c.in-Some.tx =
+    let below : c.is_any_below.result ≡ is_below (has (past (graph_of c.args.dag.now) c.args.table.now.blocks)) c.args.table.now.rows.items c.in-Some.tx =
     (rw (c.carriers_of.ensures, c.deref.ensures.value) at c.is_any_below.ensures)
-    ∙ below_is c.args.dag.now.parents (carried_of c.args.table.now) c.args.table.now.blocks c.in-Some.tx c.requires.order c.requires.number in
-    sym (output_some c.args.dag.now.parents (carried_of c.args.table.now) (past (graph_of c.args.dag.now.parents) c.args.table.now.blocks) c.args.from.now
+    ∙ below_is c.args.dag.now (carried_of c.args.table.now) c.args.table.now.blocks c.in-Some.tx c.requires.order c.requires.number in
+    sym (output_some c.args.dag.now (carried_of c.args.table.now) (past (graph_of c.args.dag.now) c.args.table.now.blocks) c.args.from.now
     c.in-Some.tx false c.requires.linked (sym c.tx_of.ensures ∙ c.in-Some.is) (sym below ∙ c.if-is_any_below.false))

@@ -14,7 +14,7 @@ use Rattle.sp_carry.proofs.worth.is_sound.Goals as goal
 
 pub returns-in-Some : goal.returns-in-Some
 returns-in-Some c =
-    let below = carried (ledger_of c.args.dag.now.parents (carried_of c.args.table.now)) (past (graph_of c.args.dag.now.parents) c.args.table.now.blocks) in
+    let below = carried (ledger_of c.args.dag.now (carried_of c.args.table.now)) (past (graph_of c.args.dag.now) c.args.table.now.blocks) in
     let other : c.args.table.now.blocks ≡ 0 → ⊥ = c.if-table-eq0.false in
     covered_some below c.args.tx.now c.paid.result c.in-Some.worth
     (ap (worth_in below) (sym (c.as_slice.ensures ∙ ap (λ (t : Transaction). t.inputs) c.tx.view_is)) ∙ sym c.worth_below.ensures ∙ c.in-Some.is)
@@ -24,7 +24,7 @@ returns-in-Some c =
 
 pub returns-in-None : goal.returns-in-None
 returns-in-None c =
-    let below = carried (ledger_of c.args.dag.now.parents (carried_of c.args.table.now)) (past (graph_of c.args.dag.now.parents) c.args.table.now.blocks) in
+    let below = carried (ledger_of c.args.dag.now (carried_of c.args.table.now)) (past (graph_of c.args.dag.now) c.args.table.now.blocks) in
     let other : c.args.table.now.blocks ≡ 0 → ⊥ = c.if-table-eq0.false in
     covered_none below c.args.tx.now
     (ap (worth_in below) (sym (c.as_slice.ensures ∙ ap (λ (t : Transaction). t.inputs) c.tx.view_is)) ∙ sym c.worth_below.ensures ∙ c.in-None.is)

@@ -12,7 +12,7 @@ use Rattle.sp_carry.proofs.worth.worth_below.Given as goal
 
 abbrev pub invariant-inputs : goal.invariant-inputs
 invariant-inputs l =
-    let below = carried (ledger_of l.dag.parents (carried_of l.table)) (past (graph_of l.dag.parents) l.table.blocks) in
+    let below = carried (ledger_of l.dag (carried_of l.table)) (past (graph_of l.dag) l.table.blocks) in
     (list_all (finds below) (map spent_by (take l.input-index l.inputs)) ≡ true)
     × (l.worth ≡ sum_by (amount_of below) (map spent_by (take l.input-index l.inputs)))
     × (l.worth ≤ l.input-index * 2 ^ 64)

@@ -15,7 +15,7 @@ numbers-preserved c = λ j i pair lt at there.
       | inr ge ↦
           let here : slice_get c.args.numbers.now c.numbers.i-index ≡ Some i = ap (slice_get c.args.numbers.now) (let e : c.numbers.i-index ≡ j = omega (arith, lt, ge) in e) ∙ at in
           let number : slice_index_or c.args.numbers.now c.numbers.i-index 0 ≡ i = get_or_from_slice_get c.args.numbers.now c.numbers.i-index i 0 here in
-          let found : Some c.pair.result ≡ Some pair = sym c.pair.ensures.pair ∙ ap (slice_get (pairs_of c.args.dag.now.parents)) number ∙ there in
+          let found : Some c.pair.result ≡ Some pair = sym c.pair.ensures.pair ∙ ap (slice_get (pairs_of c.args.dag.now)) number ∙ there in
           let same : c.pair.result ≡ pair = cc in
           subst (λ (p : ℕ × ℕ). Contains (items ++ c.pair.result ∷ []) p) same (Contains-push items c.pair.result)
     ])

@@ -2,7 +2,7 @@ use Rattle.sp_engine.proofs.Decided.{none_decided, nothing_below, nothing_right}
 use Rattle.sp_engine.proofs.first.first_accepted.Goals as goal
 
 pub accept_all-requires-clause-right : goal.accept_all-requires-clause-right
-accept_all-requires-clause-right c = nothing_right c.args.dag.now.parents c.args.carriers.now c.new-accepted.result c.new-accepted.ensures
+accept_all-requires-clause-right c = nothing_right c.args.dag.now c.args.carriers.now c.new-accepted.result c.new-accepted.ensures
 
 pub accept_all-requires-clause-first : goal.accept_all-requires-clause-first
 accept_all-requires-clause-first c = nothing_below c.args.carriers.now c.new-accepted.result c.new-accepted.ensures

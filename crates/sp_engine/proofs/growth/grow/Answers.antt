@@ -20,7 +20,7 @@ accept_all-requires-clause-first c =
 
 pub accept_all-requires-clause-told : goal.accept_all-requires-clause-told
 accept_all-requires-clause-told c =
-    told_of c.join_all.new.dag.parents c.in_ok-changed.changed.items c.as_slice-changed.result.now (length c.args.dag.now.parents) c.args.accepted.now.blocks c.as_slice-changed.ensures.value
+    told_of c.join_all.new.dag c.in_ok-changed.changed.items c.as_slice-changed.result.now (length c.args.dag.now.parents) c.args.accepted.now.blocks c.as_slice-changed.ensures.value
     (c.requires.accepting.all ∙ carried_count c.args.pool.now c.args.dag.now c.args.carriers.now c.len-before.ensures.numbered c.requires.accepting.carriers) c.in_ok-changed.ensures.told
 
 pub accept_all-requires-clause-paying : goal.accept_all-requires-clause-paying

@@ -1,5 +1,5 @@
 use Rattle.std.proofs.Common.{◌≡◌, ◌∙◌, ◌<◌, ◌≤◌, ◌-◌, ◌+◌, ℕ, List, ◌∷◌, ap, sym, arith, subst, inl, inr, length}
-use Rattle.sp_dag.specs.Numbered.{graph_of, pairs_of}
+use Rattle.sp_dag.specs.Numbered.{Numbered, graph_of, pairs_of}
 use Rattle.sp_model.specs.Graph.{has, past}
 use Rattle.sp_frozen.specs.PastVotes.{signs_of}
 use Rattle.sp_view.specs.Views.{AreKeptIds, IsBest, Viewed}
@@ -12,68 +12,68 @@ use Rattle.sp_engine.proofs.Tips.{kept_by_two, others_stay, past_and_block, past
 use Rattle.sp_engine.proofs.joining.new_tip.Goals as goal
 
 pub derive-requires-clause-views : goal.derive-requires-clause-views
-derive-requires-clause-views c = λ i view at. (view_of c.args.dag.now.parents c.args.rows.now c.args.frozen.now.blocks c.args.views.now i view c.requires.views at).0
+derive-requires-clause-views c = λ i view at. (view_of c.args.dag.now c.args.rows.now c.args.frozen.now.blocks c.args.views.now i view c.requires.views at).0
 
 pub derive-requires-clause-counts : goal.derive-requires-clause-counts
 derive-requires-clause-counts c = λ i view at r some.
     omega (
       arith,
-      few_counted c.args.dag.now.parents c.args.rows.now c.args.frozen.now.blocks c.args.views.now c.requires.shared.0 c.requires.shared.1 c.requires.views r,
+      few_counted c.args.dag.now c.args.rows.now c.args.frozen.now.blocks c.args.views.now c.requires.shared.0 c.requires.shared.1 c.requires.views r,
       c.requires.few,
     )
 
 pub derive-requires-clause-asked : goal.derive-requires-clause-asked
 derive-requires-clause-asked c =
-    past_asked c.args.dag.now.parents (c.len-b.result - 1) c.len-b.ensures.numbered.order (omega (arith, c.len-b.ensures.value, c.len-b.ensures.numbered.some)) c.past-past.result.now c.past-past.ensures
+    past_asked c.args.dag.now (c.len-b.result - 1) c.len-b.ensures.numbered.order (omega (arith, c.len-b.ensures.value, c.len-b.ensures.numbered.some)) c.past-past.result.now c.past-past.ensures
     c.count-members.ensures.row
 
 pub derive-requires-clause-added : goal.derive-requires-clause-added
 derive-requires-clause-added c = λ z h.
     let less : z < c.len-b.result - 1 =
-    past_lower c.args.dag.now.parents (c.len-b.result - 1) c.len-b.ensures.numbered.order (omega (arith, c.len-b.ensures.value, c.len-b.ensures.numbered.some)) c.past-past.result.now c.past-past.ensures z h in
+    past_lower c.args.dag.now (c.len-b.result - 1) c.len-b.ensures.numbered.order (omega (arith, c.len-b.ensures.value, c.len-b.ensures.numbered.some)) c.past-past.result.now c.past-past.ensures z h in
     omega (arith, less, c.requires.next, c.len-b.ensures.value)
 
 pub derive-requires-clause-few : goal.derive-requires-clause-few
 derive-requires-clause-few c =
-    let small : length (pairs_of c.args.dag.now.parents) ≤ 130816 = omega (arith, c.pair_count-pairs.ensures.value, c.pair_count-pairs.ensures.bound) in
+    let small : length (pairs_of c.args.dag.now) ≤ 130816 = omega (arith, c.pair_count-pairs.ensures.value, c.pair_count-pairs.ensures.bound) in
     omega (
       arith,
-      few_live_beside c.args.dag.now.parents c.args.rows.now c.args.frozen.now.blocks c.args.views.now c.requires.shared.0 c.requires.shared.1 small c.requires.views c.live-live.ensures.rows,
+      few_live_beside c.args.dag.now c.args.rows.now c.args.frozen.now.blocks c.args.views.now c.requires.shared.0 c.requires.shared.1 small c.requires.views c.live-live.ensures.rows,
       c.requires.few,
     )
 
 pub past_votes-requires-clause-listed : goal.past_votes-requires-clause-listed
 past_votes-requires-clause-listed c =
-    view_listed c.args.dag.now.parents c.in_ok-tip.tip c.derive.new.pool c.args.frozen.now c.in_ok-tip.ensures.ok c.requires.frozen
+    view_listed c.args.dag.now c.in_ok-tip.tip c.derive.new.pool c.args.frozen.now c.in_ok-tip.ensures.ok c.requires.frozen
     (λ z h.
     let less : z < c.len-b.result - 1 =
-    past_lower c.args.dag.now.parents (c.len-b.result - 1) c.len-b.ensures.numbered.order (omega (arith, c.len-b.ensures.value, c.len-b.ensures.numbered.some)) c.in_ok-tip.tip.members
+    past_lower c.args.dag.now (c.len-b.result - 1) c.len-b.ensures.numbered.order (omega (arith, c.len-b.ensures.value, c.len-b.ensures.numbered.some)) c.in_ok-tip.tip.members
     (c.in_ok-tip.ensures.members ∙ c.past-past.ensures) z h in
     omega (arith, less, c.requires.next, c.len-b.ensures.value))
 
 pub add-requires-clause-votes : goal.add-requires-clause-votes
 add-requires-clause-votes c =
-    c.in_ok-signs.ensures c.args.dag.now.parents c.in_ok-tip.ensures.ok c.requires.frozen
+    c.in_ok-signs.ensures c.args.dag.now c.in_ok-tip.ensures.ok c.requires.frozen
     (λ z h.
     let less : z < c.len-b.result - 1 =
-    past_lower c.args.dag.now.parents (c.len-b.result - 1) c.len-b.ensures.numbered.order (omega (arith, c.len-b.ensures.value, c.len-b.ensures.numbered.some)) c.in_ok-tip.tip.members
+    past_lower c.args.dag.now (c.len-b.result - 1) c.len-b.ensures.numbered.order (omega (arith, c.len-b.ensures.value, c.len-b.ensures.numbered.some)) c.in_ok-tip.tip.members
     (c.in_ok-tip.ensures.members ∙ c.past-past.ensures) z h in
     omega (arith, less, c.requires.next, c.len-b.ensures.value))
-    ∙ ap (λ (l : List ℕ). signs_of c.args.dag.now.parents l) (c.in_ok-tip.ensures.members ∙ c.past-past.ensures)
+    ∙ ap (λ (l : List ℕ). signs_of c.args.dag.now l) (c.in_ok-tip.ensures.members ∙ c.past-past.ensures)
 
 pub add-requires-2-clause-new : goal.add-requires-2-clause-new
 add-requires-2-clause-new c =
-    past_without c.args.dag.now.parents (c.len-b.result - 1) c.len-b.ensures.numbered.order (omega (arith, c.len-b.ensures.value, c.len-b.ensures.numbered.some)) c.in_ok-tip.tip.members
+    past_without c.args.dag.now (c.len-b.result - 1) c.len-b.ensures.numbered.order (omega (arith, c.len-b.ensures.value, c.len-b.ensures.numbered.some)) c.in_ok-tip.tip.members
     (c.in_ok-tip.ensures.members ∙ c.past-past.ensures)
 
 pub add-requires-2-clause-past : goal.add-requires-2-clause-past
 add-requires-2-clause-past c =
-    past_there c.args.dag.now.parents (c.len-b.result - 1) c.len-b.ensures.numbered.order (omega (arith, c.len-b.ensures.value, c.len-b.ensures.numbered.some)) c.in_ok-tip.tip.members
+    past_there c.args.dag.now (c.len-b.result - 1) c.len-b.ensures.numbered.order (omega (arith, c.len-b.ensures.value, c.len-b.ensures.numbered.some)) c.in_ok-tip.tip.members
     (c.in_ok-tip.ensures.members ∙ c.past-past.ensures)
 
 pub add-requires-2-clause-few : goal.add-requires-2-clause-few
 add-requires-2-clause-few c =
-    let table : List (List ℕ) = c.args.dag.now.parents in
+    let table : Numbered = c.args.dag.now in
     let small : length (pairs_of table) ≤ 130816 = omega (arith, c.pair_count-pairs.ensures.value, c.pair_count-pairs.ensures.bound) in
     let tip : Viewed = c.in_ok-tip.tip in
     let lower = past_lower table (c.len-b.result - 1) c.len-b.ensures.numbered.order (omega (arith, c.len-b.ensures.value, c.len-b.ensures.numbered.some)) tip.members
@@ -96,9 +96,9 @@ add-requires-2-clause-few c =
 
 pub returns-clause-views : goal.returns-clause-views
 returns-clause-views c =
-    let table : List (List ℕ) = c.args.dag.now.parents in
+    let table : Numbered = c.args.dag.now in
     let tip : Viewed = c.in_ok-tip.tip in
-    let lt : c.len-b.result - 1 < length table = omega (arith, c.len-b.ensures.value, c.len-b.ensures.numbered.some) in
+    let lt : c.len-b.result - 1 < length table.parents = omega (arith, c.len-b.ensures.value, c.len-b.ensures.numbered.some) in
     let is = c.in_ok-tip.ensures.members ∙ c.past-past.ensures in (
       c.in_ok-add-2.ensures.ok,
       (λ z h. elim (more_parts table c.len-b.ensures.numbered.order c.len-b.ensures.numbered.small tip.members (c.len-b.result - 1) c.in_ok-tip.ensures.ok.asked c.in_ok-tip.ensures.ok.below lt
@@ -115,7 +115,7 @@ returns-clause-views c =
 
 pub returns-clause-shared : goal.returns-clause-shared
 returns-clause-shared c = λ beside shared.
-    let table : List (List ℕ) = c.args.dag.now.parents in
+    let table : Numbered = c.args.dag.now in
     let n : ℕ = c.args.frozen.now.blocks in
     let views : List Viewed = c.args.views.now in
     let tip : Viewed = c.in_ok-tip.tip in
@@ -125,15 +125,15 @@ returns-clause-shared c = λ beside shared.
 
 pub returns-clause-members : goal.returns-clause-members
 returns-clause-members c =
-    let table : List (List ℕ) = c.args.dag.now.parents in
-    let lt : c.len-b.result - 1 < length table = omega (arith, c.len-b.ensures.value, c.len-b.ensures.numbered.some) in
+    let table : Numbered = c.args.dag.now in
+    let lt : c.len-b.result - 1 < length table.parents = omega (arith, c.len-b.ensures.value, c.len-b.ensures.numbered.some) in
     let at_b : c.len-b.result - 1 ≡ c.args.frozen.now.blocks = omega (arith, c.requires.next, c.len-b.ensures.value) in
     past_and_block table (c.len-b.result - 1) c.len-b.ensures.numbered.order lt c.in_ok-tip.tip.members (c.in_ok-tip.ensures.members ∙ c.past-past.ensures) c.add-2.new.self.members c.in_ok-add-2.ensures.members
     ∙ ap (bar_row table) at_b
 
 pub returns-clause-kept : goal.returns-clause-kept
 returns-clause-kept c = λ i base best.
-    let table : List (List ℕ) = c.args.dag.now.parents in
+    let table : Numbered = c.args.dag.now in
     let at_b : c.len-b.result - 1 ≡ c.args.frozen.now.blocks = omega (arith, c.requires.next, c.len-b.ensures.value) in
     let is : c.past-past.result.now ≡ past (graph_of table) c.args.frozen.now.blocks = c.past-past.ensures ∙ ap (past (graph_of table)) at_b in
     subst (λ (mid : List ℕ). AreKeptIdsBy table base.members mid c.add-2.new.self.members base.entries c.add-2.new.self.entries) is

@@ -1,5 +1,5 @@
 use Rattle.std.proofs.Common.{◌≡◌, ◌∙◌, ◌≤◌, ◌-◌, ℕ, List, ◌∷◌, ◌++◌, [], sym, arith, subst, length}
-use Rattle.sp_dag.specs.Numbered.{pairs_of}
+use Rattle.sp_dag.specs.Numbered.{Numbered, pairs_of}
 use Rattle.sp_view.specs.Views.{Viewed}
 use Rattle.sp_engine.specs.Votes.{AreShared, AreViews, IsPut}
 use Rattle.sp_engine.proofs.Beside.{few_live_beside}
@@ -7,14 +7,14 @@ use Rattle.sp_engine.proofs.Ending.{IsAtEnd, at_end, below_after, is_put, last_b
 use Rattle.sp_engine.proofs.joining.put_tip.Goals as goal
 
 pub overflow_sub-last : goal.overflow_sub-last
-overflow_sub-last c = omega (arith, c.len-last.ensures, some_there c.args.dag.now.parents c.len-b.result c.args.views.now.items c.len-b.ensures.value c.len-b.ensures.numbered.some c.requires.last)
+overflow_sub-last c = omega (arith, c.len-last.ensures, some_there c.args.dag.now c.len-b.result c.args.views.now.items c.len-b.ensures.value c.len-b.ensures.numbered.some c.requires.last)
 
 pub index_mut-requires : goal.index_mut-requires
-index_mut-requires c = omega (arith, c.len-last.ensures, some_there c.args.dag.now.parents c.len-b.result c.args.views.now.items c.len-b.ensures.value c.len-b.ensures.numbered.some c.requires.last)
+index_mut-requires c = omega (arith, c.len-last.ensures, some_there c.args.dag.now c.len-b.result c.args.views.now.items c.len-b.ensures.value c.len-b.ensures.numbered.some c.requires.last)
 
 pub add-requires : goal.add-requires
 add-requires c =
-    let table : List (List ℕ) = c.args.dag.now.parents in
+    let table : Numbered = c.args.dag.now in
     let rows = c.args.rows.now in
     let b : ℕ = c.len-b.result - 1 in
     let n : ℕ = c.args.frozen.now.blocks in
@@ -40,7 +40,7 @@ add-requires c =
 
 pub returns : goal.returns
 returns c =
-    let table : List (List ℕ) = c.args.dag.now.parents in
+    let table : Numbered = c.args.dag.now in
     let rows = c.args.rows.now in
     let b : ℕ = c.len-b.result - 1 in
     let n : ℕ = c.args.frozen.now.blocks in

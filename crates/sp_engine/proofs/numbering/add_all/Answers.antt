@@ -13,6 +13,7 @@ add_one-requires-clause-voted c = (c.requires.voted.0, c.loop-id.invariant.voted
 pub loop-id-preserved : goal.loop-id-preserved
 loop-id-preserved c = record {
   numbered = c.in_ok-add_one.ensures.numbered;
+  profile = c.in_ok-add_one.ensures.profile ∙ c.loop-id.invariant.profile;
   voted = λ beside voted. c.in_ok-add_one.ensures.voted beside (c.loop-id.invariant.voted beside voted);
   none = λ at. absurd (omega (arith, at));
   one = λ at.

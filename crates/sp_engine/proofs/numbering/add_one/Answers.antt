@@ -1,15 +1,15 @@
-use Rattle.std.proofs.Common.{◌≡◌, ◌<◌, ◌∙◌, ◌++◌, ◌∷◌, [], map, sym, ap, length, arith}
+use Rattle.std.proofs.Common.{◌≡◌, ◌<◌, ◌∙◌, map, sym, ap, length, arith}
 use Rattle.std.specs.Option.{option_copied}
 use Rattle.sp_block.specs.Block.{ReadBlock}
 use Rattle.std.specs.List.{list_all}
-use Rattle.sp_model.specs.Graph.{has, parents_of}
+use Rattle.sp_model.specs.Graph.{has, parents_of, rank_of}
 use Rattle.sp_pool.specs.Kept.{graph_of}
 use Rattle.sp_carry.specs.Carried.{with_block}
 use Rattle.sp_engine.proofs.CarriedBlocks.{AreCarried-more, carried_count, few_txs}
 use Rattle.sp_engine.proofs.Decided.{block_below, block_longer, block_right}
 use Rattle.sp_engine.proofs.Facts.{all_items, is_found, room_left}
-use Rattle.sp_engine.proofs.NumberedBlocks.{AreNumbered-more, found_by, next_closed, next_fresh, next_kept}
-use Rattle.sp_dag.specs.Numbered.{number_of, Numbered}
+use Rattle.sp_engine.proofs.NumberedBlocks.{AreNumbered-more, found_by, found_salt, next_closed, next_fresh, next_kept}
+use Rattle.sp_dag.specs.Numbered.{number_of}
 use Rattle.sp_engine.proofs.Onward.{votes_stay}
 use Rattle.sp_engine.proofs.Paying.{block_goes}
 use Rattle.sp_engine.proofs.numbering.add_one.Goals as goal
@@ -46,49 +46,53 @@ returns-clause-numbered c =
     let is : parents_of (graph_of kept) c.args.id.now ≡ c.as_slice.result.now =
     found_by kept c.args.id.now c.in-Some.block.now c.kept-kept.ensures.blocks.apart (sym c.block.ensures ∙ ap option_copied c.in-Some.is)
     ∙ sym (ap (λ (b : ReadBlock). b.parents) c.block-in-Some.view_is) ∙ sym c.as_slice.ensures in
-    AreNumbered-more kept c.args.dag.now c.add.new.self c.args.id.now c.as_slice.result.now c.kept-kept.ensures.blocks c.len-blocks.ensures.numbered c.requires.numbered c.requires.next is c.in_ok-number-in-Some.ensures.ok
+    let is_salt : (rank_of (graph_of kept) c.args.id.now).salt ≡ c.block-in-Some.inside.salt =
+    found_salt kept c.args.id.now c.in-Some.block.now c.kept-kept.ensures.blocks.apart (sym c.block.ensures ∙ ap option_copied c.in-Some.is)
+    ∙ sym (ap (λ (b : ReadBlock). b.salt) c.block-in-Some.view_is) in
+    AreNumbered-more kept c.args.dag.now c.add.new.self c.args.id.now c.block-in-Some.inside.salt c.as_slice.result.now c.kept-kept.ensures.blocks c.len-blocks.ensures.numbered
+    c.requires.numbered c.requires.next is is_salt c.in_ok-number-in-Some.ensures.ok
 
 pub add-requires-in-Some-2-clause-few : goal.add-requires-in-Some-2-clause-few
 add-requires-in-Some-2-clause-few c = few_txs _ c.block-in-Some.invariant
 
 pub returns-clause-carried : goal.returns-clause-carried
 returns-clause-carried c =
-    AreCarried-more c.args.pool.now c.args.dag.now c.add.new.self c.args.carriers.now c.add-in-Some-2.new.self c.args.id.now c.as_slice.result.now c.in-Some.block.now
+    AreCarried-more c.args.pool.now c.args.dag.now c.add.new.self c.args.carriers.now c.add-in-Some-2.new.self c.args.id.now c.block-in-Some.inside.salt c.as_slice.result.now c.in-Some.block.now
     c.len-blocks.ensures.numbered c.len-more.ensures.numbered c.requires.carried (sym c.block.ensures ∙ ap option_copied c.in-Some.is) c.in_ok-number-in-Some.ensures.ok
-    c.block_count-added.ensures.carried (c.in_ok-add-in-Some-2.ensures.ok ∙ ap (λ (b : ReadBlock). with_block c.add.new.self.parents c.args.carriers.now b.txs) c.block-in-Some.view_is)
+    c.block_count-added.ensures.carried (c.in_ok-add-in-Some-2.ensures.ok ∙ ap (λ (b : ReadBlock). with_block c.add.new.self c.args.carriers.now b.txs) c.block-in-Some.view_is)
 
 pub returns-clause-more : goal.returns-clause-more
 returns-clause-more c =
-    block_goes c.add.new.self.parents c.args.carriers.now c.add-in-Some-2.new.self c.in-Some.block.now.txs
-    (c.in_ok-add-in-Some-2.ensures.ok ∙ ap (λ (b : ReadBlock). with_block c.add.new.self.parents c.args.carriers.now b.txs) c.block-in-Some.view_is)
+    block_goes c.add.new.self c.args.carriers.now c.add-in-Some-2.new.self c.in-Some.block.now.txs
+    (c.in_ok-add-in-Some-2.ensures.ok ∙ ap (λ (b : ReadBlock). with_block c.add.new.self c.args.carriers.now b.txs) c.block-in-Some.view_is)
 
 pub add-requires-in-Some-clause-holds : goal.add-requires-in-Some-clause-holds
 add-requires-in-Some-clause-holds c = (
   c.requires.voted.0,
-  votes_stay c.args.dag.now.parents c.add.new.self.parents (map (number_of c.args.dag.now.ids) c.as_slice.result.now) c.args.votes.now c.requires.voted.0
-      (ap (λ (n : Numbered). n.parents) c.in_ok-number-in-Some.ensures.ok) c.len-blocks.ensures.numbered.order c.len-more.ensures.numbered.order (omega (arith, c.requires.voted.1.every)) c.requires.voted.1.holds,
+  votes_stay c.args.dag.now c.add.new.self c.args.id.now c.block-in-Some.inside.salt (map (number_of c.args.dag.now.ids) c.as_slice.result.now) c.args.votes.now c.requires.voted.0
+      c.in_ok-number-in-Some.ensures.ok c.len-blocks.ensures.numbered c.len-more.ensures.numbered.order (omega (arith, c.requires.voted.1.every)) c.requires.voted.1.holds,
 )
 
 pub returns-clause-voted : goal.returns-clause-voted
 returns-clause-voted c = λ beside voted.
     c.in_ok-add-in-Some.ensures.voted beside
-    (votes_stay c.args.dag.now.parents c.add.new.self.parents (map (number_of c.args.dag.now.ids) c.as_slice.result.now) c.args.votes.now beside
-    (ap (λ (n : Numbered). n.parents) c.in_ok-number-in-Some.ensures.ok) c.len-blocks.ensures.numbered.order c.len-more.ensures.numbered.order (omega (arith, voted.every)) voted.holds)
+    (votes_stay c.args.dag.now c.add.new.self c.args.id.now c.block-in-Some.inside.salt (map (number_of c.args.dag.now.ids) c.as_slice.result.now) c.args.votes.now beside
+    c.in_ok-number-in-Some.ensures.ok c.len-blocks.ensures.numbered c.len-more.ensures.numbered.order (omega (arith, voted.every)) voted.holds)
 
 pub returns-clause-right : goal.returns-clause-right
 returns-clause-right c = λ a right.
-    let added = c.in_ok-add-in-Some-2.ensures.ok ∙ ap (λ (b : ReadBlock). with_block c.add.new.self.parents c.args.carriers.now b.txs) c.block-in-Some.view_is in
+    let added = c.in_ok-add-in-Some-2.ensures.ok ∙ ap (λ (b : ReadBlock). with_block c.add.new.self c.args.carriers.now b.txs) c.block-in-Some.view_is in
     let long : c.args.carriers.now.blocks ≡ length c.args.dag.now.parents = carried_count c.args.pool.now c.args.dag.now c.args.carriers.now c.len-blocks.ensures.numbered c.requires.carried in
-    let more : c.add.new.self.parents ≡ c.args.dag.now.parents ++ map (number_of c.args.dag.now.ids) c.as_slice.result.now ∷ [] = ap (λ (n : Numbered). n.parents) c.in_ok-number-in-Some.ensures.ok in
-    block_right c.args.dag.now.parents c.add.new.self.parents (map (number_of c.args.dag.now.ids) c.as_slice.result.now) c.args.carriers.now c.add-in-Some-2.new.self c.in-Some.block.now.txs a more
-    c.len-blocks.ensures.numbered.order c.len-more.ensures.numbered.order c.requires.carried.carried c.block_count-added.ensures.carried (omega (arith, long)) added right
+    block_right c.args.dag.now c.add.new.self c.args.id.now c.block-in-Some.inside.salt (map (number_of c.args.dag.now.ids) c.as_slice.result.now) c.args.carriers.now c.add-in-Some-2.new.self
+    c.in-Some.block.now.txs a c.in_ok-number-in-Some.ensures.ok
+    c.len-blocks.ensures.numbered c.len-more.ensures.numbered.order c.requires.carried.carried c.block_count-added.ensures.carried (omega (arith, long)) added right
 
 pub returns-clause-blocks : goal.returns-clause-blocks
 returns-clause-blocks c =
-    block_longer c.add.new.self.parents c.args.carriers.now c.add-in-Some-2.new.self c.in-Some.block.now.txs
-    (c.in_ok-add-in-Some-2.ensures.ok ∙ ap (λ (b : ReadBlock). with_block c.add.new.self.parents c.args.carriers.now b.txs) c.block-in-Some.view_is)
+    block_longer c.add.new.self c.args.carriers.now c.add-in-Some-2.new.self c.in-Some.block.now.txs
+    (c.in_ok-add-in-Some-2.ensures.ok ∙ ap (λ (b : ReadBlock). with_block c.add.new.self c.args.carriers.now b.txs) c.block-in-Some.view_is)
 
 pub returns-clause-below : goal.returns-clause-below
 returns-clause-below c = λ n le.
-    block_below c.add.new.self.parents c.args.carriers.now c.add-in-Some-2.new.self c.in-Some.block.now.txs n
-    (c.in_ok-add-in-Some-2.ensures.ok ∙ ap (λ (b : ReadBlock). with_block c.add.new.self.parents c.args.carriers.now b.txs) c.block-in-Some.view_is) le
+    block_below c.add.new.self c.args.carriers.now c.add-in-Some-2.new.self c.in-Some.block.now.txs n
+    (c.in_ok-add-in-Some-2.ensures.ok ∙ ap (λ (b : ReadBlock). with_block c.add.new.self c.args.carriers.now b.txs) c.block-in-Some.view_is) le

@@ -15,6 +15,6 @@ returns-clause-one c =
     (λ pairs told at.
     let grown = c.in_ok-add_all.ensures.one at in (
       grown.0,
-      grew_by_views c.add_all.new.dag.parents (length c.args.dag.now.parents) c.fork.new.self c.args.votes.now c.add_all.new.votes c.changes.new.self (sym c.in_ok-fork.ensures.views) c.changes.ensures.views grown.1,
+      grew_by_views c.add_all.new.dag (length c.args.dag.now.parents) c.fork.new.self c.args.votes.now c.add_all.new.votes c.changes.new.self (sym c.in_ok-fork.ensures.views) c.changes.ensures.views grown.1,
     ))
     c.changes.ensures.told

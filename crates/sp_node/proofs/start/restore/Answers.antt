@@ -10,6 +10,7 @@ use Rattle.sp_node.proofs.start.restore.Goals as goal
 pub each-init : goal.each-init
 each-init c = record {
   whole = c.requires.whole;
+  profile = refl;
   bits = refl;
   place = omega arith;
   restored = record { so_far = sym (append-nil c.args.engine.now.kept); sent = refl; rest = c.requires.good };
@@ -27,6 +28,7 @@ each-preserved c =
     ∙ ap (λ (b : ReadBlock). kept_after bits c.each.engine.kept b.bytes) c.block.view_is in
     record {
       whole = c.in_ok-offer.ensures.broken;
+      profile = c.in_ok-offer.ensures.profile ∙ c.each.invariant.profile;
       bits = c.offer.ensures.bits ∙ c.each.invariant.bits;
       place = omega (arith, c.each-test.true);
       restored = one_restored bits before blocks c.each.engine.kept c.offer.new.self.kept c.each.i block c.each.invariant.restored c.each-test.true c.index-blocks-i.is

@@ -11,7 +11,7 @@ use Rattle.sp_plain.proofs.ballots.sum_of_future.Goals.{then-test+then-in_past, 
 
 pub loop-w-preserved : goal.loop-w-preserved
 loop-w-preserved c =
-    let p = λ (v : ℕ). has c.args.members.now v && in_past (graph_of c.args.dag.now.parents) c.args.z v in
+    let p = λ (v : ℕ). has c.args.members.now v && in_past (graph_of c.args.dag.now) c.args.z v in
     let f = λ (v : ℕ). slice_index_or c.args.votes.now v (pos 0) in
     elim c.if-test.branch [
       | then-test+then-in_past w ↦ record {
@@ -31,7 +31,7 @@ loop-w-preserved c =
 
 pub returns : goal.returns
 returns c =
-    let q = λ (v : ℕ). in_past (graph_of c.args.dag.now.parents) c.args.z v in
+    let q = λ (v : ℕ). in_past (graph_of c.args.dag.now) c.args.z v in
     let f = λ (v : ℕ). slice_index_or c.args.votes.now v (pos 0) in
     let all : c.loop-w.w ≡ length c.args.votes.now = omega arith in
     c.loop-w.invariant.sum ∙ ap (λ (n : ℕ). total f (filter (λ w. has c.args.members.now w && q w) (range_with_len 0 n))) all

@@ -7,7 +7,7 @@ use Rattle.sp_plain.proofs.ballots.sum_of_future.Given as goal
 
 abbrev pub invariant-loop-w : goal.invariant-loop-w
 invariant-loop-w l = record {
-  sum : l.sum ≡ total (λ w. slice_index_or l.votes w (pos 0)) (filter (λ w. has l.members w && in_past (graph_of l.dag.parents) l.z w) (range_with_len 0 l.w));
+  sum : l.sum ≡ total (λ w. slice_index_or l.votes w (pos 0)) (filter (λ w. has l.members w && in_past (graph_of l.dag) l.z w) (range_with_len 0 l.w));
   high : l.sum ≤ℤ pos (128 * l.w);
   low : pos 0 ≤ℤ (l.sum +ℤ pos (128 * l.w));
 }

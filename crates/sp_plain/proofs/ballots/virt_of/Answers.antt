@@ -12,5 +12,5 @@ returns c =
     let f' : FitsSigned w32 c.sum_of_members.result = search rules in
     record {
       ok = to_z-of_z w8 _ f ∙ c.sign_of.ensures ∙ ap sgn (to_z-of_z w32 _ f') ∙ ap sgn c.sum_of_members.ensures
-          ∙ rw c.deref.ensures.value (virt_by_table (graph_of c.args.dag.now.parents) c.args.members.now c.args.width c.args.x c.args.y _ c.requires.below c.in_ok-votes.ensures.ok);
+          ∙ rw c.deref.ensures.value (virt_by_table (graph_of c.args.dag.now) c.args.members.now c.args.width c.args.x c.args.y _ c.requires.below c.in_ok-votes.ensures.ok);
     }

@@ -6,5 +6,5 @@ use Rattle.sp_plain.proofs.ballots.votes_of.Given as goal
 abbrev pub invariant-loop-z : goal.invariant-loop-z
 invariant-loop-z l = record {
   long : length l.votes.items ≡ l.width;
-  known : AreVotesFrom (graph_of l.dag.parents) l.members l.width l.x l.y l.z l.votes.items;
+  known : AreVotesFrom (graph_of l.dag) l.members l.width l.x l.y l.z l.votes.items;
 }

@@ -5,6 +5,6 @@ use Rattle.sp_plain.proofs.plain.pasts_of.Given as goal
 
 abbrev pub invariant-loop-z : goal.invariant-loop-z
 invariant-loop-z l = record {
-  pasts : ArePasts (graph_of l.dag.parents) l.pasts.items;
+  pasts : ArePasts (graph_of l.dag) l.pasts.items;
   long : length l.pasts.items ≡ l.z;
 }

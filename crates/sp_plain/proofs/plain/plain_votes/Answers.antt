@@ -7,10 +7,10 @@ use Rattle.sp_plain.proofs.Entries.{has_virts}
 use Rattle.sp_plain.proofs.plain.plain_votes.Goals as goal
 
 pub virts_of-requires-clause-whole : goal.virts_of-requires-clause-whole
-virts_of-requires-clause-whole c = closed_downset c.args.dag.now.parents c.args.members.now c.len.ensures.numbered.order c.requires
+virts_of-requires-clause-whole c = closed_downset c.args.dag.now c.args.members.now c.len.ensures.numbered.order c.requires
 
 pub returns : goal.returns
 returns c =
-    let g : Graph = graph_of c.args.dag.now.parents in
+    let g : Graph = graph_of c.args.dag.now in
     let n : ℕ = length c.args.dag.now.parents in
     subst (HasVirts g c.args.members.now n) (sym (c.in_ok-matrix.ensures.ok ∙ ap (virts_in g c.args.members.now) c.len.ensures.value)) (has_virts g c.args.members.now n)

@@ -5,4 +5,4 @@ use Rattle.sp_plain.proofs.Entries.{grid}
 use Rattle.sp_plain.proofs.plain.virts_of.Given as goal
 
 abbrev pub invariant-loop-x : goal.invariant-loop-x
-invariant-loop-x l = l.votes.items ≡ grid (virt (graph_of l.dag.parents) l.members) l.x l.width
+invariant-loop-x l = l.votes.items ≡ grid (virt (graph_of l.dag) l.members) l.x l.width

@@ -17,6 +17,7 @@ returns-clause-items c =
 
 pub returns-clause-once : goal.returns-clause-once
 returns-clause-once c =
+    let profile = c.args.engine.now.profile in
     let kept = c.args.engine.now.kept in
-    let p = λ (id : ℕ). is_accepted (ledger_by_id kept) (present kept) id in
+    let p = λ (id : ℕ). is_accepted (ledger_by_id profile kept) (present kept) id in
     subst (λ (l : List ℕ). AreDistinct l) (sym (returns-clause-items c)) (ascending_once (filter p (tx_ids kept)) (distinct_passing p (tx_ids kept) c.tx_count-count.ensures.once))

@@ -15,6 +15,7 @@ returns-clause-items c =
 
 pub returns-clause-once : goal.returns-clause-once
 returns-clause-once c =
+    let profile = c.args.engine.now.profile in
     let kept = c.args.engine.now.kept in
-    let p = λ (lock : ℕ). not (balance_by_id kept lock == 0) in
+    let p = λ (lock : ℕ). not (balance_by_id profile kept lock == 0) in
     subst (λ (l : List ℕ). AreDistinct l) (sym (returns-clause-items c)) (ascending_once (filter p (locks kept)) (distinct_passing p (locks kept) c.lock_count-count.ensures.once))

@@ -7,6 +7,6 @@ use Rattle.sp_report.proofs.listed.numbered_accepted.Given as goal
 
 abbrev pub invariant-number : goal.invariant-number
 invariant-number l = record {
-  ids : l.ids.items ≡ filter (λ id. is_accepted (ledger_by_id l.engine.kept) (present l.engine.kept) id) (take l.number (tx_ids l.engine.kept));
+  ids : l.ids.items ≡ filter (λ id. is_accepted (ledger_by_id l.engine.profile l.engine.kept) (present l.engine.kept) id) (take l.number (tx_ids l.engine.kept));
   few : length l.ids.items ≤ l.number;
 }

@@ -5,6 +5,6 @@ use Rattle.sp_report.proofs.listed.numbered_paid.Given as goal
 
 abbrev pub invariant-number : goal.invariant-number
 invariant-number l = record {
-  locks : l.paid.items ≡ filter (λ lock. not (balance_by_id l.engine.kept lock == 0)) (take l.number (locks l.engine.kept));
+  locks : l.paid.items ≡ filter (λ lock. not (balance_by_id l.engine.profile l.engine.kept lock == 0)) (take l.number (locks l.engine.kept));
   few : length l.paid.items ≤ l.number;
 }

@@ -8,6 +8,6 @@ abbrev pub invariant-place : goal.invariant-place
 invariant-place g l =
     let taken = g.K.Sink.taken in let faults = g.K.Sink.faults in
     record {
-      text : Wrote (taken l.fn.sink) (taken l.sink) (l.fn.page ++ all_votes (labels_of l.naming) l.engine.kept l.ids) (l.page ++ all_votes (labels_of l.naming) l.engine.kept (drop l.place l.ids));
+      text : Wrote (taken l.fn.sink) (taken l.sink) (l.fn.page ++ all_votes l.engine.profile (labels_of l.naming) l.engine.kept l.ids) (l.page ++ all_votes l.engine.profile (labels_of l.naming) l.engine.kept (drop l.place l.ids));
       quiet : faults l.sink ≡ faults l.fn.sink;
     }

@@ -11,7 +11,7 @@ pub returns-in_err-push-clause-err : goal.returns-in_err-push-clause-err
 unfolding pairs_of_ids_text
 returns-in_err-push-clause-err g c =
     let head = pair_count_text (length (pairs_of c.args.ids.now)) in
-    let rest = all_votes (labels_of c.args.naming.now) c.args.engine.now.kept c.args.ids.now in
+    let rest = all_votes c.args.engine.now.profile (labels_of c.args.naming.now) c.args.engine.now.kept c.args.ids.now in
     let e = c.as_slice.ensures.bytes ∙ c.pair_count_line-line.ensures ∙ ap pair_count_text c.pair_count.ensures in
     on_err c.from_residual.result _ (start_stops c.new-page.result c.as_slice.result.now head rest c.new-page.ensures e c.in_err-push.ensures.err)
 
@@ -19,7 +19,7 @@ pub returns-in_err-push_pairs-clause-err : goal.returns-in_err-push_pairs-clause
 unfolding pairs_of_ids_text
 returns-in_err-push_pairs-clause-err g c =
     let head = pair_count_text (length (pairs_of c.args.ids.now)) in
-    let rest = all_votes (labels_of c.args.naming.now) c.args.engine.now.kept c.args.ids.now in
+    let rest = all_votes c.args.engine.now.profile (labels_of c.args.naming.now) c.args.engine.now.kept c.args.ids.now in
     let e = c.as_slice.ensures.bytes ∙ c.pair_count_line-line.ensures ∙ ap pair_count_text c.pair_count.ensures in
     let w = start_goes c.new-page.result c.as_slice.result.now head rest c.new-page.ensures e c.in_ok-push.ensures.ok in
     on_err c.from_residual-in_err-push_pairs.result _ (front_then w c.in_err-push_pairs.ensures.err)
@@ -29,7 +29,7 @@ unfolding pairs_of_ids_text
 returns-clause-ok g c =
     let taken = g.K.Sink.taken in
     let head = pair_count_text (length (pairs_of c.args.ids.now)) in
-    let rest = all_votes (labels_of c.args.naming.now) c.args.engine.now.kept c.args.ids.now in
+    let rest = all_votes c.args.engine.now.profile (labels_of c.args.naming.now) c.args.engine.now.kept c.args.ids.now in
     let e = c.as_slice.ensures.bytes ∙ c.pair_count_line-line.ensures ∙ ap pair_count_text c.pair_count.ensures in
     let w = start_goes c.new-page.result c.as_slice.result.now head rest c.new-page.ensures e c.in_ok-push.ensures.ok in
     all_goes (taken c.args.sink.now) (taken c.push_pairs.new.sink) (taken c.flush.new.sink) (head ++ rest) c.push_pairs.new.page c.flush.result
@@ -40,7 +40,7 @@ unfolding pairs_of_ids_text
 returns-clause-err g c =
     let taken = g.K.Sink.taken in
     let head = pair_count_text (length (pairs_of c.args.ids.now)) in
-    let rest = all_votes (labels_of c.args.naming.now) c.args.engine.now.kept c.args.ids.now in
+    let rest = all_votes c.args.engine.now.profile (labels_of c.args.naming.now) c.args.engine.now.kept c.args.ids.now in
     let e = c.as_slice.ensures.bytes ∙ c.pair_count_line-line.ensures ∙ ap pair_count_text c.pair_count.ensures in
     let w = start_goes c.new-page.result c.as_slice.result.now head rest c.new-page.ensures e c.in_ok-push.ensures.ok in
     rest_stops (taken c.args.sink.now) (taken c.push_pairs.new.sink) (taken c.flush.new.sink) (head ++ rest) c.push_pairs.new.page c.flush.result

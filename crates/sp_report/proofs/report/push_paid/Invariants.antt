@@ -9,6 +9,6 @@ abbrev pub invariant-lock : goal.invariant-lock
 invariant-lock g l =
     let taken = g.K.Sink.taken in let faults = g.K.Sink.faults in
     record {
-      text : Wrote (taken l.fn.sink) (taken l.sink) (l.fn.page ++ flat_map (paid_text (labels_of l.naming) l.engine.kept) l.locks) (l.page ++ flat_map (paid_text (labels_of l.naming) l.engine.kept) (drop l.lock-index l.locks));
+      text : Wrote (taken l.fn.sink) (taken l.sink) (l.fn.page ++ flat_map (paid_text l.engine.profile (labels_of l.naming) l.engine.kept) l.locks) (l.page ++ flat_map (paid_text l.engine.profile (labels_of l.naming) l.engine.kept) (drop l.lock-index l.locks));
       quiet : faults l.sink ≡ faults l.fn.sink;
     }

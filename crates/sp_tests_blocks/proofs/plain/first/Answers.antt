@@ -4,7 +4,7 @@ use Rattle.std.specs.Prelude.{◌==◌}
 use Rattle.sp_bits.specs.Places.{places_where}
 use Rattle.sp_bits.specs.Members.{has-places_where}
 use Rattle.sp_bits.proofs.Counts.{has-small}
-use Rattle.sp_dag.proofs.Whole.{ancestors_lower}
+use Rattle.sp_dag.proofs.Ranked.{ancestors_lower}
 use Rattle.sp_model.specs.Graph.{has}
 use Rattle.sp_tests_blocks.proofs.plain.first.Goals as goal
 
@@ -40,6 +40,6 @@ returns c = record {
   below = λ z h. (let lt = c.loop-number.invariant.below z h in omega arith);
   closed = λ z a h reached.
       let lt = c.loop-number.invariant.below z h in
-      let lower = ancestors_lower c.args.dag.now.parents a z c.len-blocks.ensures.numbered.order (omega arith) reached in
+      let lower = ancestors_lower c.args.dag.now a z c.len-blocks.ensures.numbered.order (omega arith) reached in
       c.loop-number.invariant.there a (omega arith);
 }

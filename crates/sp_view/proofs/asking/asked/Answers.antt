@@ -1,7 +1,7 @@
 use Rattle.std.proofs.Common.{◌≡◌, ◌≢◌, ◌∙◌, ◌<◌, ℕ, List, [], true, false, not, ◌&&◌, cond, ap, arith, get_or, sym}
 use Rattle.std.proofs.lemmas.Bool.{false≢true}
-use Rattle.sp_dag.specs.Numbered.{graph_of, pairs_of, IsPair}
-use Rattle.sp_dag.proofs.Whole.{downset_numbered, pair_kind}
+use Rattle.sp_dag.specs.Numbered.{Numbered, graph_of, pairs_of, IsPair}
+use Rattle.sp_dag.proofs.Ranked.{downset_numbered, pair_kind}
 use Rattle.sp_frozen.specs.Voters.{AreFrozen}
 use Rattle.sp_model.specs.Graph.{Graph, IsDownset, has, keys, in_past}
 use Rattle.sp_model.specs.Loose.{is_loose}
@@ -14,7 +14,7 @@ use Rattle.sp_view.proofs.asking.asked.Goals.{else-not-up-via-then-not-up+else-n
 
 pub returns-then-not-test-clause-kept : goal.returns-then-not-test-clause-kept
 returns-then-not-test-clause-kept c = λ before x y at j row sides.
-    let table : List (List ℕ) = c.args.dag.now.parents in
+    let table : Numbered = c.args.dag.now in
     let kind : IsPair table (x, y) = pair_kind table c.args.pair (x, y) at in
     let apart : x ≢ y = λ e. (let le : x < y = kind.order in omega arith) in
     let frozen = frozen_among table c.args.frozen.now c.args.members.now c.args.pair x y c.requires.voting.held at c.requires.inside c.requires.voting.added in
@@ -29,11 +29,11 @@ returns-then-not-test-clause-kept c = λ before x y at j row sides.
 
 pub returns-clause-within : goal.returns-clause-within
 returns-clause-within c = λ z h.
-    (open_joined (graph_of c.args.dag.now.parents) c.args.b c.args.members.now c.pair-x.result.0 c.pair-x.result.1 c.side_of-agree.result c.open_voters.result c.requires.voting.asked c.requires.joined c.open_voters.ensures).member z h
+    (open_joined (graph_of c.args.dag.now) c.args.b c.args.members.now c.pair-x.result.0 c.pair-x.result.1 c.side_of-agree.result c.open_voters.result c.requires.voting.asked c.requires.joined c.open_voters.ensures).member z h
 
 pub returns-clause-kept : goal.returns-clause-kept
 returns-clause-kept c = λ before x y at j row sides.
-    let table : List (List ℕ) = c.args.dag.now.parents in
+    let table : Numbered = c.args.dag.now in
     let g : Graph = graph_of table in
     let whole : IsDownset g (keys g) = downset_numbered table c.len-blocks.ensures.numbered.order in
     let same : (x ≡ c.pair-x.result.0) × (y ≡ c.pair-x.result.1) = pair_same (pairs_of table) c.args.pair x y c.pair-x.result at c.pair-x.ensures.pair in

@@ -23,7 +23,7 @@ minus-requires c =
 pub new_rows-new-requires-clause-frozen : goal.new_rows-new-requires-clause-frozen
 new_rows-new-requires-clause-frozen c =
     rw (c.plus.ensures, c.minus.ensures)
-    (frozen_among c.args.dag.now.parents c.args.frozen.now c.args.target.now c.args.pair c.pair-x.result.0 c.pair-x.result.1 c.requires.voting.held c.pair-x.ensures.pair (c.requires.voting.held.there c.args.pair c.pair-x.result.0 c.pair-x.result.1 c.pair-x.ensures.pair
+    (frozen_among c.args.dag.now c.args.frozen.now c.args.target.now c.args.pair c.pair-x.result.0 c.pair-x.result.1 c.requires.voting.held c.pair-x.ensures.pair (c.requires.voting.held.there c.args.pair c.pair-x.result.0 c.pair-x.result.1 c.pair-x.ensures.pair
     (c.requires.voting.added c.pair-x.result.1 (and_parts (has c.args.target.now c.pair-x.result.0) (has c.args.target.now c.pair-x.result.1) (sym c.has_both.ensures ∙ c.if-not-has_both.false)).1)) c.requires.voting.added)
 
 pub returns-clause-others : goal.returns-clause-others

@@ -1,6 +1,6 @@
 use Rattle.std.proofs.Common.{◌≡◌, ◌∙◌, ◌<◌, ◌≤◌, ◌+◌, ◌++◌, ◌∷◌, [], ℕ, List, Option, Some, ap, arith, get_or, length, subst, sym, take}
 use Rattle.std.specs.Prelude.{slice_get}
-use Rattle.sp_dag.specs.Numbered.{graph_of, pairs_of}
+use Rattle.sp_dag.specs.Numbered.{Numbered, graph_of, pairs_of}
 use Rattle.sp_model.specs.Graph.{Graph}
 use Rattle.sp_view.specs.Stored.{count_of, row_of}
 use Rattle.sp_view.specs.Views.{entry_at, holds, held, IsEntry, IsOnce, KeepIds}
@@ -40,13 +40,13 @@ derived_entry-requires-clause-room c = omega (arith, c.pairs.invariant.few, c.re
 pub derived_entry-requires-clause-entry : goal.derived_entry-requires-clause-entry
 derived_entry-requires-clause-entry c = λ x y at.
     let base = c.args.base.now in
-    subst (λ (e : Option (ℕ × ℕ)). IsEntry (graph_of c.args.dag.now.parents) c.args.from.now x y c.pairs.pool e) (sym c.entry_of-before.ensures)
-    (entry_moves (graph_of c.args.dag.now.parents) c.args.from.now x y c.args.pool.now c.pairs.pool (entry_at base c.pairs.pair)
+    subst (λ (e : Option (ℕ × ℕ)). IsEntry (graph_of c.args.dag.now) c.args.from.now x y c.pairs.pool e) (sym c.entry_of-before.ensures)
+    (entry_moves (graph_of c.args.dag.now) c.args.from.now x y c.args.pool.now c.pairs.pool (entry_at base c.pairs.pair)
     (λ r some. c.pairs.invariant.others r (omega (arith, some, holds_held base c.pairs.pair r, c.requires.live r))) (c.requires.entry c.pairs.pair x y at))
 
 pub pairs-preserved : goal.pairs-preserved
 pairs-preserved c =
-    let table : List (List ℕ) = c.args.dag.now.parents in
+    let table : Numbered = c.args.dag.now in
     let g : Graph = graph_of table in
     let base = c.args.base.now in
     let i : ℕ = c.pairs.pair in

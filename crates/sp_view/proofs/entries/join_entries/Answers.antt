@@ -3,7 +3,7 @@ use Rattle.std.specs.Prelude.{slice_get, IfSome}
 use Rattle.std.proofs.lemmas.Bool.{lt-ltb, le-ltb}
 use Rattle.std.proofs.lemmas.List.{get_or_default}
 use Rattle.std.proofs.lemmas.Option.{slice_get_within}
-use Rattle.sp_dag.specs.Numbered.{graph_of, pairs_of}
+use Rattle.sp_dag.specs.Numbered.{Numbered, graph_of, pairs_of}
 use Rattle.sp_model.specs.Graph.{Graph}
 use Rattle.sp_view.specs.Stored.{count_of, row_of}
 use Rattle.sp_view.specs.Views.{entry_at, holds, held, IsEntry, IsFresh, IsOnce, KeepIds}
@@ -18,7 +18,7 @@ read_at entries i read lt is = is ∙ get_or_default entries i read None lt
 
 pub step_entry-requires-clause-inside : goal.step_entry-requires-clause-inside
 step_entry-requires-clause-inside c =
-    let table : List (List ℕ) = c.args.dag.now.parents in
+    let table : Numbered = c.args.dag.now in
     let inside : c.pairs.i < length c.pairs.entries.items = omega (arith, c.pairs.entries.ok.0) in
     let listed : c.pairs.i < length (pairs_of table) = omega (arith, c.requires.long) in
     let pair = get_or (pairs_of table) c.pairs.i (0, 0) in
@@ -36,15 +36,15 @@ step_entry-requires-clause-live c = λ r.
 
 pub step_entry-requires-clause-entry : goal.step_entry-requires-clause-entry
 step_entry-requires-clause-entry c = λ x y at.
-    let table : List (List ℕ) = c.args.dag.now.parents in
+    let table : Numbered = c.args.dag.now in
     let inside : c.pairs.i < length c.pairs.entries.items = omega (arith, c.pairs.entries.ok.0) in
     let now : IsEntry (graph_of table) c.args.before.now x y c.pairs.pool (entry_at c.pairs.entries.items c.pairs.i) = rw (le-ltb c.pairs.i c.pairs.i (omega arith)) at (c.pairs.invariant.entry c.pairs.i x y at) in
     subst (λ (e : Option (ℕ × ℕ)). IsEntry (graph_of table) c.args.before.now x y c.pairs.pool e) (sym (read_at c.pairs.entries.items c.pairs.i c.index-entry.result.now inside c.index-entry.ensures)) now
 
 pub step_entry-requires-clause-room : goal.step_entry-requires-clause-room
 step_entry-requires-clause-room c = λ x y at.
-    let pairs = pairs_of c.args.dag.now.parents in
-    let g : Graph = graph_of c.args.dag.now.parents in
+    let pairs = pairs_of c.args.dag.now in
+    let g : Graph = graph_of c.args.dag.now in
     omega (
       arith,
       c.pairs.invariant.room,
@@ -58,7 +58,7 @@ pairs-init c = record {
   long = refl;
   unturned = λ j _. refl;
   entry = λ k x y at. rw (le-ltb k 0 (omega arith)) (c.requires.entry k x y at);
-  kept = λ k x y at. keeps_itself (graph_of c.args.dag.now.parents) c.args.before.now c.args.members.now x y (entry_at c.args.entries.now.items k);
+  kept = λ k x y at. keeps_itself (graph_of c.args.dag.now) c.args.before.now c.args.members.now x y (entry_at c.args.entries.now.items k);
   counts = λ r. refl;
   others = λ r _. refl;
   alive = λ r h. h;
@@ -70,7 +70,7 @@ pairs-init c = record {
 
 pub pairs-preserved : goal.pairs-preserved
 pairs-preserved c =
-    let table : List (List ℕ) = c.args.dag.now.parents in
+    let table : Numbered = c.args.dag.now in
     let g : Graph = graph_of table in
     let before : List ℕ = c.args.before.now in
     let members : List ℕ = c.args.members.now in
@@ -120,12 +120,12 @@ pub returns : goal.returns
 returns c = record {
   long = c.pairs.invariant.long;
   entry = λ i x y at.
-      let listed : i < length (pairs_of c.args.dag.now.parents) = slice_get_within (pairs_of c.args.dag.now.parents) i (x, y) at in
+      let listed : i < length (pairs_of c.args.dag.now) = slice_get_within (pairs_of c.args.dag.now) i (x, y) at in
       rw (lt-ltb i c.pairs.i (omega (arith, c.requires.long))) at (c.pairs.invariant.entry i x y at);
   kept = c.pairs.invariant.kept;
   counts = c.pairs.invariant.counts;
   others = c.pairs.invariant.others;
   once = c.pairs.invariant.once;
   fresh = c.pairs.invariant.fresh;
-  live = omega (arith, c.pairs.invariant.live, moved_take_le (graph_of c.args.dag.now.parents) c.args.before.now c.args.members.now (pairs_of c.args.dag.now.parents) c.pairs.i);
+  live = omega (arith, c.pairs.invariant.live, moved_take_le (graph_of c.args.dag.now) c.args.before.now c.args.members.now (pairs_of c.args.dag.now) c.pairs.i);
 }

@@ -11,13 +11,13 @@ abbrev pub invariant-pairs : goal.invariant-pairs
 invariant-pairs l = record {
   long : vec_len l.entries ≡ vec_len l.fn.entries;
   unturned : (j : ℕ) → l.i ≤ j → entry_at l.entries.items j ≡ entry_at l.fn.entries.items j;
-  entry : AreEntriesTo l.dag.parents l.before l.members l.i l.pool l.entries.items;
-  kept : AreKeptIds l.dag.parents l.before l.members l.fn.entries.items l.entries.items;
+  entry : AreEntriesTo l.dag l.before l.members l.i l.pool l.entries.items;
+  kept : AreKeptIds l.dag l.before l.members l.fn.entries.items l.entries.items;
   counts : (r : ℕ) → count_of l.pool r + held l.fn.entries.items r ≡ count_of l.fn.pool r + held l.entries.items r;
   others : (r : ℕ) → held l.fn.entries.items r < count_of l.fn.pool r → row_of l.pool r ≡ row_of l.fn.pool r;
   alive : (r : ℕ) → 0 < count_of l.fn.pool r → 0 < count_of l.pool r;
   once : (r : ℕ) → held l.entries.items r ≤ 1;
   fresh : AreFresh l.fn.entries.items l.entries.items l.fn.pool l.pool;
-  live : live l.pool ≤ live l.fn.pool + moved_rows (graph_of l.dag.parents) l.before l.members (take l.i (pairs_of l.dag.parents));
-  room : spare l.fn.pool ≤ spare l.pool + moved_rows (graph_of l.dag.parents) l.before l.members (take l.i (pairs_of l.dag.parents));
+  live : live l.pool ≤ live l.fn.pool + moved_rows (graph_of l.dag) l.before l.members (take l.i (pairs_of l.dag));
+  room : spare l.fn.pool ≤ spare l.pool + moved_rows (graph_of l.dag) l.before l.members (take l.i (pairs_of l.dag));
 }

@@ -9,7 +9,7 @@ use Rattle.sp_view.proofs.entries.joined_entry.Goals as goal
 
 pub returns-then-is_none-clause-rows : goal.returns-then-is_none-clause-rows
 returns-then-is_none-clause-rows c = λ x y at.
-    let g : Graph = graph_of c.args.dag.now.parents in
+    let g : Graph = graph_of c.args.dag.now in
     let ups : List ℕ = row_of c.args.pool.now c.args.entry.0 in
     let downs : List ℕ = row_of c.args.pool.now c.args.entry.1 in
     let none : c.asked-todo.result ≡ [] = c.is_none.ensures.0 c.if-is_none.true in

@@ -7,7 +7,7 @@ use Rattle.sp_view.proofs.entries.step_entry.Goals as goal
 
 pub returns-in-Some-clause-spare : goal.returns-in-Some-clause-spare
 returns-in-Some-clause-spare c = λ x y at.
-    let g : Graph = graph_of c.args.dag.now.parents in
+    let g : Graph = graph_of c.args.dag.now in
     let entry : IsEntry g c.args.before.now x y c.args.pool.now (Some c.in-Some.rows) =
     subst (λ (e : Option (ℕ × ℕ)). IsEntry g c.args.before.now x y c.args.pool.now e) c.in-Some.is (c.requires.entry x y at) in
     omega (
@@ -19,7 +19,7 @@ returns-in-Some-clause-spare c = λ x y at.
 
 pub returns-in-Some-clause-live : goal.returns-in-Some-clause-live
 returns-in-Some-clause-live c = λ x y at.
-    let g : Graph = graph_of c.args.dag.now.parents in
+    let g : Graph = graph_of c.args.dag.now in
     let entry : IsEntry g c.args.before.now x y c.args.pool.now (Some c.in-Some.rows) =
     subst (λ (e : Option (ℕ × ℕ)). IsEntry g c.args.before.now x y c.args.pool.now e) c.in-Some.is (c.requires.entry x y at) in
     omega (

@@ -1,7 +1,7 @@
-use Rattle.std.proofs.Common.{◌≡◌, ◌≢◌, ◌∙◌, ◌<◌, ◌&&◌, ℕ, List, [], true, arith, get_or, sym}
+use Rattle.std.proofs.Common.{◌≡◌, ◌≢◌, ◌∙◌, ◌<◌, ◌&&◌, ℕ, [], true, arith, get_or, sym}
 use Rattle.std.proofs.lemmas.Bool.{and_parts}
-use Rattle.sp_dag.specs.Numbered.{graph_of, pairs_of, IsPair}
-use Rattle.sp_dag.proofs.Whole.{downset_numbered, pair_kind}
+use Rattle.sp_dag.specs.Numbered.{Numbered, graph_of, pairs_of, IsPair}
+use Rattle.sp_dag.proofs.Ranked.{downset_numbered, pair_kind}
 use Rattle.sp_frozen.specs.Voters.{AreFrozen}
 use Rattle.sp_model.specs.Graph.{Graph, has}
 use Rattle.sp_model.specs.Loose.{is_loose}
@@ -15,23 +15,23 @@ use Rattle.sp_view.proofs.missing.asked_by_growth.Goals as goal
 pub loose_of-requires-clause-small : goal.loose_of-requires-clause-small
 loose_of-requires-clause-small c = λ z h.
     let below : (z : ℕ) → has c.args.target.now z ≡ true → z < 512 = λ z h. (let lt = c.requires.grown.voting.below z h in omega (arith, lt, c.len-blocks.ensures.numbered.small)) in
-    both_parts (graph_of c.args.dag.now.parents) 0 0 c.opened_by-voters.result c.opened_by-others.result c.or_with.new.self []
+    both_parts (graph_of c.args.dag.now) 0 0 c.opened_by-voters.result c.opened_by-others.result c.or_with.new.self []
     (λ z h. below z (c.opened_by-voters.ensures.within z h)) (λ z h. below z (c.opened_by-others.ensures.within z h)) c.or_with.ensures (z < 512) z
     (λ h. below z (c.opened_by-voters.ensures.within z h)) (λ h. below z (c.opened_by-others.ensures.within z h)) h
 
 pub returns-clause-within : goal.returns-clause-within
 returns-clause-within c = λ z h.
     let below : (z : ℕ) → has c.args.target.now z ≡ true → z < 512 = λ z h. (let lt = c.requires.grown.voting.below z h in omega (arith, lt, c.len-blocks.ensures.numbered.small)) in
-    let pair = get_or (pairs_of c.args.dag.now.parents) c.args.pair (0, 0) in
-    let is = c.loose_of.ensures pair.0 pair.1 (some_pair (pairs_of c.args.dag.now.parents) c.args.pair c.requires.listed) z in
-    both_parts (graph_of c.args.dag.now.parents) 0 0 c.opened_by-voters.result c.opened_by-others.result c.or_with.new.self []
+    let pair = get_or (pairs_of c.args.dag.now) c.args.pair (0, 0) in
+    let is = c.loose_of.ensures pair.0 pair.1 (some_pair (pairs_of c.args.dag.now) c.args.pair c.requires.listed) z in
+    both_parts (graph_of c.args.dag.now) 0 0 c.opened_by-voters.result c.opened_by-others.result c.or_with.new.self []
     (λ z h. below z (c.opened_by-voters.ensures.within z h)) (λ z h. below z (c.opened_by-others.ensures.within z h)) c.or_with.ensures (has c.args.target.now z ≡ true) z
     (c.opened_by-voters.ensures.within z) (c.opened_by-others.ensures.within z)
-    (and_parts (has c.or_with.new.self z) (is_loose (graph_of c.args.dag.now.parents) z pair.0 pair.1) (sym is ∙ h)).0
+    (and_parts (has c.or_with.new.self z) (is_loose (graph_of c.args.dag.now) z pair.0 pair.1) (sym is ∙ h)).0
 
 pub returns-clause-kept : goal.returns-clause-kept
 returns-clause-kept c = λ x y at sides.
-    let table : List (List ℕ) = c.args.dag.now.parents in
+    let table : Numbered = c.args.dag.now in
     let g : Graph = graph_of table in
     let kind : IsPair table (x, y) = pair_kind table c.args.pair (x, y) at in
     let apart : x ≢ y = λ e. (let le : x < y = kind.order in omega arith) in

@@ -5,10 +5,10 @@ use Rattle.sp_view.proofs.TwoRows.{pair_same}
 use Rattle.sp_view.proofs.missing.loose_of.Goals as goal
 
 pub returns-then-is_none : goal.returns-then-is_none
-returns-then-is_none c = λ x y at. none_loose (graph_of c.args.dag.now.parents) x y c.args.voters.now (c.is_none.ensures.0 c.if-is_none.true)
+returns-then-is_none c = λ x y at. none_loose (graph_of c.args.dag.now) x y c.args.voters.now (c.is_none.ensures.0 c.if-is_none.true)
 
 pub returns : goal.returns
 returns c = λ x y at.
-    let same : (x ≡ c.pair-x.result.0) × (y ≡ c.pair-x.result.1) = pair_same (pairs_of c.args.dag.now.parents) c.args.pair x y c.pair-x.result at c.pair-x.ensures.pair in
+    let same : (x ≡ c.pair-x.result.0) × (y ≡ c.pair-x.result.1) = pair_same (pairs_of c.args.dag.now) c.args.pair x y c.pair-x.result at c.pair-x.ensures.pair in
     rw (same.0, same.1)
-    (loose_is (graph_of c.args.dag.now.parents) c.pair-x.result.0 c.pair-x.result.1 c.args.voters.now c.bound_on.result c.without.new.self c.requires.small c.bound_on.ensures c.without.ensures)
+    (loose_is (graph_of c.args.dag.now) c.pair-x.result.0 c.pair-x.result.1 c.args.voters.now c.bound_on.result c.without.new.self c.requires.small c.bound_on.ensures c.without.ensures)

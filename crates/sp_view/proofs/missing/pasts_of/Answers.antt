@@ -1,7 +1,7 @@
 use Rattle.std.proofs.Common.{◌≡◌, ◌∙◌, ◌<◌, ◌≤◌, ℕ, List, [], Option, true, ap, arith, length, subst, sym}
 use Rattle.std.specs.Prelude.{IfSome, IsNone, ◌↔◌}
 use Rattle.sp_bits.specs.Places.{difference, members_below, union, IsGreatest}
-use Rattle.sp_dag.specs.Numbered.{graph_of, AreInOrder}
+use Rattle.sp_dag.specs.Numbered.{Numbered, graph_of, AreInOrder}
 use Rattle.sp_model.specs.Graph.{has, past}
 use Rattle.sp_view.proofs.Downward.{next_member}
 use Rattle.sp_view.proofs.Reached.{AreCovered, covered_next, joined_small, joined_within, left_parts}
@@ -9,16 +9,16 @@ use Rattle.sp_view.proofs.missing.pasts_of.Goals as goal
 
 pub pasts-preserved : goal.pasts-preserved
 pasts-preserved c =
-    let table : List (List ℕ) = c.args.dag.now.parents in
-    let order : AreInOrder table = c.len-blocks.ensures.numbered.order in
-    let few : length table ≤ 512 = c.len-blocks.ensures.numbered.small in
+    let table : Numbered = c.args.dag.now in
+    let order : AreInOrder table.parents = c.len-blocks.ensures.numbered.order in
+    let few : length table.parents ≤ 512 = c.len-blocks.ensures.numbered.small in
     let block : ℕ = c.in-Some.block in
     let below : List ℕ = c.pasts.below in
     let left : List ℕ = c.pasts.left in
     let next : Option ℕ = c.highest_below-next.result in
     let there : has left block ≡ true = subst (λ (o : Option ℕ). IfSome o (λ b. has left b ≡ true)) c.in-Some.is c.pasts.invariant.open_still in
-    let within : block < length table = c.requires block (c.pasts.invariant.among block there) in
-    let left_small : (z : ℕ) → has left z ≡ true → z < 512 = λ z h. (let le : z < length table = c.requires z (c.pasts.invariant.among z h) in omega (arith, le, few)) in
+    let within : block < length table.parents = c.requires block (c.pasts.invariant.among block there) in
+    let left_small : (z : ℕ) → has left z ≡ true → z < 512 = λ z h. (let le : z < length table.parents = c.requires z (c.pasts.invariant.among z h) in omega (arith, le, few)) in
     let e : c.or_with.new.self ≡ union below (past (graph_of table) block) = c.or_with.ensures ∙ ap (union below) c.past-past.ensures in
     let e' : c.without.new.self ≡ difference left (past (graph_of table) block) = c.without.ensures ∙ ap (difference left) c.past-past.ensures in
     record {

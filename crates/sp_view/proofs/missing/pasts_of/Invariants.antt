@@ -11,8 +11,8 @@ invariant-pasts l = record {
   open_still : IfSome l.next (λ b. has l.left b ≡ true);
   among : (b : ℕ) → has l.left b ≡ true → has l.blocks b ≡ true;
   small : (z : ℕ) → has l.below z ≡ true → z < 512;
-  covers : AreCovered l.dag.parents l.blocks l.left l.next l.below;
-  inside : (set : List ℕ) → IsDownset (graph_of l.dag.parents) set → ((b : ℕ) → has l.blocks b ≡ true → has set b ≡ true) → (z : ℕ) → has l.below z ≡ true → has set z ≡ true;
+  covers : AreCovered l.dag l.blocks l.left l.next l.below;
+  inside : (set : List ℕ) → IsDownset (graph_of l.dag) set → ((b : ℕ) → has l.blocks b ≡ true → has set b ≡ true) → (z : ℕ) → has l.below z ≡ true → has set z ≡ true;
 }
 
 abbrev pub decreases-pasts : goal.decreases-pasts

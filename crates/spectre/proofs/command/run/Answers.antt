@@ -1,10 +1,11 @@
-use Rattle.std.proofs.Common.{List, ℕ, Option, sym, subst}
+use Rattle.std.proofs.Common.{List, ℕ, Option, refl, sym, subst}
 use Rattle.spectre.specs.Ends.{Comes}
 use Rattle.spectre.specs.Jobs.{NamesFile, Shows, TakesNothing, TakesScenario}
 use Rattle.spectre.specs.Rests.{AnswersAgree, OrderIsNoMatter}
 use Rattle.spectre.specs.declared.job.Job.{Job}
 use Rattle.spectre.specs.declared.status.Status.TheVariants as status
 use Rattle.spectre.proofs.Completing.{completes}
+use Rattle.spectre.proofs.DiskFirst.{first_of, refused_first}
 use Rattle.spectre.proofs.Resting.{if_some, order_is_no_matter}
 use Rattle.spectre.proofs.TopCall.{asked_ends, ends_at, nothing_asked, nothing_fed, nothing_written}
 use Rattle.spectre.proofs.command.run.Goals as goal
@@ -105,3 +106,9 @@ returns-in-Err-Memory-clause-taken_fed g c = λ feed. nothing_fed _ (g.S.Source.
 
 pub returns-in-Err-Memory-clause-crash : goal.returns-in-Err-Memory-clause-crash
 returns-in-Err-Memory-clause-crash g c = nothing_asked _ (g.S.Source.left c.args.source.now) (g.K.Sink.taken c.args.sink.now) (g.D.Disk.now c.args.disk.now) (g.met.D.Disk.is_moment c.args.disk.now)
+
+pub returns-in-Ok-clause-disk_first : goal.returns-in-Ok-clause-disk_first
+returns-in-Ok-clause-disk_first g c = first_of _ _ (g.D.Disk.now c.args.disk.now).reads _ c.in-Ok.ensures.job c.do_job.ensures.disk_first
+
+pub returns-in-Err-Memory-clause-disk_first : goal.returns-in-Err-Memory-clause-disk_first
+returns-in-Err-Memory-clause-disk_first g c = refused_first _ (g.D.Disk.now c.args.disk.now).reads _ refl

@@ -6,8 +6,9 @@ use Rattle.spectre.proofs.counting.count_accepted.Given as goal
 
 abbrev pub invariant-number : goal.invariant-number
 invariant-number l =
+    let profile = l.engine.profile in
     let kept = l.engine.kept in
     record {
-      counted : l.count ≡ count_by (λ id. is_accepted (ledger_by_id kept) (present kept) id) (take l.number (tx_ids kept));
+      counted : l.count ≡ count_by (λ id. is_accepted (ledger_by_id profile kept) (present kept) id) (take l.number (tx_ids kept));
       few : l.count ≤ l.number;
     }

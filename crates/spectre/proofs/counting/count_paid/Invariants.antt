@@ -4,8 +4,9 @@ use Rattle.spectre.proofs.counting.count_paid.Given as goal
 
 abbrev pub invariant-number : goal.invariant-number
 invariant-number l =
+    let profile = l.engine.profile in
     let kept = l.engine.kept in
     record {
-      counted : l.count ≡ count_by (λ lock. not (balance_by_id kept lock == 0)) (take l.number (locks kept));
+      counted : l.count ≡ count_by (λ lock. not (balance_by_id profile kept lock == 0)) (take l.number (locks kept));
       few : l.count ≤ l.number;
     }

@@ -10,7 +10,7 @@ other-preserved c =
     let next = c.with_word-tally.ensures in
     let said = c.vote.ensures in
     record {
-      counted = next_other c.args.engine.now.kept c.args.first.now c.args.others.now c.other.other-index c.other-item.result tally c.with_word-tally.result c.other-test.true c.other-item.is
+      counted = next_other c.args.engine.now.profile c.args.engine.now.kept c.args.first.now c.args.others.now c.other.other-index c.other-item.result tally c.with_word-tally.result c.other-test.true c.other-item.is
           (next.before ∙ ap (λ (w : Word). cond (is_before w) (tally.before + 1) tally.before) said)
           (next.after ∙ ap (λ (w : Word). cond (is_after w) (tally.after + 1) tally.after) said)
           (next.tie ∙ ap (λ (w : Word). cond (is_tie w) (tally.tie + 1) tally.tie) said)
@@ -21,5 +21,5 @@ other-preserved c =
 pub returns : goal.returns
 returns c =
     record {
-      tally = sym (no_other c.args.engine.now.kept c.args.first.now c.args.others.now c.other.other-index c.other.tally c.other-test.false) ∙ c.other.invariant.counted;
+      tally = sym (no_other c.args.engine.now.profile c.args.engine.now.kept c.args.first.now c.args.others.now c.other.other-index c.other.tally c.other-test.false) ∙ c.other.invariant.counted;
     }

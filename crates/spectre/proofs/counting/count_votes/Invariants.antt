@@ -6,6 +6,6 @@ use Rattle.spectre.proofs.counting.count_votes.Given as goal
 abbrev pub invariant-other : goal.invariant-other
 invariant-other l =
     record {
-      counted : added l.tally (votes l.engine.kept l.first (drop l.other-index l.others)) ≡ added l.fn.before (votes l.engine.kept l.first l.others);
+      counted : added l.tally (votes l.engine.profile l.engine.kept l.first (drop l.other-index l.others)) ≡ added l.fn.before (votes l.engine.profile l.engine.kept l.first l.others);
       bound : AreUpTo l.tally (1048576 + l.other-index);
     }

@@ -1,12 +1,15 @@
-use Rattle.std.proofs.Common.{◌≡◌, List, ℕ, Option, Some, Ok, Err, IfSome, subst, sym}
+use Rattle.std.proofs.Common.{◌≡◌, List, ℕ, Option, Some, Ok, Err, IfSome, refl, subst, sym}
 use Rattle.std.specs.Io.KnownBytes.{Appends}
 use Rattle.sp_io.specs.Whole.{AppendsFront}
 use Rattle.sp_node.specs.Stored.{Tells}
 use Rattle.sp_journal.specs.declared.fault.JournalFault.TheVariants as opening
 use Rattle.spectre.specs.Journals.{damaged_text, HasNoJournal, not_journal_text}
+use Rattle.spectre.specs.Ends.{EndsByDisk}
 use Rattle.spectre.specs.declared.status.Status.TheVariants as status
-use Rattle.spectre.proofs.KeptExits.{ends_on, exit_early, exit_line, on_map, silent_disk, silent_memory}
+use Rattle.spectre.proofs.DiskFirst.{stored_first}
+use Rattle.spectre.proofs.KeptExits.{ends_on, exit_early, exit_line, line_ends, on_map, silent_disk, silent_memory}
 use Rattle.spectre.proofs.KeptRuns.{at_one, damaged_says, none_says}
+use Rattle.spectre.proofs.TopCall.{if_all}
 use Rattle.spectre.proofs.keep.keep.Goals as goal
 
 pub returns-in-Ok-clause-ends : goal.returns-in-Ok-clause-ends
@@ -68,3 +71,18 @@ returns-in-Memory-clause-ends g c =
     let law = g.met.D.Disk.is_moment c.args.disk.now in
     let last_law = g.met.D.Disk.is_moment c.open.new.disk in
     exit_early c.args.fresh left old first (now c.open.new.disk) law last_law c.in-Err.ensures.looks status.Memory tt (silent_memory c.args.fresh left old first (now c.open.new.disk) law last_law c.in-Err.ensures.looks)
+
+pub returns-in-Ok-clause-disk_first : goal.returns-in-Ok-clause-disk_first
+returns-in-Ok-clause-disk_first g c = stored_first c.args.fresh c.in-Ok.stored (g.D.Disk.now c.args.disk.now).reads _ c.in-Ok.ensures.tells
+
+pub returns-in-NotJournal-clause-disk_first : goal.returns-in-NotJournal-clause-disk_first
+returns-in-NotJournal-clause-disk_first g c = if_all (g.D.Disk.now c.args.disk.now).reads _ (λ disk fault. (line_ends EndsByDisk c.end_with.result status.NotJournal c.end_with.ensures.status tt tt, refl))
+
+pub returns-in-Damaged-clause-disk_first : goal.returns-in-Damaged-clause-disk_first
+returns-in-Damaged-clause-disk_first g c = if_all (g.D.Disk.now c.args.disk.now).reads _ (λ disk fault. (line_ends EndsByDisk c.end_with-in-Damaged.result status.Damaged c.end_with-in-Damaged.ensures.status tt tt, refl))
+
+pub returns-in-DiskFault-clause-disk_first : goal.returns-in-DiskFault-clause-disk_first
+returns-in-DiskFault-clause-disk_first g c = if_all (g.D.Disk.now c.args.disk.now).reads _ (λ disk fault. (tt, refl))
+
+pub returns-in-Memory-clause-disk_first : goal.returns-in-Memory-clause-disk_first
+returns-in-Memory-clause-disk_first g c = if_all (g.D.Disk.now c.args.disk.now).reads _ (λ disk fault. (tt, refl))

@@ -14,7 +14,7 @@ returns-in_err-write_whole-clause-err g c =
     let taken = g.K.Sink.taken in
     let line = c.as_slice.ensures.bytes ∙ c.recovered_line.ensures in
     on_err c.from_residual.result _
-    (wrote_stops (recovered_text c.args.count) (report_text no_labels c.args.engine.now.kept) (wrote_none (taken c.args.sink.now) _)
+    (wrote_stops (recovered_text c.args.count) (report_text c.args.engine.now.profile no_labels c.args.engine.now.kept) (wrote_none (taken c.args.sink.now) _)
     (subst (λ (t : List ℕ). AppendsFront (taken c.args.sink.now) (taken c.write_whole.new.sink) t) line c.in_err-write_whole.ensures.err))
 
 pub returns-in-Ok-clause-ok : goal.returns-in-Ok-clause-ok
@@ -22,18 +22,18 @@ returns-in-Ok-clause-ok g c =
     let taken = g.K.Sink.taken in
     let line = c.as_slice.ensures.bytes ∙ c.recovered_line.ensures in
     let first = subst (λ (t : List ℕ). Appends (taken c.args.sink.now) (taken c.write_whole.new.sink) t) line c.in_ok-write_whole.ensures.ok in
-    appends_then (taken c.args.sink.now) (taken c.write_whole.new.sink) (taken c.write_text.new.sink) (recovered_text c.args.count) (report_text no_labels c.args.engine.now.kept) first c.in-Ok.ensures.ok
+    appends_then (taken c.args.sink.now) (taken c.write_whole.new.sink) (taken c.write_text.new.sink) (recovered_text c.args.count) (report_text c.args.engine.now.profile no_labels c.args.engine.now.kept) first c.in-Ok.ensures.ok
 
 pub returns-in-Err-WriteFault-clause-err : goal.returns-in-Err-WriteFault-clause-err
 returns-in-Err-WriteFault-clause-err g c =
     let taken = g.K.Sink.taken in
     let line = c.as_slice.ensures.bytes ∙ c.recovered_line.ensures in
     let first = subst (λ (t : List ℕ). Appends (taken c.args.sink.now) (taken c.write_whole.new.sink) t) line c.in_ok-write_whole.ensures.ok in
-    front_then (taken c.args.sink.now) (taken c.write_whole.new.sink) (taken c.write_text.new.sink) (recovered_text c.args.count) (report_text no_labels c.args.engine.now.kept) first c.in-Err-WriteFault.ensures.err
+    front_then (taken c.args.sink.now) (taken c.write_whole.new.sink) (taken c.write_text.new.sink) (recovered_text c.args.count) (report_text c.args.engine.now.profile no_labels c.args.engine.now.kept) first c.in-Err-WriteFault.ensures.err
 
 pub returns-in-Err-Memory-clause-err : goal.returns-in-Err-Memory-clause-err
 returns-in-Err-Memory-clause-err g c =
     let taken = g.K.Sink.taken in
     let line = c.as_slice.ensures.bytes ∙ c.recovered_line.ensures in
     let first = subst (λ (t : List ℕ). Appends (taken c.args.sink.now) (taken c.write_whole.new.sink) t) line c.in_ok-write_whole.ensures.ok in
-    front_then (taken c.args.sink.now) (taken c.write_whole.new.sink) (taken c.write_text.new.sink) (recovered_text c.args.count) (report_text no_labels c.args.engine.now.kept) first c.in-Err-Memory.ensures.err
+    front_then (taken c.args.sink.now) (taken c.write_whole.new.sink) (taken c.write_text.new.sink) (recovered_text c.args.count) (report_text c.args.engine.now.profile no_labels c.args.engine.now.kept) first c.in-Err-Memory.ensures.err

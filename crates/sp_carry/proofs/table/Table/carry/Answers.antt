@@ -18,8 +18,8 @@ returns-in-Some-clause-ok c =
     ap (number_of k) (sym c.in_ok-id.ensures) ∙ sym c.tx_of.ensures ∙ c.in-Some.is in
     on_ok c.carry_known.result c.carry_known.ensures.ok
     (subst (Keeps c.carry_known.new.self)
-    (carried_known c.args.dag.now.parents k c.args.tx.now c.in-Some.number c.is_sound-sound.result found
+    (carried_known c.args.dag.now k c.args.tx.now c.in-Some.number c.is_sound-sound.result found
     (c.is_sound-sound.ensures
-    ∙ ap (λ (t : Transaction). is_sound (ledger_of c.args.dag.now.parents k) k.blocks (payment_of t))
+    ∙ ap (λ (t : Transaction). is_sound (ledger_of c.args.dag.now k) k.blocks (payment_of t))
     (c.index.ensures ∙ any_default c.args.self.now.txs.items c.in-Some.number c.index.result.now (of_parts [] [])
     (number_within k (id_of c.args.tx.now) c.in-Some.number found)))))

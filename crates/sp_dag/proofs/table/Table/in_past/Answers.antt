@@ -3,7 +3,7 @@ use Rattle.std.proofs.lemmas.List.{get_or_default}
 use Rattle.sp_model.specs.Graph.{in_past}
 use Rattle.sp_bits.specs.Places.{has}
 use Rattle.sp_bits.specs.Members.{has-places_where}
-use Rattle.sp_dag.specs.Numbered.{graph_of}
+use Rattle.sp_dag.specs.Shapes.{shape_of}
 use Rattle.sp_dag.proofs.table.Table.in_past.Goals as goal
 
 pub returns : goal.returns
@@ -16,4 +16,4 @@ returns c =
     c.test.ensures.value
     ∙ ap (λ (l : List ℕ). has l c.args.a)
     (c.index.ensures ∙ get_or_default c.self.inside.pasts.items c.args.b c.index.result.now [] inside ∙ c.self.invariant.pasts_right c.args.b within)
-    ∙ has-places_where (λ a. in_past (graph_of table) a c.args.b) c.args.a low ∙ ap (λ (t : List (List ℕ)). in_past (graph_of t) c.args.a c.args.b) c.self.view_is
+    ∙ has-places_where (λ a. in_past (shape_of table) a c.args.b) c.args.a low ∙ ap (λ (t : List (List ℕ)). in_past (shape_of t) c.args.a c.args.b) c.self.view_is

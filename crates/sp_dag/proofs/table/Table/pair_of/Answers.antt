@@ -1,6 +1,6 @@
 use Rattle.std.proofs.Common.{◌≡◌, ◌∙◌, ap, subst, Bool, true, List, ℕ, ◌<◌, length, min, max, Some, arith}
 use Rattle.std.specs.Prelude.{slice_get, IfSome, IsNone, ◌↔◌}
-use Rattle.sp_dag.specs.Numbered.{pairs_of}
+use Rattle.sp_dag.specs.Shapes.{pairs_in}
 use Rattle.sp_dag.proofs.Lookup.{index_read, some_is_pair, only_index, none_where_joined, joined_sorted, are_joined}
 use Rattle.sp_dag.proofs.table.Table.pair_of.Goals as goal
 
@@ -12,7 +12,7 @@ returns-clause-some c =
     let inside : high < length indices = omega (arith, ap length c.self.view_is, c.self.invariant.indices_long, c.requires.x_in, c.requires.y_in) in
     let read = index_read indices c.index.result.now c.at.result c.min-low.result c.max-high.result low high c.min-low.ensures c.max-high.ensures inside
     c.index.ensures c.at.ensures in
-    subst (λ (t : List (List ℕ)). IfSome c.at.result (λ i. slice_get (pairs_of t) i ≡ Some (min c.args.x c.args.y, max c.args.x c.args.y))) c.self.view_is
+    subst (λ (t : List (List ℕ)). IfSome c.at.result (λ i. slice_get (pairs_in t) i ≡ Some (min c.args.x c.args.y, max c.args.x c.args.y))) c.self.view_is
     (some_is_pair c.self.inside.parents.items c.self.inside.pasts.items c.self.inside.futures.items c.self.inside.pairs.items indices low high c.at.result
     c.self.invariant read)
 
@@ -26,7 +26,7 @@ returns-clause-only c =
     c.index.ensures c.at.ensures in
     λ i there. only_index c.self.inside.parents.items c.self.inside.pasts.items c.self.inside.futures.items c.self.inside.pairs.items indices low high i
     c.at.result c.self.invariant read
-    (ap (λ (t : List (List ℕ)). slice_get (pairs_of t) i) c.self.view_is ∙ there)
+    (ap (λ (t : List (List ℕ)). slice_get (pairs_in t) i) c.self.view_is ∙ there)
 
 pub returns-clause-none : goal.returns-clause-none
 returns-clause-none c =

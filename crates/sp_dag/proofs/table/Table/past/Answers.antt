@@ -1,7 +1,7 @@
 use Rattle.std.proofs.Common.{◌≡◌, ◌∙◌, ap, List, ℕ, ◌<◌, length, [], arith}
 use Rattle.std.proofs.lemmas.List.{get_or_default}
 use Rattle.sp_model.specs.Graph.{past}
-use Rattle.sp_dag.specs.Numbered.{graph_of}
+use Rattle.sp_dag.specs.Shapes.{shape_of}
 use Rattle.sp_dag.proofs.Whole.{past_row}
 use Rattle.sp_dag.proofs.table.Table.past.Goals as goal
 
@@ -13,4 +13,4 @@ returns c =
     let inside : c.args.number < length c.self.inside.pasts.items = omega (arith, within, c.self.invariant.pasts_long) in
     c.index.ensures ∙ get_or_default c.self.inside.pasts.items c.args.number c.index.result.now [] inside
     ∙ c.self.invariant.pasts_right c.args.number within ∙ past_row table c.args.number c.self.invariant.order c.self.invariant.small within
-    ∙ ap (λ (t : List (List ℕ)). past (graph_of t) c.args.number) c.self.view_is
+    ∙ ap (λ (t : List (List ℕ)). past (shape_of t) c.args.number) c.self.view_is

@@ -1,5 +1,8 @@
 use Rattle.std.proofs.Common.{◌∙◌, ap, arith, length, sym}
 use Rattle.std.specs.Prelude.{slice_get}
+use Rattle.sp_engine.specs.Engine.{Ledger}
+use Rattle.sp_engine.specs.Transactions.{balance_by_id}
+use Rattle.sp_model.specs.declared.profile.Profile.{Profile}
 use Rattle.sp_engine.proofs.BalancesByNumbers.{accepted_balance_by_id, locks_are}
 use Rattle.sp_engine.proofs.BalancesOwn.{balances_agree}
 use Rattle.sp_engine.proofs.Facts.{accepting_of, engine_of, paying_of}
@@ -23,8 +26,9 @@ returns-clause-value c =
     c.lock_at.ensures.balance c.self.inside.carriers.txs p.of
     ∙ accepted_balance_by_id (engine_of c.self.view_is c.self.invariant c.requires.whole) (accepting_of c.self.view_is c.self.invariant c.requires.whole)
     c.self.inside.purse.accepted c.lock_at.result.0 p.same
+    ∙ ap (λ (p : Profile). balance_by_id p c.args.self.now.kept c.lock_at.result.0) (ap (λ (l : Ledger). l.profile) c.self.view_is)
 
 pub returns-clause-balance : goal.returns-clause-balance
 returns-clause-balance c plain =
     returns-clause-value c
-    ∙ balances_agree c.args.self.now.kept (engine_of c.self.view_is c.self.invariant c.requires.whole).all_kept.apart plain c.lock_at.result.0
+    ∙ balances_agree c.args.self.now.profile c.args.self.now.kept (engine_of c.self.view_is c.self.invariant c.requires.whole).all_kept.apart plain c.lock_at.result.0

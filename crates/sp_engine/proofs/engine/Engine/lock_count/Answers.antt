@@ -14,4 +14,4 @@ pub returns-clause-once : goal.returns-clause-once
 returns-clause-once c = locks_once c.args.self.now.kept
 
 pub returns-clause-paid : goal.returns-clause-paid
-returns-clause-paid c lock none = unpaid c.args.self.now.kept (engine_of c.self.view_is c.self.invariant c.requires).all_kept.apart lock none
+returns-clause-paid c lock none = unpaid c.args.self.now.profile c.args.self.now.kept (engine_of c.self.view_is c.self.invariant c.requires).all_kept.apart lock none

@@ -72,18 +72,24 @@ returns-in_ok-grow-in-Present-clause-kept c =
     let came = comes_of c.self.view_is c.self.invariant c.requires.whole c.block.view_is c.block.invariant c.requires.other c.requires.fresh in
     kept_is c.offer.new.self c.in_ok-ids.ensures.kept came ∙ ap (λ (l : Ledger). l.kept ++ c.args.block ∷ []) c.self.view_is
 
+pub returns-in_ok-grow-in-Present-clause-profile : goal.returns-in_ok-grow-in-Present-clause-profile
+returns-in_ok-grow-in-Present-clause-profile c = c.in_ok-grow-in-Present.ensures.profile ∙ ap (λ (l : Ledger). l.profile) c.self.view_is
+
 pub returns-in_ok-grow-in-Present-clause-bits : goal.returns-in_ok-grow-in-Present-clause-bits
 returns-in_ok-grow-in-Present-clause-bits c = ap (λ (l : Ledger). l.bits) c.self.view_is
 
 pub returns-in_ok-grow-in-Present-clause-one : goal.returns-in_ok-grow-in-Present-clause-one
 returns-in_ok-grow-in-Present-clause-one c = λ id kept.
-    subst (λ (l : Ledger). (length c.grow.new.dag.parents ≡ length l.numbered.parents + 1) × Grew c.grow.new.dag.parents (length l.numbered.parents) l.votes c.grow.new.votes) c.self.view_is
+    subst (λ (l : Ledger). (length c.grow.new.dag.parents ≡ length l.numbered.parents + 1) × Grew c.grow.new.dag (length l.numbered.parents) l.votes c.grow.new.votes) c.self.view_is
     (c.in_ok-grow-in-Present.ensures.one (count_one c.block.inside.id id (length c.as_slice-ids.result.now) kept))
 
 pub returns-in-Waiting-clause-kept : goal.returns-in-Waiting-clause-kept
 returns-in-Waiting-clause-kept c =
     let came = comes_of c.self.view_is c.self.invariant c.requires.whole c.block.view_is c.block.invariant c.requires.other c.requires.fresh in
     kept_is c.offer.new.self c.in_ok-ids.ensures.kept came ∙ ap (λ (l : Ledger). l.kept ++ c.args.block ∷ []) c.self.view_is
+
+pub returns-in-Waiting-clause-profile : goal.returns-in-Waiting-clause-profile
+returns-in-Waiting-clause-profile c = ap (λ (l : Ledger). l.profile) c.self.view_is
 
 pub returns-in-Waiting-clause-bits : goal.returns-in-Waiting-clause-bits
 returns-in-Waiting-clause-bits c = ap (λ (l : Ledger). l.bits) c.self.view_is

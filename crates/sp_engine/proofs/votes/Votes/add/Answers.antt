@@ -1,6 +1,6 @@
 use Rattle.std.proofs.Common.{◌≡◌, ◌∙◌, ◌-◌, ◌+◌, ℕ, List, ap, refl, sym, arith, subst, length}
 use Rattle.std.specs.Prelude.{filter}
-use Rattle.sp_dag.specs.Numbered.{graph_of}
+use Rattle.sp_dag.specs.Numbered.{Numbered, graph_of}
 use Rattle.sp_model.specs.Graph.{past}
 use Rattle.sp_view.specs.Views.{IsBest, Viewed}
 use Rattle.sp_engine.specs.Votes.{AreKeptIdsBy, AreOfTips, AreViews, bar_row, Grew, HoldsVotes, is_beyond, IsPut, Tallied}
@@ -10,19 +10,19 @@ use Rattle.sp_engine.proofs.votes.Votes.add.Goals as goal
 
 pub new_tip-requires-clause-few : goal.new_tip-requires-clause-few
 new_tip-requires-clause-few c =
-    let table : List (List ℕ) = c.args.dag.now.parents in
+    let table : Numbered = c.args.dag.now in
     let views : List Viewed = c.self.inside.views.items in
     let are : AreOfTips table c.self.inside.frozen.blocks views = subst (λ (v : Tallied). AreOfTips table v.frozen.blocks v.views) (sym c.self.view_is) c.requires.holds.1.tips in
-    let next : length table ≡ c.self.inside.frozen.blocks + 1 = c.requires.next ∙ ap (λ (v : Tallied). v.frozen.blocks + 1) (sym c.self.view_is) in
+    let next : length table.parents ≡ c.self.inside.frozen.blocks + 1 = c.requires.next ∙ ap (λ (v : Tallied). v.frozen.blocks + 1) (sym c.self.view_is) in
     let lent : length c.as_slice-views.result.now ≡ length views = ap length (c.as_slice-views.ensures.value ∙ c.in_ok-reserve.ensures.items) in
     omega (arith, lent, next, few_views table c.self.inside.frozen.blocks views are (omega (arith, next)), c.len-b.ensures.value, c.len-b.ensures.numbered.small)
 
 pub put_tip-requires-clause-few : goal.put_tip-requires-clause-few
 put_tip-requires-clause-few c =
-    let table : List (List ℕ) = c.args.dag.now.parents in
+    let table : Numbered = c.args.dag.now in
     let views : List Viewed = c.self.inside.views.items in
     let are : AreOfTips table c.self.inside.frozen.blocks views = subst (λ (v : Tallied). AreOfTips table v.frozen.blocks v.views) (sym c.self.view_is) c.requires.holds.1.tips in
-    let next : length table ≡ c.self.inside.frozen.blocks + 1 = c.requires.next ∙ ap (λ (v : Tallied). v.frozen.blocks + 1) (sym c.self.view_is) in
+    let next : length table.parents ≡ c.self.inside.frozen.blocks + 1 = c.requires.next ∙ ap (λ (v : Tallied). v.frozen.blocks + 1) (sym c.self.view_is) in
     omega (
       arith,
       c.reserve.new.self.ok.0,
@@ -36,31 +36,31 @@ put_tip-requires-clause-few c =
 pub new_tip-requires-clause-shared : goal.new_tip-requires-clause-shared
 new_tip-requires-clause-shared c = (
   c.requires.holds.0,
-  shared_lent c.args.dag.now.parents (record { frozen = c.self.inside.frozen; rows = c.self.inside.rows; views = c.self.inside.views.items }) c.args.self.now c.as_slice-views.result.now c.requires.holds.0 c.self.view_is (c.as_slice-views.ensures.value ∙ c.in_ok-reserve.ensures.items) c.requires.holds.1.shared,
+  shared_lent c.args.dag.now (record { frozen = c.self.inside.frozen; rows = c.self.inside.rows; views = c.self.inside.views.items }) c.args.self.now c.as_slice-views.result.now c.requires.holds.0 c.self.view_is (c.as_slice-views.ensures.value ∙ c.in_ok-reserve.ensures.items) c.requires.holds.1.shared,
 )
 
 pub put_tip-requires-clause-shared : goal.put_tip-requires-clause-shared
 put_tip-requires-clause-shared c = (
   c.requires.holds.0,
-  shared_tip c.args.dag.now.parents (record { frozen = c.self.inside.frozen; rows = c.self.inside.rows; views = c.self.inside.views.items }) c.args.self.now c.new_tip.new.rows c.new_tip.new.frozen.blocks c.in_ok-tip.tip c.as_slice-views.result.now c.reserve.new.self.items c.requires.holds.0
+  shared_tip c.args.dag.now (record { frozen = c.self.inside.frozen; rows = c.self.inside.rows; views = c.self.inside.views.items }) c.args.self.now c.new_tip.new.rows c.new_tip.new.frozen.blocks c.in_ok-tip.tip c.as_slice-views.result.now c.reserve.new.self.items c.requires.holds.0
       c.self.view_is c.as_slice-views.ensures.value c.in_ok-reserve.ensures.items (c.in_ok-tip.ensures.shared c.requires.holds.0) c.requires.holds.1.shared,
 )
 
 pub release_within-requires : goal.release_within-requires
 release_within-requires c =
     let shared =
-    shared_tip c.args.dag.now.parents (record { frozen = c.self.inside.frozen; rows = c.self.inside.rows; views = c.self.inside.views.items }) c.args.self.now c.new_tip.new.rows c.new_tip.new.frozen.blocks c.in_ok-tip.tip c.as_slice-views.result.now c.reserve.new.self.items c.requires.holds.0
+    shared_tip c.args.dag.now (record { frozen = c.self.inside.frozen; rows = c.self.inside.rows; views = c.self.inside.views.items }) c.args.self.now c.new_tip.new.rows c.new_tip.new.frozen.blocks c.in_ok-tip.tip c.as_slice-views.result.now c.reserve.new.self.items c.requires.holds.0
     c.self.view_is c.as_slice-views.ensures.value c.in_ok-reserve.ensures.items (c.in_ok-tip.ensures.shared c.requires.holds.0) c.requires.holds.1.shared in
-    counted c.args.dag.now.parents c.put_tip.new.rows c.new_tip.new.frozen.blocks c.put_tip.new.views.items c.requires.holds.0 (c.in_ok-put_tip.ensures.shared c.requires.holds.0 shared)
+    counted c.args.dag.now c.put_tip.new.rows c.new_tip.new.frozen.blocks c.put_tip.new.views.items c.requires.holds.0 (c.in_ok-put_tip.ensures.shared c.requires.holds.0 shared)
 
 pub returns-clause-voted : goal.returns-clause-voted
 returns-clause-voted c =
-    let table : List (List ℕ) = c.args.dag.now.parents in
+    let table : Numbered = c.args.dag.now in
     let b : ℕ = c.len-b.result - 1 in
     let views : List Viewed = c.self.inside.views.items in
-    let next : length table ≡ c.self.inside.frozen.blocks + 1 = c.requires.next ∙ ap (λ (v : Tallied). v.frozen.blocks + 1) (sym c.self.view_is) in
+    let next : length table.parents ≡ c.self.inside.frozen.blocks + 1 = c.requires.next ∙ ap (λ (v : Tallied). v.frozen.blocks + 1) (sym c.self.view_is) in
     let at_b : c.self.inside.frozen.blocks ≡ b = omega (arith, next, c.len-b.ensures.value) in
-    let last : b + 1 ≡ length table = omega (arith, next, at_b) in
+    let last : b + 1 ≡ length table.parents = omega (arith, next, at_b) in
     let blocks : c.new_tip.new.frozen.blocks ≡ b + 1 = omega (arith, c.in_ok-tip.ensures.blocks, at_b) in
     let are : AreOfTips table b views = subst (λ (n : ℕ). AreOfTips table n views) at_b (subst (λ (v : Tallied). AreOfTips table v.frozen.blocks v.views) (sym c.self.view_is) c.requires.holds.1.tips) in
     let put : IsPut table b views c.in_ok-tip.tip c.put_tip.new.views.items =
@@ -73,7 +73,7 @@ returns-clause-voted c =
         views = c.release_within.ensures.views table c.new_tip.new.frozen.blocks c.in_ok-put_tip.ensures.views;
         shared =
             shared_after table c.put_tip.new.rows c.new_tip.new.frozen.blocks c.put_tip.new.views.items beside
-            (c.in_ok-put_tip.ensures.shared beside (shared_tip c.args.dag.now.parents (record { frozen = c.self.inside.frozen; rows = c.self.inside.rows; views = c.self.inside.views.items }) c.args.self.now c.new_tip.new.rows c.new_tip.new.frozen.blocks c.in_ok-tip.tip c.as_slice-views.result.now c.reserve.new.self.items beside
+            (c.in_ok-put_tip.ensures.shared beside (shared_tip c.args.dag.now (record { frozen = c.self.inside.frozen; rows = c.self.inside.rows; views = c.self.inside.views.items }) c.args.self.now c.new_tip.new.rows c.new_tip.new.frozen.blocks c.in_ok-tip.tip c.as_slice-views.result.now c.reserve.new.self.items beside
             c.self.view_is c.as_slice-views.ensures.value c.in_ok-reserve.ensures.items (c.in_ok-tip.ensures.shared beside) held.shared))
             c.release_within.new.rows c.release_within.new.views.items c.release_within.ensures.counts c.release_within.ensures.rows;
         tips = subst (λ (n : ℕ). AreOfTips table n c.release_within.new.views.items) (sym blocks)
@@ -84,12 +84,12 @@ returns-clause-voted c =
 
 pub returns-clause-grew : goal.returns-clause-grew
 returns-clause-grew c =
-    let table : List (List ℕ) = c.args.dag.now.parents in
+    let table : Numbered = c.args.dag.now in
     let b : ℕ = c.len-b.result - 1 in
     let views : List Viewed = c.self.inside.views.items in
-    let next : length table ≡ c.self.inside.frozen.blocks + 1 = c.requires.next ∙ ap (λ (v : Tallied). v.frozen.blocks + 1) (sym c.self.view_is) in
+    let next : length table.parents ≡ c.self.inside.frozen.blocks + 1 = c.requires.next ∙ ap (λ (v : Tallied). v.frozen.blocks + 1) (sym c.self.view_is) in
     let at_b : c.self.inside.frozen.blocks ≡ b = omega (arith, next, c.len-b.ensures.value) in
-    let last : b + 1 ≡ length table = omega (arith, next, at_b) in
+    let last : b + 1 ≡ length table.parents = omega (arith, next, at_b) in
     let old : HoldsVotes table (record { frozen = c.self.inside.frozen; rows = c.self.inside.rows; views = views }) c.requires.holds.0 =
     subst (λ (v : Tallied). HoldsVotes table v c.requires.holds.0) (sym c.self.view_is) c.requires.holds.1 in
     let are : AreOfTips table b views = subst (λ (n : ℕ). AreOfTips table n views) at_b old.tips in

@@ -1,5 +1,6 @@
-use Rattle.std.proofs.Common.{◌<◌, ◌∷◌, [], ℕ, List, sym, arith, subst}
+use Rattle.std.proofs.Common.{◌<◌, ◌∷◌, [], sym, arith, subst}
 use Rattle.std.proofs.lemmas.Result.{IfOk-weaker}
+use Rattle.sp_dag.specs.Numbered.{Numbered}
 use Rattle.sp_view.specs.Views.{Viewed}
 use Rattle.sp_engine.specs.Votes.{AreVotedBeside, IsOfAll, Tallied}
 use Rattle.sp_engine.proofs.Forked.{let_go}
@@ -9,7 +10,7 @@ use Rattle.sp_engine.proofs.votes.Votes.changes.Goals as goal
 
 pub changed_pairs-pairs-requires : goal.changed_pairs-pairs-requires
 changed_pairs-pairs-requires c =
-    let table : List (List ℕ) = c.args.dag.now.parents in
+    let table : Numbered = c.args.dag.now in
     let view : Viewed = c.all.result.now in
     let v : Tallied = record { frozen = c.self.inside.frozen; rows = c.self.inside.rows; views = c.self.inside.views.items } in
     let voted : AreVotedBeside table v (c.args.fork ∷ []) = subst (λ (w : Tallied). AreVotedBeside table w (c.args.fork ∷ [])) (sym c.self.view_is) c.requires in
@@ -24,7 +25,7 @@ changed_pairs-pairs-requires c =
 
 pub returns-clause-told : goal.returns-clause-told
 returns-clause-told c =
-    let table : List (List ℕ) = c.args.dag.now.parents in
+    let table : Numbered = c.args.dag.now in
     IfOk-weaker c.changed_pairs-pairs.result _ _
     (λ pairs found n is.
     tells table n c.args.fork.members c.all.result.now.members pairs.items is (all_members table c.args.self.now c.requires c.all.result.now c.all.ensures)
@@ -34,5 +35,5 @@ returns-clause-told c =
 pub returns-clause-voted : goal.returns-clause-voted
 returns-clause-voted c =
     let v : Tallied = record { frozen = c.self.inside.frozen; rows = c.self.inside.rows; views = c.self.inside.views.items } in
-    let voted : AreVotedBeside c.args.dag.now.parents v (c.args.fork ∷ []) = subst (λ (w : Tallied). AreVotedBeside c.args.dag.now.parents w (c.args.fork ∷ [])) (sym c.self.view_is) c.requires in
-    let_go c.args.dag.now.parents v c.args.fork c.release.new.pool voted c.release.ensures.counts c.release.ensures.rows
+    let voted : AreVotedBeside c.args.dag.now v (c.args.fork ∷ []) = subst (λ (w : Tallied). AreVotedBeside c.args.dag.now w (c.args.fork ∷ [])) (sym c.self.view_is) c.requires in
+    let_go c.args.dag.now v c.args.fork c.release.new.pool voted c.release.ensures.counts c.release.ensures.rows

@@ -1,6 +1,7 @@
 use Rattle.std.proofs.Common.{◌≡◌, ◌∙◌, ◌-◌, ◌<◌, ℕ, List, ap, sym, arith, subst, length, Some}
 use Rattle.std.specs.Prelude.{slice_get}
 use Rattle.std.proofs.lemmas.Option.{slice_get-get_or}
+use Rattle.sp_dag.specs.Numbered.{Numbered}
 use Rattle.sp_view.specs.Views.{Viewed}
 use Rattle.sp_engine.specs.Votes.{AreVoted, Tallied}
 use Rattle.sp_engine.proofs.Forked.{few_holders, if_forked}
@@ -8,11 +9,11 @@ use Rattle.sp_engine.proofs.Voted.{below_all, is_view, some_view}
 use Rattle.sp_engine.proofs.votes.Votes.fork.Goals as goal
 
 pub overflow_sub-last : goal.overflow_sub-last
-overflow_sub-last c = omega (arith, some_view c.args.dag.now.parents c.args.self.now c.requires, ap (λ (v : Tallied). length v.views) c.self.view_is, c.len-last.ensures, c.self.inside.views.ok.0)
+overflow_sub-last c = omega (arith, some_view c.args.dag.now c.args.self.now c.requires, ap (λ (v : Tallied). length v.views) c.self.view_is, c.len-last.ensures, c.self.inside.views.ok.0)
 
 pub fork-requires : goal.fork-requires
 fork-requires c =
-    let table : List (List ℕ) = c.args.dag.now.parents in
+    let table : Numbered = c.args.dag.now in
     let items : List Viewed = c.self.inside.views.items in
     let place : ℕ = c.len-last.result - 1 in
     let v : Tallied = record { frozen = c.self.inside.frozen; rows = c.self.inside.rows; views = items } in
@@ -26,7 +27,7 @@ fork-requires c =
 
 pub returns-clause-voted : goal.returns-clause-voted
 returns-clause-voted c =
-    let table : List (List ℕ) = c.args.dag.now.parents in
+    let table : Numbered = c.args.dag.now in
     let items : List Viewed = c.self.inside.views.items in
     let place : ℕ = c.len-last.result - 1 in
     let v : Tallied = record { frozen = c.self.inside.frozen; rows = c.self.inside.rows; views = items } in

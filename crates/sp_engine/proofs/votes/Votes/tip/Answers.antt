@@ -17,7 +17,7 @@ returns-then-is_top-clause-some c =
     let at : slice_get items c.tips.i ≡ Some view = slice_get-get_or items c.tips.i view (omega (arith, long)) ∙ ap Some (sym c.index-then-is_top.ensures) in
     let same : c.index.result.now ≡ view = c.index.ensures ∙ get_or_from_slice_get items c.tips.i view c.index.result.now at in
     let top : IsGreatest view.members c.args.n = subst (λ (l : List ℕ). IsGreatest l c.args.n) (c.members.ensures ∙ ap (λ (v : Viewed). v.members) same) (c.is_top.ensures.0 c.if-is_top.true) in
-    (is_of_tip c.args.dag.now.parents c.args.self.now c.requires.voted c.len-blocks.ensures.numbered.order c.len-blocks.ensures.numbered.small c.tips.i c.args.n view
+    (is_of_tip c.args.dag.now c.args.self.now c.requires.voted c.len-blocks.ensures.numbered.order c.len-blocks.ensures.numbered.small c.tips.i c.args.n view
     (ap (λ (l : List Viewed). slice_get l c.tips.i) (sym are) ∙ at) (omega (arith, long, ap length are)) top).0
 
 pub returns-then-is_top-clause-tip : goal.returns-then-is_top-clause-tip
@@ -29,7 +29,7 @@ returns-then-is_top-clause-tip c =
     let at : slice_get items c.tips.i ≡ Some view = slice_get-get_or items c.tips.i view (omega (arith, long)) ∙ ap Some (sym c.index-then-is_top.ensures) in
     let same : c.index.result.now ≡ view = c.index.ensures ∙ get_or_from_slice_get items c.tips.i view c.index.result.now at in
     let top : IsGreatest view.members c.args.n = subst (λ (l : List ℕ). IsGreatest l c.args.n) (c.members.ensures ∙ ap (λ (v : Viewed). v.members) same) (c.is_top.ensures.0 c.if-is_top.true) in
-    (is_of_tip c.args.dag.now.parents c.args.self.now c.requires.voted c.len-blocks.ensures.numbered.order c.len-blocks.ensures.numbered.small c.tips.i c.args.n view
+    (is_of_tip c.args.dag.now c.args.self.now c.requires.voted c.len-blocks.ensures.numbered.order c.len-blocks.ensures.numbered.small c.tips.i c.args.n view
     (ap (λ (l : List Viewed). slice_get l c.tips.i) (sym are) ∙ at) (omega (arith, long, ap length are)) top).1
 
 pub tips-preserved : goal.tips-preserved
@@ -50,7 +50,7 @@ tips-preserved c = λ i view lt at top. elim (cases_lt i c.tips.i) [
 pub returns-clause-none : goal.returns-clause-none
 returns-clause-none c =
     false_from_ne_true (is_tip c.args.dag.now.parents c.args.n) (λ tip.
-    let one = has_view c.args.dag.now.parents c.args.self.now c.requires.voted c.len-blocks.ensures.numbered.order c.len-blocks.ensures.numbered.small c.args.n c.requires.within tip in
+    let one = has_view c.args.dag.now c.args.self.now c.requires.voted c.len-blocks.ensures.numbered.order c.len-blocks.ensures.numbered.small c.args.n c.requires.within tip in
     let lt : one.0 < c.tips.i =
     omega (arith, one.3, ap (λ (v : Tallied). length v.views) c.self.view_is, c.tips-test.false, c.len-tips.ensures, c.self.inside.views.ok.0) in
     c.tips.invariant one.0 one.1 lt one.2 one.4)
@@ -61,4 +61,4 @@ returns-then-is_top-clause-holds c =
     let view : Viewed = c.index-then-is_top.result.now in
     let long : c.tips.i + 1 < length items = omega (arith, c.tips-test.true, c.len-tips.ensures, c.self.inside.views.ok.0) in
     let at : slice_get items c.tips.i ≡ Some view = slice_get-get_or items c.tips.i view (omega (arith, long)) ∙ ap Some (sym c.index-then-is_top.ensures) in
-    is_view c.args.dag.now.parents c.args.self.now c.requires.voted c.tips.i view (ap (λ (v : Tallied). slice_get v.views c.tips.i) (sym c.self.view_is) ∙ at)
+    is_view c.args.dag.now c.args.self.now c.requires.voted c.tips.i view (ap (λ (v : Tallied). slice_get v.views c.tips.i) (sym c.self.view_is) ∙ at)

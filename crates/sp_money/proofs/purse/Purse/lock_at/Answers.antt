@@ -11,4 +11,4 @@ returns-clause-balance c =
     let s = c.self.inside.store in
     subst (λ (h : Held). (txs : List Transaction) → IsOf txs h → c.total.result ≡ balance_of (accepted_in txs h.accepted) c.at.result) c.self.view_is
     (known_balance s.slots.items s.totals.items s.starts.items s.locks s.accepted.items c.args.number c.at.result c.total.result
-    c.self.invariant c.at.ensures.once c.at.ensures.value c.total.ensures)
+    c.self.invariant.0 c.at.ensures.once c.at.ensures.value c.total.ensures)

@@ -10,6 +10,6 @@ returns-in-Err-clause-err c =
     let s = c.self.inside.store in
     let of : IsOf (take (length c.args.self.now.accepted) c.args.carriers.now.txs) (held_of s) =
     subst (λ (h : Held). IsOf (take (length c.args.self.now.accepted) c.args.carriers.now.txs) h) (sym c.self.view_is) c.requires.of in
-    (front_kept s c.add_txs.new.self c.take_back.new.self c.len-slots.result c.len-txs.result c.len-locks.result c.self.invariant c.add_txs.ensures.longer c.take_back.ensures
-    (omega arith) (omega arith) (ap length of.starts ∙ length-starts 0 (take (length c.args.self.now.accepted) c.args.carriers.now.txs) ∙ sym of.flags) c.len-locks.ensures).1
+    (front_kept s c.add_txs.new.self c.take_back.new.self c.len-slots.result c.len-txs.result c.len-locks.result c.self.invariant.0 c.add_txs.ensures.longer c.take_back.ensures
+    (omega arith) (omega arith) (ap length of.starts ∙ length-starts 0 (take (length c.args.self.now.accepted) c.args.carriers.now.txs) ∙ sym of.flags) c.len-locks.ensures.value).1
     ∙ c.self.view_is

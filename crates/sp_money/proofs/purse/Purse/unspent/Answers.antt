@@ -15,7 +15,7 @@ returns-in_ok-sort-in-Some-clause-names c =
     subst (λ (h : Held). (txs : List Transaction) → IsOf txs h → IsPermutation (names_under (accepted_in txs h.accepted) c.args.lock.now) c.sort.new.self.items) c.self.view_is
     (λ txs of. subst (λ (names : List Outpoint). IsPermutation names c.sort.new.self.items) (c.in_ok-names-in-Some.ensures
     ∙ known_names s.slots.items s.totals.items s.starts.items s.locks s.accepted.items c.in-Some.number c.args.lock.now
-    c.self.invariant c.number_of.ensures.once (sym c.number_of.ensures.value ∙ c.in-Some.is) txs of) c.sort.ensures.permutation)
+    c.self.invariant.0 c.number_of.ensures.once (sym c.number_of.ensures.value ∙ c.in-Some.is) txs of) c.sort.ensures.permutation)
 
 pub returns-in-None-clause-names : goal.returns-in-None-clause-names
 returns-in-None-clause-names c =
@@ -23,4 +23,4 @@ returns-in-None-clause-names c =
     subst (λ (h : Held). (txs : List Transaction) → IsOf txs h → IsPermutation (names_under (accepted_in txs h.accepted) c.args.lock.now) c.new.result.items) c.self.view_is
     (λ txs of. rw c.new.ensures.items (subst (λ (names : List Outpoint). IsPermutation names [])
     (no_names s.slots.items s.totals.items s.starts.items s.locks s.accepted.items c.args.lock.now
-    c.self.invariant (sym c.number_of.ensures.value ∙ c.in-None.is) txs of) (IsPermutation-refl [])))
+    c.self.invariant.0 (sym c.number_of.ensures.value ∙ c.in-None.is) txs of) (IsPermutation-refl [])))

@@ -1,6 +1,6 @@
-use Rattle.std.proofs.Common.{◌∷◌, [], ap, rules}
+use Rattle.std.proofs.Common.{◌∷◌, [], rules}
 use Rattle.std.specs.Prelude.{map}
-use Rattle.sp_dag.specs.Numbered.{number_of, Numbered}
+use Rattle.sp_dag.specs.Numbered.{number_of}
 use Rattle.sp_tests_views.proofs.Pasts.{each_there, frozen_beside, view_beside}
 use Rattle.sp_tests_views.proofs.based.Based.grow.Goals as goal
 
@@ -9,10 +9,10 @@ add-requires-clause-known c = λ k d lt. each_there c.args.self.now.dag.ids c.id
 
 pub freeze_last-requires-clause-frozen : goal.freeze_last-requires-clause-frozen
 freeze_last-requires-clause-frozen c =
-    frozen_beside c.args.self.now.dag.parents c.add.new.self.parents (map (number_of c.args.self.now.dag.ids) (c.id-on.result ∷ [])) (ap (λ (n : Numbered). n.parents) c.in_ok-add.ensures.ok)
-    c.len.ensures.numbered.order c.len-blocks.ensures.numbered.order c.args.self.now.frozen c.requires.voted
+    frozen_beside c.args.self.now.dag c.add.new.self c.id-new.result 0 (map (number_of c.args.self.now.dag.ids) (c.id-on.result ∷ [])) c.in_ok-add.ensures.ok
+    c.len.ensures.numbered c.len-blocks.ensures.numbered.order c.args.self.now.frozen c.requires.voted
 
 pub returns-clause-views : goal.returns-clause-views
 returns-clause-views c =
-    view_beside c.args.self.now.dag.parents c.add.new.self.parents (map (number_of c.args.self.now.dag.ids) (c.id-on.result ∷ [])) (ap (λ (n : Numbered). n.parents) c.in_ok-add.ensures.ok)
-    c.len.ensures.numbered.order c.len-blocks.ensures.numbered.order
+    view_beside c.args.self.now.dag c.add.new.self c.id-new.result 0 (map (number_of c.args.self.now.dag.ids) (c.id-on.result ∷ [])) c.in_ok-add.ensures.ok
+    c.len.ensures.numbered c.len-blocks.ensures.numbered.order

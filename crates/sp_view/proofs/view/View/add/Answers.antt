@@ -1,30 +1,18 @@
-use Rattle.std.proofs.Common.{◌≡◌, ◌∙◌, ◌<◌, ◌≤◌, ◌+◌, ◌||◌, ℕ, List, Option, ap, arith, eqb, length, subst, sym}
+use Rattle.std.proofs.Common.{◌≡◌, ◌∙◌, ◌<◌, ◌≤◌, ◌+◌, ◌*◌, ◌||◌, ℕ, List, Option, ap, arith, eqb, length, subst, sym}
 use Rattle.sp_bits.specs.Places.{places_where}
-use Rattle.sp_dag.specs.Numbered.{graph_of, pairs_of}
+use Rattle.sp_dag.specs.Numbered.{Numbered, graph_of, pairs_of}
 use Rattle.sp_model.specs.Graph.{has}
 use Rattle.sp_rows.specs.Pool.{Counted, words_of}
 use Rattle.sp_rows.specs.Pool as counted
 use Rattle.sp_view.specs.Moving.{moved_rows}
 use Rattle.sp_view.specs.Views.{Viewed, entry_at, held, AreEntries}
 use Rattle.sp_view.specs.Voting.{IsJoined, IsVoting}
-use Rattle.std.proofs.Common.{refl}
 use Rattle.sp_view.specs.Stored.{live}
 use Rattle.sp_view.proofs.Brought.{moved_brought}
 use Rattle.sp_view.proofs.Growing.{entries_grown, view_joined}
+use Rattle.sp_view.proofs.Moves.{all_moved_few}
 use Rattle.sp_view.proofs.Pools.{row_of_words}
 use Rattle.sp_view.proofs.view.View.add.Goals as goal
-
-pub rows_needed-rows-requires-clause-voting : goal.rows_needed-rows-requires-clause-voting
-rows_needed-rows-requires-clause-voting c =
-    let more : c.set.new.self ≡ places_where (λ p. has c.args.self.now.members p || eqb p c.args.b) = c.set.ensures ∙ ap (λ (v : Viewed). places_where (λ p. has v.members p || eqb p c.args.b)) c.self.view_is in
-    (view_joined c.args.dag.now.parents c.args.frozen.now c.args.self.now c.args.pool.now c.args.b c.set.new.self c.len-blocks.ensures.numbered.small
-    c.requires.view c.requires.frozen c.requires.added c.requires.b_added c.requires.new c.requires.past more).voting
-
-pub rows_needed-rows-requires-clause-joined : goal.rows_needed-rows-requires-clause-joined
-rows_needed-rows-requires-clause-joined c =
-    let more : c.set.new.self ≡ places_where (λ p. has c.args.self.now.members p || eqb p c.args.b) = c.set.ensures ∙ ap (λ (v : Viewed). places_where (λ p. has v.members p || eqb p c.args.b)) c.self.view_is in
-    (view_joined c.args.dag.now.parents c.args.frozen.now c.args.self.now c.args.pool.now c.args.b c.set.new.self c.len-blocks.ensures.numbered.small
-    c.requires.view c.requires.frozen c.requires.added c.requires.b_added c.requires.new c.requires.past more).joins.there
 
 pub returns-in_err-reserve-2-clause-others : goal.returns-in_err-reserve-2-clause-others
 returns-in_err-reserve-2-clause-others c = λ r _. row_of_words c.args.pool.now c.reserve-2.new.self r (ap (λ (l : List Counted). words_of l r) c.in_err-reserve-2.ensures.rows)
@@ -32,36 +20,33 @@ returns-in_err-reserve-2-clause-others c = λ r _. row_of_words c.args.pool.now 
 pub join_entries-requires-clause-joined : goal.join_entries-requires-clause-joined
 join_entries-requires-clause-joined c =
     let more : c.set.new.self ≡ places_where (λ p. has c.args.self.now.members p || eqb p c.args.b) = c.set.ensures ∙ ap (λ (v : Viewed). places_where (λ p. has v.members p || eqb p c.args.b)) c.self.view_is in
-    subst (λ (s : List ℕ). IsJoined c.args.dag.now.parents c.args.frozen.now c.args.b s c.set.new.self) (sym (ap (λ (v : Viewed). v.members) c.self.view_is))
-    (view_joined c.args.dag.now.parents c.args.frozen.now c.args.self.now c.args.pool.now c.args.b c.set.new.self c.len-blocks.ensures.numbered.small
+    subst (λ (s : List ℕ). IsJoined c.args.dag.now c.args.frozen.now c.args.b s c.set.new.self) (sym (ap (λ (v : Viewed). v.members) c.self.view_is))
+    (view_joined c.args.dag.now c.args.frozen.now c.args.self.now c.args.pool.now c.args.b c.set.new.self c.len-blocks.ensures.numbered.small
     c.requires.view c.requires.frozen c.requires.added c.requires.b_added c.requires.new c.requires.past more)
 
 pub join_entries-requires-clause-entry : goal.join_entries-requires-clause-entry
 join_entries-requires-clause-entry c =
     let same : (i : ℕ) → entry_at c.grow.new.entries.items i ≡ entry_at c.args.self.now.entries i =
     λ i. c.grow.ensures.entry i ∙ ap (λ (l : List (Option (ℕ × ℕ))). entry_at l i) c.in_ok-reserve.ensures.items ∙ ap (λ (v : Viewed). entry_at v.entries i) c.self.view_is in
-    subst (λ (s : List ℕ). AreEntries c.args.dag.now.parents s c.reserve-2.new.self c.grow.new.entries.items) (sym (ap (λ (v : Viewed). v.members) c.self.view_is))
-    (entries_grown c.args.dag.now.parents c.args.self.now c.args.pool.now c.reserve-2.new.self c.grow.new.entries.items c.requires.view same
+    subst (λ (s : List ℕ). AreEntries c.args.dag.now s c.reserve-2.new.self c.grow.new.entries.items) (sym (ap (λ (v : Viewed). v.members) c.self.view_is))
+    (entries_grown c.args.dag.now c.args.self.now c.args.pool.now c.reserve-2.new.self c.grow.new.entries.items c.requires.view same
     (λ r. row_of_words c.args.pool.now c.reserve-2.new.self r (ap (λ (l : List Counted). words_of l r) c.in_ok-reserve-2.ensures.rows)))
 
 pub join_entries-requires-clause-room : goal.join_entries-requires-clause-room
 join_entries-requires-clause-room c =
-    let table : List (List ℕ) = c.args.dag.now.parents in
+    let table : Numbered = c.args.dag.now in
     let more : c.set.new.self ≡ places_where (λ p. has c.args.self.now.members p || eqb p c.args.b) = c.set.ensures ∙ ap (λ (v : Viewed). places_where (λ p. has v.members p || eqb p c.args.b)) c.self.view_is in
     let joined : IsJoined table c.args.frozen.now c.args.b c.args.self.now.members c.set.new.self =
     view_joined table c.args.frozen.now c.args.self.now c.args.pool.now c.args.b c.set.new.self c.len-blocks.ensures.numbered.small
     c.requires.view c.requires.frozen c.requires.added c.requires.b_added c.requires.new c.requires.past more in
-    let same : (i : ℕ) → entry_at c.deref.result.now i ≡ entry_at c.args.self.now.entries i =
-    λ i. ap (λ (l : List (Option (ℕ × ℕ))). entry_at l i) (c.deref.ensures.value ∙ c.in_ok-reserve.ensures.items) ∙ ap (λ (v : Viewed). entry_at v.entries i) c.self.view_is in
-    let enough : moved_rows (graph_of table) c.args.self.now.members c.set.new.self (pairs_of table) ≤ c.rows_needed-rows.result =
-    c.rows_needed-rows.ensures.enough c.args.self.now.members joined
-    (entries_grown table c.args.self.now c.args.pool.now c.args.pool.now c.deref.result.now c.requires.view same (λ r. refl)) in
+    let few : moved_rows (graph_of table) c.args.self.now.members c.set.new.self (pairs_of table) ≤ 2 * length (pairs_of table) =
+    all_moved_few (graph_of table) c.args.self.now.members c.set.new.self (pairs_of table) joined.row joined.voting.asked.row in
     subst (λ (s : List ℕ). moved_rows (graph_of table) s c.set.new.self (pairs_of table) ≤ c.reserve-2.new.self.spare) (sym (ap (λ (v : Viewed). v.members) c.self.view_is))
-    (omega (arith, enough, c.in_ok-reserve-2.ensures.ok))
+    (omega (arith, few, c.pair_count-pairs.ensures.value, c.in_ok-reserve-2.ensures.ok))
 
 pub returns-clause-ok : goal.returns-clause-ok
 returns-clause-ok c =
-    let table : List (List ℕ) = c.args.dag.now.parents in
+    let table : Numbered = c.args.dag.now in
     let more : c.set.new.self ≡ places_where (λ p. has c.args.self.now.members p || eqb p c.args.b) = c.set.ensures ∙ ap (λ (v : Viewed). places_where (λ p. has v.members p || eqb p c.args.b)) c.self.view_is in
     let voting : IsVoting table c.args.frozen.now c.set.new.self =
     (view_joined table c.args.frozen.now c.args.self.now c.args.pool.now c.args.b c.set.new.self c.len-blocks.ensures.numbered.small
@@ -87,12 +72,12 @@ returns-clause-others c = λ r less.
 
 pub returns-clause-live : goal.returns-clause-live
 returns-clause-live c =
-    let table : List (List ℕ) = c.args.dag.now.parents in
+    let table : Numbered = c.args.dag.now in
     let more : c.set.new.self ≡ places_where (λ p. has c.args.self.now.members p || eqb p c.args.b) = c.set.ensures ∙ ap (λ (v : Viewed). places_where (λ p. has v.members p || eqb p c.args.b)) c.self.view_is in
     let joined : IsJoined table c.args.frozen.now c.args.b c.args.self.now.members c.set.new.self =
     view_joined table c.args.frozen.now c.args.self.now c.args.pool.now c.args.b c.set.new.self c.len-blocks.ensures.numbered.small
     c.requires.view c.requires.frozen c.requires.added c.requires.b_added c.requires.new c.requires.past more in
-    let within : c.args.b < length table = omega (arith, c.requires.b_added, c.requires.frozen.within) in
+    let within : c.args.b < length table.parents = omega (arith, c.requires.b_added, c.requires.frozen.within) in
     let moved : live c.join_entries.new.pool ≤ live c.reserve-2.new.self + moved_rows (graph_of table) c.args.self.now.members c.set.new.self (pairs_of table) =
     subst (λ (s : List ℕ). live c.join_entries.new.pool ≤ live c.reserve-2.new.self + moved_rows (graph_of table) s c.set.new.self (pairs_of table)) (ap (λ (v : Viewed). v.members) c.self.view_is) c.join_entries.ensures.live in
     omega (
