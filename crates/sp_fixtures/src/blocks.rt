@@ -22,8 +22,8 @@ pub fn genesis_of(alloc: Global, bytes: &[u8]) -> Result<Block, Fail>
     Ok(read_block(alloc, bytes, true)?)
 }
 
-/// The bytes of a block without transactions, of nonce 0.
-fn spelled(alloc: Global, salt: u64, parents: &[BlockId]) -> Result<Vec<u8>, Fail> {
+/// The bytes of a block without transactions.
+fn spelled(alloc: Global, salt: u64, nonce: u64, parents: &[BlockId]) -> Result<Vec<u8>, Fail> {
     if parents.len() > 64 {
         return Err("more than 64 parents".into());
     }
@@ -32,11 +32,11 @@ fn spelled(alloc: Global, salt: u64, parents: &[BlockId]) -> Result<Vec<u8>, Fai
         parents: Parents::of(Vec::from_slice(alloc, parents)?),
         txs: Txs::of(Vec::new(alloc)),
     };
-    Ok(draft_bytes(alloc, &draft, 0)?)
+    Ok(draft_bytes(alloc, &draft, nonce)?)
 }
 
-/// Blocks by number, each with its bytes and its id; genesis is number 0, and the salt of each is
-/// its number.
+/// Blocks by number, each with its bytes and its id; genesis is number 0. The salt of a block is its
+/// number where it is given none.
 pub struct Numbered {
     pub alloc: Global,
     pub texts: Vec<Vec<u8>>,
@@ -72,13 +72,25 @@ impl Numbered {
         Ok(all)
     }
 
-    /// One block more.
+    /// One block more, whose salt is its number.
     pub fn add(&mut self, parents: &[usize]) -> Result<(), Fail> {
+        let number = self.ids.len() as u64;
+        self.put(number, 0, parents)
+    }
+
+    /// One block more of a salt that others may have. Its nonce is its number, so that two blocks of one
+    /// salt on the same parents differ.
+    pub fn add_salted(&mut self, salt: u64, parents: &[usize]) -> Result<(), Fail> {
+        let number = self.ids.len() as u64;
+        self.put(salt, number, parents)
+    }
+
+    fn put(&mut self, salt: u64, nonce: u64, parents: &[usize]) -> Result<(), Fail> {
         let mut ids = Vec::new(self.alloc);
         for parent in parents {
             ids.push(self.id(*parent))?;
         }
-        let text = spelled(self.alloc, self.ids.len() as u64, &ids)?;
+        let text = spelled(self.alloc, salt, nonce, &ids)?;
         self.ids.push(BlockId::of(&text))?;
         self.texts.push(text)?;
         Ok(())
