@@ -1,23 +1,24 @@
-//! Graphs that are drawn, whose blocks come to an engine in several orders: its frozen votes and its
-//! views beside the plain votes.
+//! Graphs that are drawn, whose blocks come to an engine of either profile in several orders: its
+//! frozen votes and its views beside the plain votes.
 
 ghost use Rattle.std.specs.Prelude.{◌≡◌, ◌≤◌, false, length};
 ghost use Rattle.sp_tests_views.specs.Voting.{CanVote};
 
 use crate::counts::{are_counted, count_view};
 use crate::engines::{come, engine_of, view_at};
-use crate::graphs::{Shape, blocks_of, drawn, ordered};
+use crate::graphs::{GRAPHS, Shape, blocks_of, drawn, ordered};
 use crate::rows::right;
 use crate::signs::{are_inside, are_turned, changes, has_votes, past_votes, plain_of};
 use crate::voters::{are_frozen, are_held};
-use sp_bits::Row;
 use sp_dag::Dag;
 use sp_engine::Engine;
 use sp_fixtures::Numbered;
 use sp_frozen::Frozen;
+use sp_model::Profile;
 use sp_rows::RowPool;
 use sp_view::View;
 use std::alloc::Global;
+use std::process::Abort;
 use std::test::Fail;
 
 /// Whether a view votes as the plain votes of its members say.
@@ -128,40 +129,68 @@ fn wrong(
     Ok("")
 }
 
-fn wrong_in(alloc: Global, graph: &[Row], order: u8, seed: u64) -> Result<&'static str, Fail> {
-    let blocks = blocks_of(alloc, graph)?;
-    let numbers = ordered(alloc, graph, order, seed)?;
-    if numbers.len().saturating_add(1) != graph.len() {
+fn wrong_in(
+    alloc: Global,
+    blocks: &Numbered,
+    order: &[u8],
+    profile: Profile,
+) -> Result<&'static str, Fail> {
+    if order.len().saturating_add(1) != blocks.ids.len() {
         return Ok("the order");
     }
-    let mut engine = engine_of(alloc, &blocks)?;
-    let wrong = wrong(alloc, &mut engine, &blocks, &numbers);
+    let mut engine = engine_of(alloc, blocks, profile)?;
+    let wrong = wrong(alloc, &mut engine, blocks, order);
     drop(engine);
     wrong
 }
 
-/// What is wrong with a drawn graph in one of the three orders.
-fn wrong_of(alloc: Global, shape: &Shape, order: u8) -> Result<&'static str, Fail> {
+/// What is wrong with a drawn graph of a profile in one of the three orders.
+fn wrong_of(
+    alloc: Global,
+    shape: &Shape,
+    profile: Profile,
+    order: u8,
+) -> Result<&'static str, Fail> {
     let graph = drawn(alloc, shape)?;
-    wrong_in(alloc, &graph, order, shape.1)
+    let blocks = blocks_of(alloc, &graph, shape.1)?;
+    let numbers = ordered(alloc, &graph, order, shape.1)?;
+    wrong_in(alloc, &blocks, &numbers, profile)
 }
 
-#[rattlefmt::skip]
-const GRAPHS: &[Shape] = &[
-    (8, 1, 8, 3), (10, 2, 4, 2), (12, 3, 12, 6), (14, 4, 5, 3), (16, 5, 16, 2),
-    (16, 6, 6, 6), (18, 7, 18, 8), (18, 8, 3, 2), (20, 9, 20, 1), (20, 10, 8, 4),
-    (20, 11, 20, 12), (22, 12, 7, 6), (22, 13, 22, 2), (24, 14, 10, 3), (24, 15, 24, 6),
-    (26, 16, 6, 2), (28, 17, 12, 5), (30, 18, 30, 3), (36, 19, 9, 6), (40, 20, 16, 6),
-    // That of `make 24 5 3`.
-    (24, 5, 3, 0),
-];
-
-#[test]
-fn each_graph_in_three_orders(rt: HostRuntime) -> Result<(), Fail> {
+/// Judges each graph of a profile in one of the three orders.
+fn judge(rt: &impl Abort, alloc: Global, profile: Profile, order: u8) -> Result<(), Fail> {
     for (row, shape) in GRAPHS.iter().enumerate() {
-        for order in 0..3u8 {
-            right(&rt, row, wrong_of(rt.alloc(), shape, order)?);
-        }
+        right(rt, row, wrong_of(alloc, shape, profile, order)?);
     }
     Ok(())
+}
+
+#[test]
+fn kept_ties_in_order(rt: HostRuntime) -> Result<(), Fail> {
+    judge(&rt, rt.alloc(), Profile::One, 0)
+}
+
+#[test]
+fn kept_ties_highest_first(rt: HostRuntime) -> Result<(), Fail> {
+    judge(&rt, rt.alloc(), Profile::One, 1)
+}
+
+#[test]
+fn kept_ties_in_a_drawn_order(rt: HostRuntime) -> Result<(), Fail> {
+    judge(&rt, rt.alloc(), Profile::One, 2)
+}
+
+#[test]
+fn settled_ties_in_order(rt: HostRuntime) -> Result<(), Fail> {
+    judge(&rt, rt.alloc(), Profile::Two, 0)
+}
+
+#[test]
+fn settled_ties_highest_first(rt: HostRuntime) -> Result<(), Fail> {
+    judge(&rt, rt.alloc(), Profile::Two, 1)
+}
+
+#[test]
+fn settled_ties_in_a_drawn_order(rt: HostRuntime) -> Result<(), Fail> {
+    judge(&rt, rt.alloc(), Profile::Two, 2)
 }

@@ -11,8 +11,12 @@ use std::alloc::Global;
 use std::test::Fail;
 
 /// An engine of genesis alone.
-pub(crate) fn engine_of(alloc: Global, blocks: &Numbered) -> Result<Engine, Fail> {
-    Ok(Engine::new(alloc, genesis_of(alloc, blocks.text(0))?, 0, Profile::One)?)
+pub(crate) fn engine_of(
+    alloc: Global,
+    blocks: &Numbered,
+    profile: Profile,
+) -> Result<Engine, Fail> {
+    Ok(Engine::new(alloc, genesis_of(alloc, blocks.text(0))?, 0, profile)?)
 }
 
 /// A block comes to an engine, whose parents are all present.

@@ -42,39 +42,72 @@ fn count_draws(number: u64, width: u64, most: u64, state: u64) -> (u64, u64) {
     }
 }
 
-/// A drawn graph: how many blocks it has, the seed, how many of the latest blocks are drawn from, and how
-/// many parents at most.
-pub(crate) type Shape = (u64, u64, u64, u64);
+/// A drawn graph: how many blocks it has, the seed, how many of the latest blocks are drawn from, how
+/// many draws a block takes at most, and how many of the first blocks stand on genesis alone.
+pub(crate) type Shape = (u64, u64, u64, u64, u64);
+
+/// The graphs of all tests here. Those at the end have up to 20 parents, and 64. In most of these many
+/// blocks stand on genesis alone, and a block above some of them finds a tie on each two.
+#[rattlefmt::skip]
+pub(crate) const GRAPHS: &[Shape] = &[
+    (8, 1, 8, 3, 0), (10, 2, 4, 2, 0), (12, 3, 12, 6, 0), (14, 4, 5, 3, 0), (16, 5, 16, 2, 0),
+    (16, 6, 6, 6, 0), (18, 7, 18, 8, 0), (18, 8, 3, 2, 0), (20, 9, 20, 1, 0), (20, 10, 8, 4, 0),
+    (20, 11, 20, 12, 0), (22, 12, 7, 6, 0), (22, 13, 22, 2, 0), (24, 14, 10, 3, 0), (24, 15, 24, 6, 0),
+    (26, 16, 6, 2, 0), (28, 17, 12, 5, 0), (30, 18, 30, 3, 0), (36, 19, 9, 6, 0), (40, 20, 16, 6, 0),
+    // That of `make 24 5 3`.
+    (24, 5, 3, 0, 0),
+    // Many parents.
+    (30, 21, 30, 20, 0), (28, 25, 20, 100, 10), (30, 23, 20, 40, 14), (30, 26, 20, 30, 20), (66, 24, 64, 1000, 64),
+];
+
+/// The parents of a block, and the state behind their draws.
+fn parents_of(shape: &Shape, number: u64, before: u64) -> (Row, u64) {
+    let (_, _, width, most, first) = *shape;
+    let mut parents = Row::empty();
+    if number <= first {
+        parents.set(0);
+        return (parents, before);
+    }
+    let (draws, state) = count_draws(number, width, most, before);
+    if draws == 0 {
+        parents.set((number.saturating_sub(1) % 512) as u16);
+    }
+    let behind = draw_parents(&mut parents, number, width, draws, state);
+    (parents, behind)
+}
 
 /// The parents of each block of a graph by its number.
 pub(crate) fn drawn(alloc: Global, shape: &Shape) -> Result<Vec<Row>, Fail> {
-    let (blocks, seed, width, most) = *shape;
     let mut graph = Vec::new(alloc);
     graph.push(Row::empty())?;
-    let mut state = seed;
-    for number in 1..=blocks {
-        let mut parents = Row::empty();
-        let (draws, before) = count_draws(number, width, most, state);
-        if draws == 0 {
-            parents.set((number.saturating_sub(1) % 512) as u16);
-        }
-        state = draw_parents(&mut parents, number, width, draws, before);
+    let mut state = shape.1;
+    for number in 1..=shape.0 {
+        let (parents, behind) = parents_of(shape, number, state);
+        state = behind;
         graph.push(parents)?;
     }
     Ok(graph)
 }
 
-/// The blocks of a graph, by the parents of each.
-pub(crate) fn blocks_of(alloc: Global, graph: &[Row]) -> Result<Numbered, Fail> {
-    let mut blocks = Numbered::of(alloc, &[])?;
-    for parents in graph.iter().skip(1) {
-        let mut numbers = Vec::new(alloc);
-        for number in 0..512u16 {
-            if parents.test(number) {
-                numbers.push(number as usize)?;
-            }
+fn numbers_of(alloc: Global, row: &Row) -> Result<Vec<usize>, Fail> {
+    let mut numbers = Vec::new(alloc);
+    for number in 0..512u16 {
+        if row.test(number) {
+            numbers.push(number as usize)?;
         }
-        blocks.add(&numbers)?;
+    }
+    Ok(numbers)
+}
+
+/// The blocks of a graph, by the parents of each. Their salts are drawn from 0, 1 and 2, so that many
+/// blocks have the same one.
+pub(crate) fn blocks_of(alloc: Global, graph: &[Row], seed: u64) -> Result<Numbered, Fail> {
+    let mut blocks = Numbered::of(alloc, &[])?;
+    let mut state = seed;
+    for parents in graph.iter().skip(1) {
+        state = next(state);
+        let numbers = numbers_of(alloc, parents)?;
+        blocks.add_salted((state >> 32) % 3, &numbers)?;
     }
     Ok(blocks)
 }

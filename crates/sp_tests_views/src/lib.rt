@@ -8,8 +8,10 @@
 //! frozen votes, and `two` has two views over one pool. `places` has rows by their places, and `rows`
 //! judges a table's row.
 //!
-//! The tests: `small` has graphs worked out by hand, `drawn` graphs that are drawn, `shared` two views
-//! of a small graph that share rows, and `refused` what is left where memory is refused.
+//! The tests: `small` has graphs worked out by hand, `drawn` graphs that are drawn, `ties` the voters in
+//! these that settle ties, `orders` what is said in the end in several orders of arrival, `layer` a block
+//! on 64 others, `shared` two views of a small graph that share rows, and `refused` what is left where
+//! memory is refused.
 #![tactic(auto)]
 
 #[cfg(test)]
@@ -23,6 +25,10 @@ mod engines;
 #[cfg(test)]
 mod graphs;
 #[cfg(test)]
+mod layer;
+#[cfg(test)]
+mod orders;
+#[cfg(test)]
 mod places;
 #[cfg(test)]
 mod refused;
@@ -34,6 +40,8 @@ mod shared;
 mod signs;
 #[cfg(test)]
 mod small;
+#[cfg(test)]
+mod ties;
 #[cfg(test)]
 mod two;
 #[cfg(test)]

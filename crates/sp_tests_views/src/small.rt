@@ -15,9 +15,11 @@ use sp_engine::Engine;
 use sp_fixtures::Numbered;
 use sp_frozen::Frozen;
 use sp_ids::Memory;
+use sp_model::Profile;
 use sp_rows::RowPool;
 use sp_view::View;
 use std::alloc::Global;
+use std::process::Abort;
 use std::test::Fail;
 
 /// Blocks by number, each with the numbers of its parents; genesis is number 0 and isn't listed.
@@ -75,6 +77,14 @@ const SUMS: &[Sum] = &[
     (CYCLE, 1, 3, Some(4)),
 ];
 
+/// The same where voters settle ties: 3 votes for 1, whose salt is the lower one, and so genesis does.
+const SETTLED_SUMS: &[Sum] = &[
+    (TWO, 1, 2, Some(0)),
+    (DIAMOND, 1, 2, Some(-2)),
+    (DIAMOND, 2, 1, Some(2)),
+    (DIAMOND, 2, 3, None),
+];
+
 /// The four rows of a pair: the frozen voters of +1 and of -1, and the loose ones.
 type Sides = [&'static [u8]; 4];
 
@@ -89,6 +99,12 @@ const SIDES: &[(Graph, u16, u16, Sides)] = &[
     // 3 finds a tie in its past and keeps it.
     (DIAMOND, 1, 2, [&[2], &[1], &[], &[]]),
     (CYCLE, 1, 2, [&[2, 6, 7], &[1, 4, 5, 9], &[], &[0, 3, 8]]),
+];
+
+/// The same where voters settle ties.
+const SETTLED_SIDES: &[(Graph, u16, u16, Sides)] = &[
+    (TWO, 1, 2, [&[2], &[1], &[], &[]]),
+    (DIAMOND, 1, 2, [&[2], &[1, 3], &[], &[0]]),
 ];
 
 /// A pair of two blocks, if they are unrelated.
@@ -230,9 +246,15 @@ fn both_behind(
 }
 
 /// What both have of two blocks of a graph.
-fn both_of(alloc: Global, graph: Graph, x: u16, y: u16) -> Result<(Said, Said), Fail> {
+fn both_of(
+    alloc: Global,
+    profile: Profile,
+    graph: Graph,
+    x: u16,
+    y: u16,
+) -> Result<(Said, Said), Fail> {
     let blocks = Numbered::of(alloc, graph)?;
-    let mut engine = engine_of(alloc, &blocks)?;
+    let mut engine = engine_of(alloc, &blocks, profile)?;
     let both = both_behind(&mut engine, &blocks, x, y);
     drop(engine);
     both
@@ -245,13 +267,18 @@ fn has_sum(said: &Said, sum: Option<i32>) -> bool {
     }
 }
 
-#[test]
-fn sums(rt: HostRuntime) -> Result<(), Fail> {
-    for (row, (graph, x, y, sum)) in SUMS.iter().enumerate() {
-        let both = both_of(rt.alloc(), graph, *x, *y)?;
-        holds(&rt, row, has_sum(&both.0, *sum) && has_sum(&both.1, *sum));
+fn judge_sums(rt: &impl Abort, alloc: Global, profile: Profile, rows: &[Sum]) -> Result<(), Fail> {
+    for (row, (graph, x, y, sum)) in rows.iter().enumerate() {
+        let both = both_of(alloc, profile, graph, *x, *y)?;
+        holds(rt, row, has_sum(&both.0, *sum) && has_sum(&both.1, *sum));
     }
     Ok(())
+}
+
+#[test]
+fn sums(rt: HostRuntime) -> Result<(), Fail> {
+    judge_sums(&rt, rt.alloc(), Profile::One, SUMS)?;
+    judge_sums(&rt, rt.alloc(), Profile::Two, SETTLED_SUMS)
 }
 
 fn has_sides(said: &Said, sides: &Sides) -> bool {
@@ -266,15 +293,25 @@ fn has_sides(said: &Said, sides: &Sides) -> bool {
     }
 }
 
-#[test]
-fn rows(rt: HostRuntime) -> Result<(), Fail> {
-    for (row, (graph, x, y, sides)) in SIDES.iter().enumerate() {
-        let both = both_of(rt.alloc(), graph, *x, *y)?;
+fn judge_sides(
+    rt: &impl Abort,
+    alloc: Global,
+    profile: Profile,
+    rows: &[(Graph, u16, u16, Sides)],
+) -> Result<(), Fail> {
+    for (row, (graph, x, y, sides)) in rows.iter().enumerate() {
+        let both = both_of(alloc, profile, graph, *x, *y)?;
         holds(
-            &rt,
+            rt,
             row,
             has_sides(&both.0, sides) && has_sides(&both.1, sides),
         );
     }
     Ok(())
+}
+
+#[test]
+fn rows(rt: HostRuntime) -> Result<(), Fail> {
+    judge_sides(&rt, rt.alloc(), Profile::One, SIDES)?;
+    judge_sides(&rt, rt.alloc(), Profile::Two, SETTLED_SIDES)
 }

@@ -10,7 +10,8 @@ use crate::signs::plain_signs;
 use sp_bits::Row;
 use sp_dag::Dag;
 use sp_frozen::Frozen;
-use sp_ids::Memory;
+use sp_ids::{BlockId, Memory};
+use sp_model::Profile;
 use sp_rows::RowPool;
 use sp_view::View;
 use std::alloc::Global;
@@ -27,7 +28,7 @@ pub(crate) fn frozen_rows(dag: &Dag, frozen: &Frozen, pair: u32) -> (Row, Row)
 }
 
 /// The frozen vote of a block on a pair.
-fn frozen_on(dag: &Dag, frozen: &Frozen, pair: u32, z: u16) -> Option<i8>
+pub(crate) fn frozen_on(dag: &Dag, frozen: &Frozen, pair: u32, z: u16) -> Option<i8>
     requires based { IsBased dag.now frozen.now }
     requires listed { pair < length (pairs_of dag.now) }
     requires z_in { z < length dag.now.parents }
@@ -35,6 +36,38 @@ fn frozen_on(dag: &Dag, frozen: &Frozen, pair: u32, z: u16) -> Option<i8>
     // Tells the proof which blocks they are.
     let _both = dag.pair(pair);
     frozen.vote(dag, pair, z)
+}
+
+/// The vote for the block of the lower of two ranks, each a salt and an id: -1 where that is the first.
+pub(crate) fn by_rank(first: &(u64, BlockId), second: &(u64, BlockId)) -> i8 {
+    let lower = if first.0 == second.0 {
+        first.1.cmp(&second.1).is_lt()
+    } else {
+        first.0 < second.0
+    };
+    if lower { -1 } else { 1 }
+}
+
+/// The vote of a block that finds this one on a pair in its past.
+fn kept_or_settled(dag: &Dag, pair: u32, vote: i8) -> i8
+    requires { pair < length (pairs_of dag.now) }
+{
+    if vote != 0 {
+        return vote;
+    }
+    let (x, y) = dag.pair(pair);
+    match dag.profile() {
+        Profile::One => 0,
+        Profile::Two => by_rank(&dag.rank(x), &dag.rank(y)),
+    }
+}
+
+/// The vote of a block that has a pair in its past, by the plain votes of that.
+fn vote_behind(dag: &Dag, past: &[Option<i8>], pair: u32) -> Option<i8>
+    requires { pair < length (pairs_of dag.now) }
+{
+    let found = past.get(pair as usize).copied().flatten()?;
+    Some(kept_or_settled(dag, pair, found))
 }
 
 /// The vote of a frozen voter on a pair by the plain votes of its past; there is none for a loose one.
@@ -50,7 +83,7 @@ fn plain_frozen(dag: &Dag, past: &[Option<i8>], pair: u32, z: u16) -> Option<i8>
         return Some(1);
     }
     match (dag.in_past(x, z), dag.in_past(y, z)) {
-        (true, true) => past.get(pair as usize).copied().flatten(),
+        (true, true) => vote_behind(dag, past, pair),
         (true, false) => Some(-1),
         (false, true) => Some(1),
         (false, false) => None,
@@ -78,7 +111,7 @@ fn is_frozen(dag: &Dag, frozen: &Frozen, past: &[Option<i8>], z: u16) -> bool
 }
 
 /// The plain votes of a block's past.
-fn plain_past(alloc: Global, dag: &Dag, z: u16) -> Result<Vec<Option<i8>>, Memory>
+pub(crate) fn plain_past(alloc: Global, dag: &Dag, z: u16) -> Result<Vec<Option<i8>>, Memory>
     requires { z < length dag.now.parents }
 {
     // Tells the proof that the blocks stand in order.
