@@ -47,13 +47,13 @@ pub fn drawn(
     Ok(parents)
 }
 
-/// The blocks of a shape.
+/// The blocks of a shape, whose salts are drawn from 0, 1 and 2, so that many blocks have the same one.
 pub fn graph(alloc: Global, shape: &Shape) -> Result<Numbered, Fail> {
-    let mut draws = Draws { last: shape.0 };
+    let (mut draws, mut salts) = (Draws { last: shape.0 }, Draws { last: shape.0 });
     let mut blocks = Numbered::of(alloc, &[])?;
     for _ in 0..shape.1 {
         let parents = drawn(alloc, &mut draws, shape, blocks.ids.len())?;
-        blocks.add(&parents)?;
+        blocks.add_salted(salts.below(3) as u64, &parents)?;
     }
     Ok(blocks)
 }

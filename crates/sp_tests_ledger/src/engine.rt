@@ -8,12 +8,17 @@ use sp_model::{Profile, Word};
 use std::alloc::Global;
 use std::test::Fail;
 
-/// An engine of genesis alone.
+/// An engine of genesis alone, whose voters keep the ties of their pasts.
 pub fn engine_of(alloc: Global, genesis: &[u8], bits: u8) -> Result<Engine, Fail> {
     if bits > 64 {
         return Err("more than 64 bits".into());
     }
     Ok(Engine::new(alloc, genesis_of(alloc, genesis)?, bits, Profile::One)?)
+}
+
+/// An engine of genesis alone in either profile, which takes no work.
+pub fn engine_in(alloc: Global, profile: Profile, genesis: &[u8]) -> Result<Engine, Fail> {
+    Ok(Engine::new(alloc, genesis_of(alloc, genesis)?, 0, profile)?)
 }
 
 /// An answer, without the id of the block that came.

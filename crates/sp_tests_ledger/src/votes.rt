@@ -1,17 +1,19 @@
 //! What an engine says of each two present blocks after each arrival, beside the plain votes of the
-//! graph that it has: graphs that are drawn, whose blocks come in three orders, and the blocks of a
-//! made scenario.
+//! graph that it has: graphs that are drawn, whose blocks come in three orders to an engine of either
+//! profile, and the blocks of a made scenario.
 
 use crate::drawn::{Shape, graph, order};
-use crate::engine::{engine_of, offer};
+use crate::engine::{engine_in, engine_of, offer};
 use crate::plain::{all_agree, views_are_right};
 use crate::rows::holds;
 use sp_engine::Engine;
 use sp_feed::Message;
 use sp_fixtures::Numbered;
 use sp_make::make;
+use sp_model::Profile;
 use sp_play::Scene;
 use std::alloc::Global;
+use std::process::Abort;
 use std::test::Fail;
 
 /// From chains of a few to crowds whose blocks have many parents.
@@ -39,40 +41,50 @@ fn each_comes(engine: &mut Engine, blocks: &Numbered, order: &[usize]) -> Result
 }
 
 /// Whether all is right after each block of a graph, which come in one of three orders.
-fn is_right(alloc: Global, shape: &Shape, which: usize) -> Result<bool, Fail> {
+fn is_right(alloc: Global, profile: Profile, shape: &Shape, which: usize) -> Result<bool, Fail> {
     let blocks = graph(alloc, shape)?;
     let order = order(alloc, shape, which)?;
-    let mut engine = engine_of(alloc, blocks.text(0), 0)?;
+    let mut engine = engine_in(alloc, profile, blocks.text(0))?;
     let right = each_comes(&mut engine, &blocks, &order);
     drop(engine);
     right
 }
 
-fn are_right(alloc: Global, which: usize) -> Result<bool, Fail> {
-    for shape in SHAPES {
-        if !is_right(alloc, shape, which)? {
-            return Ok(false);
-        }
+fn judge(rt: &impl Abort, alloc: Global, profile: Profile, which: usize) -> Result<(), Fail> {
+    for (row, shape) in SHAPES.iter().enumerate() {
+        holds(rt, row, is_right(alloc, profile, shape, which)?);
     }
-    Ok(true)
+    Ok(())
 }
 
 #[test]
 fn blocks_in_order(rt: HostRuntime) -> Result<(), Fail> {
-    holds(&rt, 0, are_right(rt.alloc(), 0)?);
-    Ok(())
+    judge(&rt, rt.alloc(), Profile::One, 0)
 }
 
 #[test]
 fn blocks_backwards(rt: HostRuntime) -> Result<(), Fail> {
-    holds(&rt, 0, are_right(rt.alloc(), 1)?);
-    Ok(())
+    judge(&rt, rt.alloc(), Profile::One, 1)
 }
 
 #[test]
 fn blocks_in_any_order(rt: HostRuntime) -> Result<(), Fail> {
-    holds(&rt, 0, are_right(rt.alloc(), 2)?);
-    Ok(())
+    judge(&rt, rt.alloc(), Profile::One, 2)
+}
+
+#[test]
+fn settling_blocks_in_order(rt: HostRuntime) -> Result<(), Fail> {
+    judge(&rt, rt.alloc(), Profile::Two, 0)
+}
+
+#[test]
+fn settling_blocks_backwards(rt: HostRuntime) -> Result<(), Fail> {
+    judge(&rt, rt.alloc(), Profile::Two, 1)
+}
+
+#[test]
+fn settling_blocks_in_any_order(rt: HostRuntime) -> Result<(), Fail> {
+    judge(&rt, rt.alloc(), Profile::Two, 2)
 }
 
 /// The engine of a scene's genesis block, which takes no work.
