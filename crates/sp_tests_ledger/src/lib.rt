@@ -4,7 +4,8 @@
 //! `rivals` tests which carriers conflict, and `collisions` that outpoints which crowd a table by hash
 //! don't make the look-ups of carriers slow. `turns` tests which transactions turn as blocks come.
 //! `votes` tests what an engine says of each two blocks, `settled` what it says where blocks settle ties,
-//! and `shared_rows` the rows that its views share.
+//! `vectors` what it says of graphs whose words were worked out apart, and `shared_rows` the rows that its
+//! views share.
 //! `arrivals`, `refusals` and `full_engine` test what an engine says of the bytes that come, and
 //! `acceptance` which transactions it accepts. `purse` tests what is left as transactions are accepted
 //! and taken back, by the purse itself, and `balances` what an engine says is left. `spent_twice` tests
@@ -76,6 +77,8 @@ mod spent_twice;
 mod turn_rows;
 #[cfg(test)]
 mod turns;
+#[cfg(test)]
+mod vectors;
 #[cfg(test)]
 mod voted;
 #[cfg(test)]
