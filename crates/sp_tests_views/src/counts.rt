@@ -3,6 +3,10 @@
 use sp_rows::{RowId, RowPool};
 use sp_view::View;
 
+/// More ids than a pool has rows in any graph here. A block on 64 that stand side by side has 2,016
+/// pairs in its past, each with two rows.
+pub(crate) const IDS: u32 = 16_384;
+
 /// Counts an entry's row; false where the row has no place in the list.
 fn count_row(holders: &mut [u32], row: RowId) -> bool {
     match holders.get_mut(row.0 as usize) {
@@ -38,7 +42,7 @@ fn is_counted(pool: &RowPool, row: RowId, count: u32) -> bool {
 pub(crate) fn are_counted(pool: &RowPool, holders: &[u32]) -> bool {
     let mut all = true;
     let mut live = 0usize;
-    for id in 0..4_096u32 {
+    for id in 0..IDS {
         let count = holders.get(id as usize).copied().unwrap_or(0);
         all &= is_counted(pool, RowId(id), count);
         live = live.saturating_add((count > 0) as usize);

@@ -4,7 +4,7 @@
 ghost use Rattle.std.specs.Prelude.{◌≡◌, ◌≤◌, false, length};
 ghost use Rattle.sp_tests_views.specs.Voting.{CanVote};
 
-use crate::counts::{are_counted, count_view};
+use crate::counts::{IDS, are_counted, count_view};
 use crate::engines::{come, engine_of, view_at};
 use crate::graphs::{GRAPHS, Shape, blocks_of, drawn, ordered};
 use crate::rows::right;
@@ -88,8 +88,7 @@ fn all_are_whole(alloc: Global, engine: &Engine) -> Result<bool, Fail> {
     if engine.broken() {
         return Err("broken".into());
     }
-    // More ids than there are rows.
-    let mut holders = vec![in alloc; 0u32; 4_096]?;
+    let mut holders = vec![in alloc; 0u32; IDS as usize]?;
     for n in 0..=engine.present() {
         if !is_whole_at(alloc, engine, n, &mut holders)? {
             return Ok(false);
