@@ -30,7 +30,7 @@ IN_USE = 124
 # What the launcher calls beside `flock`.
 COMMANDS = ("sh", "env", "find", "readlink", "dirname", "cat", "nproc")
 # A feed whose head is at fault: `node` opens its file, finds it empty, and ends with 2.
-FAULTY = b"no feed"
+FAULTY = b"no feed at all"
 
 wrong = []
 
