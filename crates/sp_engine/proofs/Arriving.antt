@@ -1,5 +1,5 @@
 -- A valid block of a new id is kept: the engine stands for the longer list, and the answer is the one that is defined.
-use Rattle.std.proofs.Common.{◌≡◌, ℕ, ◌-◌, ◌≤◌, Bool, false, Fits, w16, List, [], ◌∷◌, ◌++◌, length, refl, sym, ap, subst, ◌∙◌, Some, arith, length-append}
+use Rattle.std.proofs.Common.{◌≡◌, ℕ, ◌-◌, ◌≤◌, false, Fits, w16, List, [], ◌∷◌, ◌++◌, length, refl, sym, ap, subst, ◌∙◌, Some, arith, length-append}
 use Rattle.std.specs.Prelude.{slice_get}
 use Rattle.std.specs.Option.{option_map}
 use Rattle.std.proofs.Math.ListN.{length-map}
@@ -26,6 +26,10 @@ use Rattle.sp_engine.specs.Engine.{AreCarried, AreNumbered, IsAccepting, IsEngin
 use Rattle.sp_engine.specs.Presence.{joining}
 use Rattle.sp_engine.specs.Votes.{AreVoted, Tallied}
 use Rattle.sp_engine.specs.declared.answer.Answer.TheVariants.{Kept, Held}
+use Rattle.sp_frozen.specs.Voters.{FrozenRows}
+use Rattle.sp_view.specs.Views.{Viewed}
+use Rattle.sp_engine.proofs.Sharing.{views_move}
+use Rattle.sp_engine.specs.Votes.{IsAsBefore}
 use Rattle.sp_engine.proofs.CarriedBlocks.{AreCarried-kept}
 use Rattle.sp_engine.proofs.Counts.{distinct_within, present_counts}
 use Rattle.sp_engine.proofs.Facts.{present_count}
@@ -145,12 +149,12 @@ pub waits_of : {kept : List ReadBlock} {b : ReadBlock} (o : Offer) → o ≡ Wai
 waits_of {kept = kept} {b = b} o e h = subst (λ (x : Offer). IsAnswer kept b x) e h
 
 -- a block that is taken comes to the engine
-pub comes_of : {bits genesis : ℕ} {kept : List ReadBlock} {blocks : Numbered} {votes : Tallied} {k : Carried} {a : Acceptance} {p : Purse} {broken : Bool} {l : Ledger} {inside b : ReadBlock}
-    → (let seen : Ledger = record { profile = blocks.profile; bits = bits; kept = kept; broken = broken; numbered = blocks; votes = votes } in seen) ≡ l
-    → (broken ≡ false → IsEngine bits kept genesis blocks votes × IsAccepting kept blocks k a × IsPaying k a p) → l.broken ≡ false
+pub comes_of : {bits genesis : ℕ} {kept : List ReadBlock} {blocks : Numbered} {votes : Tallied} {k : Carried} {a : Acceptance} {p : Purse} {l : Ledger} {inside b : ReadBlock}
+    → (let seen : Ledger = record { profile = blocks.profile; bits = bits; kept = kept; numbered = blocks; votes = votes } in seen) ≡ l
+    → IsEngine bits kept genesis blocks votes × IsAccepting kept blocks k a × IsPaying k a p
     → inside ≡ b → IsBlock inside → IsOther b → standing_of l.kept b.id ≡ Fresh → Comes bits genesis kept blocks votes b
-comes_of {b = b} view inv whole is block other fresh = record {
-  engine = (inv (ap (λ (l : Ledger). l.broken) view ∙ whole)).0;
+comes_of {b = b} view inv is block other fresh = record {
+  engine = inv.0;
   block = subst (λ (x : ReadBlock). IsBlock x) is block;
   other = other;
   fresh = ap (λ (l : Ledger). standing_of l.kept b.id) view ∙ fresh;
@@ -163,3 +167,39 @@ count_one id other n e = cc
 
 pub held_is_no_growth : {P : Type 0} (id other : ℕ) → Held id ≡ Kept other 1 → P
 held_is_no_growth id other e = cc
+
+-- ---- where memory was refused
+
+voted_as_before : (table : Numbered) (old new : Tallied) → IsAsBefore old new → AreVoted table old → AreVoted table new
+voted_as_before table old new same voted = subst (λ (f : FrozenRows). AreVoted table (record { frozen = f; rows = new.rows; views = new.views })) (sym same.frozen)
+    (subst (λ (l : List Viewed). AreVoted table (record { frozen = old.frozen; rows = new.rows; views = l })) (sym same.views) (record {
+      holds = record {
+        frozen = voted.holds.frozen;
+        views = views_move table old.rows old.frozen.blocks new.rows old.views (λ r. omega (arith, same.rows.counts r, voted.holds.shared.counts r)) (λ r some. same.rows.places r (omega (arith, some, voted.holds.shared.counts r))) voted.holds.views;
+        shared = record { few = omega arith; sound = tt; counts = λ r. omega (arith, same.rows.counts r, voted.holds.shared.counts r) };
+        tips = voted.holds.tips;
+      };
+      every = voted.every;
+    }))
+
+-- all that is kept stands as before
+pub stands_again : {bits genesis : ℕ} {kept kept' : List ReadBlock} {d d' : Numbered} {v v' : Tallied} {k k' : Carried} {a a' : Acceptance} {p p' : Purse} → kept' ≡ kept → d' ≡ d → IsAsBefore v v' → k' ≡ k → a' ≡ a → IsPaying k a p'
+    → IsEngine bits kept genesis d v × IsAccepting kept d k a × IsPaying k a p → IsEngine bits kept' genesis d' v' × IsAccepting kept' d' k' a' × IsPaying k' a' p'
+stands_again {bits} {genesis} {kept} {kept'} {d} {d'} {v} {v'} {k} {k'} {a} {a'} {p} {p'} pool dag votes carriers accepted paying was =
+    subst (λ (x : List ReadBlock). IsEngine bits x genesis d' v' × IsAccepting x d' k' a' × IsPaying k' a' p') (sym pool)
+    (subst (λ (x : Numbered). IsEngine bits kept genesis x v' × IsAccepting kept x k' a' × IsPaying k' a' p') (sym dag)
+    (subst (λ (x : Carried). IsEngine bits kept genesis d v' × IsAccepting kept d x a' × IsPaying x a' p') (sym carriers)
+    (subst (λ (x : Acceptance). IsEngine bits kept genesis d v' × IsAccepting kept d k x × IsPaying k x p') (sym accepted) (
+      record {
+        small = was.0.small;
+        all_kept = was.0.all_kept;
+        first = was.0.first;
+        in_order = was.0.in_order;
+        numbered = was.0.numbered;
+        order = was.0.order;
+        same = was.0.same;
+        voted = voted_as_before d v v' votes was.0.voted;
+      },
+      was.1,
+      paying,
+    ))))

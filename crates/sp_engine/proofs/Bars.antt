@@ -48,7 +48,7 @@ any-append f (x ∷ xs) ys = ap (λ (c : Bool). f x || c) (any-append f xs ys) �
     assoc true b c = refl
     assoc false b c = refl
 
-any_at : (f : List ℕ → Bool) (xs : List (List ℕ)) (n z : ℕ) → z < n → z < length xs → f (get_or xs z []) ≡ true → list_any f (take n xs) ≡ true
+pub any_at : (f : List ℕ → Bool) (xs : List (List ℕ)) (n z : ℕ) → z < n → z < length xs → f (get_or xs z []) ≡ true → list_any f (take n xs) ≡ true
 any_at f [] n z lt in_it e = absurd (omega (arith, in_it))
 any_at f (x ∷ xs) zero z lt in_it e = absurd (omega (arith, lt))
 any_at f (x ∷ xs) (suc n) zero lt in_it e = or_left (f x) (list_any f (take n xs)) e
@@ -119,7 +119,7 @@ tips_more table b order le =
 
 -- ---- rows
 
-bar_old : (table : Numbered) (id salt : ℕ) (ps : List ℕ) (z : ℕ) → AreInOrder table.parents → z < length table.parents → bar_row (with_next table id salt ps) z ≡ bar_row table z
+pub bar_old : (table : Numbered) (id salt : ℕ) (ps : List ℕ) (z : ℕ) → AreInOrder table.parents → z < length table.parents → bar_row (with_next table id salt ps) z ≡ bar_row table z
 bar_old table id salt ps z order lt =
     places_same (λ k. in_bar (graph_of (with_next table id salt ps)) k z) (λ k. in_bar (graph_of table) k z) (λ k _. ap (λ (c : Bool). eqb z k || c) (past_old table id salt ps k z order lt))
 

@@ -1,32 +1,85 @@
--- The votes of no blocks.
-use Rattle.std.proofs.Common.{◌≡◌, sym, subst, arith, List, [], ◌∷◌, refl}
+-- The votes of no blocks, and those of genesis alone.
+use Rattle.std.proofs.Common.{◌≡◌, ℕ, ◌≤◌, ◌-◌, length, map, take, ap, ◌∙◌, sym, subst, arith, List, [], ◌∷◌, ◌++◌, refl}
+use Rattle.std.specs.List.{range_with_len}
 use Rattle.std.proofs.lemmas.Bool.{false≢true}
 use Rattle.sp_dag.specs.Numbered.{Numbered, AreInOrder}
 use Rattle.sp_frozen.specs.Voters.{FrozenRows}
 use Rattle.sp_rows.specs.Pool.{Counted, Pool}
 use Rattle.sp_view.specs.Stored.{count_of}
-use Rattle.sp_view.specs.Views.{Viewed}
+use Rattle.sp_view.specs.Views.{IsView, Viewed}
 use Rattle.sp_view.proofs.Starting.{view_nothing}
-use Rattle.sp_engine.specs.Votes.{HoldsVotes}
+use Rattle.sp_engine.specs.Votes.{AreVoted, bar_row, empty_view, HaveJoined, HaveJoinedBut, Tallied, tips_of}
 
-pub holds_none : (table : Numbered) → AreInOrder table.parents → (frozen : FrozenRows) (rows : Pool) (views : List Viewed)
-    → frozen ≡ record { blocks = 0; pluses = []; minuses = [] } → rows.rows ≡ [] → views ≡ record { members = []; entries = [] } ∷ []
-    → HoldsVotes table (record { frozen = frozen; rows = rows; views = views }) []
-holds_none table order frozen rows views f r v =
-    subst (λ (x : FrozenRows). HoldsVotes table (record { frozen = x; rows = rows; views = views }) []) (sym f)
-    (subst (λ (x : List Viewed). HoldsVotes table (record { frozen = record { blocks = 0; pluses = []; minuses = [] }; rows = rows; views = x }) []) (sym v) (record {
-      frozen = record {
-        within = omega arith;
+-- those of no blocks, where genesis joins next
+pub joined_none : (table : Numbered) → AreInOrder table.parents → length table.parents ≡ 1 → (frozen : FrozenRows) (rows : Pool) (views : List Viewed)
+    → frozen ≡ record { blocks = 0; pluses = []; minuses = [] } → rows.rows ≡ [] → views ≡ empty_view ∷ []
+    → (let v : Tallied = record { frozen = frozen; rows = rows; views = views } in HaveJoinedBut table 0 v v empty_view)
+joined_none table order single frozen rows views f r v =
+    subst (λ (x : FrozenRows). let w : Tallied = record { frozen = x; rows = rows; views = views } in HaveJoinedBut table 0 w w empty_view) (sym f)
+    (subst (λ (x : List Viewed). let w : Tallied = record { frozen = record { blocks = 0; pluses = []; minuses = [] }; rows = rows; views = x } in HaveJoinedBut table 0 w w empty_view) (sym v) (record {
+      joining = record {
+        frozen = record {
+          within = omega arith;
+          few = omega arith;
+          below = λ i x y at lt. absurd (omega (arith, lt));
+          there = λ i x y at lt. absurd (omega (arith, lt));
+          each = λ i x y at lt. absurd (omega (arith, lt));
+        };
+        before = record {
+          within = omega arith;
+          few = omega arith;
+          below = λ i x y at lt. absurd (omega (arith, lt));
+          there = λ i x y at lt. absurd (omega (arith, lt));
+          each = λ i x y at lt. absurd (omega (arith, lt));
+        };
+        rows = record { long = refl; pluses = λ i d lt. absurd (omega (arith, lt)); minuses = λ i d lt. absurd (omega (arith, lt)) };
+        count = refl;
+        held = none;
+        tips = record { tips = []; all = empty_view; is = refl; each = refl; members = refl };
+        later = omega arith;
+        views = (nothing, (λ z h. absurd (false≢true h)), tt);
+        shared = record { few = omega arith; sound = (nothing, (λ z h. absurd (false≢true h)), tt); counts = λ r. omega (arith, none r) };
+        olds = [];
         few = omega arith;
-        below = λ i x y at lt. absurd (omega (arith, lt));
-        there = λ i x y at lt. absurd (omega (arith, lt));
-        each = λ i x y at lt. absurd (omega (arith, lt));
+        old_is = refl;
+        joined = [];
+        all = empty_view;
+        is = refl;
+        places = λ r some. refl;
       };
-      views = (view_nothing table rows order, (λ z h. absurd (false≢true h)), tt);
-      shared = record {
-        few = omega arith;
-        sound = tt;
-        counts = λ row. (let none : count_of rows row ≡ 0 = subst (λ (l : List Counted). count_of (record { rows = l; spare = rows.spare }) row ≡ 0) (sym r) refl in omega (arith, none));
-      };
-      tips = record { tips = []; all = record { members = []; entries = [] }; is = refl; each = refl; members = refl };
+      last = omega (arith, single);
+      each = refl;
+      members = refl;
+      none = λ _. refl;
     }))
+  where
+    nothing : IsView table empty_view rows
+    nothing = view_nothing table rows order
+
+    none : (row : ℕ) → count_of rows row ≡ 0
+    none row = subst (λ (l : List Counted). count_of (record { rows = l; spare = rows.spare }) row ≡ 0) (sym r) refl
+
+-- those of genesis, which has joined those of no blocks
+pub voted_alone : (table : Numbered) (old v : Tallied) → table.parents ≡ [] ∷ [] → HaveJoined table 0 old v empty_view → AreVoted table v
+voted_alone table old v alone h = record {
+  holds = record {
+    frozen = h.joining.frozen;
+    views = h.joining.views;
+    shared = record { few = omega arith; sound = tt; counts = λ r. omega (arith, h.joining.shared.counts r) };
+    tips = record {
+      tips = h.joining.joined;
+      all = h.joining.all;
+      is = h.joining.is ∙ ap (λ (l : List Viewed). l ++ (h.joining.joined ++ h.joining.all ∷ [])) (no_items h.joining.olds h.joining.few);
+      each =
+          h.each ∙ ap (λ (p : List (List ℕ)). map (bar_row table) (range_with_len 0 (length p - 0))) alone
+          ∙ sym (ap (λ (p : List (List ℕ)). map (bar_row table) (tips_of (take 1 p))) alone)
+          ∙ ap (λ (k : ℕ). map (bar_row table) (tips_of (take k table.parents))) (let e : 1 ≡ v.frozen.blocks = omega (arith, h.every, ap length alone) in e);
+      members = h.members ∙ ap (range_with_len 0) (sym h.every);
+    };
+  };
+  every = h.every;
+}
+  where
+    no_items : (xs : List Viewed) → length xs ≤ 0 → xs ≡ []
+    no_items [] le = refl
+    no_items (x ∷ xs) le = absurd (omega (arith, le))

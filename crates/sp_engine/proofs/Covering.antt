@@ -1,26 +1,20 @@
 -- The views after a block has joined: those of the tips that it doesn't cover, its own, and that of all blocks.
-use Rattle.std.proofs.Common.{◌≡◌, ℕ, zero, suc, ◌+◌, ◌≤◌, ◌<◌, Bool, true, false, cond, ◌||◌, List, [], ◌∷◌, ◌++◌, length, map, take, get_or, Some, refl, sym, ap, subst, ◌∙◌, eqb, inl, inr, arith, length-append}
-use Rattle.std.specs.Prelude.{filter, not, slice_get}
-use Rattle.std.specs.List.{list_all, range_with_len}
+use Rattle.std.proofs.Common.{◌≡◌, ℕ, zero, suc, ◌+◌, ◌≤◌, ◌<◌, Bool, true, false, cond, ◌||◌, List, [], ◌∷◌, ◌++◌, length, map, take, Some, refl, sym, ap, ◌∙◌, eqb, arith, length-append}
+use Rattle.std.specs.Prelude.{filter, slice_get}
+use Rattle.std.specs.List.{range_with_len}
 use Rattle.std.specs.Option.{option_map}
-use Rattle.std.proofs.lemmas.Bool.{cases_lt, eq-eqb, eqb-true, false≢true, false_from_ne_true, or_left, or_right}
-use Rattle.std.proofs.lemmas.List.{append_assoc, length-map, map-append}
-use Rattle.std.proofs.lemmas.List.Elements.{filter-append}
+use Rattle.std.proofs.lemmas.Bool.{eq-eqb, eqb-true, false≢true, or_left, or_right}
+use Rattle.std.proofs.lemmas.List.{length-map}
 use Rattle.std.proofs.lemmas.Option.{slice_get-map, slice_get_within}
-use Rattle.sp_bits.specs.Places.{IsGreatest}
-use Rattle.sp_dag.specs.Numbered.{Numbered, graph_of, AreInOrder}
-use Rattle.sp_dag.proofs.Ranked.{ancestors_lower, past_members}
-use Rattle.sp_model.specs.Graph.{has, past}
-use Rattle.sp_rows.specs.Pool.{Pool}
-use Rattle.sp_view.specs.Views.{AreKeptIds, IsBest, Viewed}
-use Rattle.sp_engine.specs.Votes.{AreKeptIdsBy, AreOfTips, AreViews, bar_row, Grew, is_beyond, is_tip, IsOfAll, IsOfTip, IsPut, Tallied, tips_of}
-use Rattle.sp_engine.proofs.Bars.{covers, has_all, one_top, own_bar, tip_in, tips_more, top_of_bar}
-use Rattle.sp_engine.proofs.Ranges.{in_range}
-use Rattle.sp_engine.proofs.Sharing.{view_of}
+use Rattle.sp_dag.specs.Numbered.{Numbered}
+use Rattle.sp_model.specs.Graph.{has}
+use Rattle.sp_view.specs.Views.{Viewed}
+use Rattle.sp_engine.specs.Votes.{AreOfTips, bar_row, is_tip, IsOfAll, Tallied, tips_of}
+use Rattle.sp_engine.proofs.Bars.{tip_in}
 
 -- ---- lists
 
-snoc : {X : Type 0} (xs ys : List X) (x y : X) → xs ++ x ∷ [] ≡ ys ++ y ∷ [] → (xs ≡ ys) × (x ≡ y)
+pub snoc : {X : Type 0} (xs ys : List X) (x y : X) → xs ++ x ∷ [] ≡ ys ++ y ∷ [] → (xs ≡ ys) × (x ≡ y)
 snoc [] [] x y e = (refl, (let s : x ≡ y = cc in s))
 snoc [] (z ∷ zs) x y e = (let long = ap length e in absurd (omega (arith, long, length-append zs (y ∷ []))))
 snoc (z ∷ zs) [] x y e = (let long = ap length e in absurd (omega (arith, long, length-append zs (x ∷ []))))
@@ -29,7 +23,7 @@ snoc {X} (a ∷ xs) (z ∷ zs) x y e =
     let rest : xs ++ x ∷ [] ≡ zs ++ y ∷ [] = cc in
     let parts = snoc xs zs x y rest in (ap (λ (w : X). w ∷ xs) first ∙ ap (λ (l : List X). z ∷ l) parts.0, parts.1)
 
-filter_map : (keep : List ℕ → Bool) (vs : List Viewed) → map (λ (v : Viewed). v.members) (filter (λ v. keep v.members) vs) ≡ filter keep (map (λ (v : Viewed). v.members) vs)
+pub filter_map : (keep : List ℕ → Bool) (vs : List Viewed) → map (λ (v : Viewed). v.members) (filter (λ v. keep v.members) vs) ≡ filter keep (map (λ (v : Viewed). v.members) vs)
 filter_map keep [] = refl
 filter_map keep (v ∷ vs) = at (keep v.members) (filter_map keep vs)
   where
@@ -39,7 +33,7 @@ filter_map keep (v ∷ vs) = at (keep v.members) (filter_map keep vs)
     at true e = ap (λ (l : List (List ℕ)). v.members ∷ l) e
     at false e = e
 
-filter_rows : (keep : List ℕ → Bool) (f : ℕ → List ℕ) (test : ℕ → Bool) (xs : List ℕ) → ((k : ℕ) → has xs k ≡ true → keep (f k) ≡ test k) → filter keep (map f xs) ≡ map f (filter test xs)
+pub filter_rows : (keep : List ℕ → Bool) (f : ℕ → List ℕ) (test : ℕ → Bool) (xs : List ℕ) → ((k : ℕ) → has xs k ≡ true → keep (f k) ≡ test k) → filter keep (map f xs) ≡ map f (filter test xs)
 filter_rows keep f test [] same = refl
 filter_rows keep f test (x ∷ xs) same =
     ap (λ (c : Bool). cond c (f x ∷ filter keep (map f xs)) (filter keep (map f xs))) (same x (own x xs))
@@ -57,18 +51,18 @@ filter_rows keep f test (x ∷ xs) same =
     at false e = e
 
 -- what stands at a place of two lists together
-in_front : (xs ys : List Viewed) (i : ℕ) → i < length xs → slice_get (xs ++ ys) i ≡ slice_get xs i
+pub in_front : (xs ys : List Viewed) (i : ℕ) → i < length xs → slice_get (xs ++ ys) i ≡ slice_get xs i
 in_front [] ys i lt = absurd (omega (arith, lt))
 in_front (x ∷ xs) ys zero lt = refl
 in_front (x ∷ xs) ys (suc i) lt = in_front xs ys i (omega (arith, lt))
 
-behind : (xs ys : List Viewed) (i k : ℕ) → i ≡ length xs + k → slice_get (xs ++ ys) i ≡ slice_get ys k
+pub behind : (xs ys : List Viewed) (i k : ℕ) → i ≡ length xs + k → slice_get (xs ++ ys) i ≡ slice_get ys k
 behind [] ys i k e = ap (slice_get ys) (let same : i ≡ k = omega (arith, e) in same)
 behind (x ∷ xs) ys zero k e = absurd (omega (arith, e))
 behind (x ∷ xs) ys (suc i) k e = behind xs ys i k (omega (arith, e))
 
 -- one that passes stands among those that do
-passes : (test : Viewed → Bool) (xs : List Viewed) (i : ℕ) (v : Viewed) → slice_get xs i ≡ Some v → test v ≡ true → (j : ℕ) × (slice_get (filter test xs) j ≡ Some v)
+pub passes : (test : Viewed → Bool) (xs : List Viewed) (i : ℕ) (v : Viewed) → slice_get xs i ≡ Some v → test v ≡ true → (j : ℕ) × (slice_get (filter test xs) j ≡ Some v)
 passes test [] i v at e = cc
 passes test (x ∷ xs) zero v at e =
     let same : x ≡ v = cc in
@@ -80,7 +74,7 @@ passes test (x ∷ xs) (suc i) v at e = (let rest = passes test xs i v at e in f
     found false j at = (j, at)
 
 -- and what stands there stood before
-passed : (test : Viewed → Bool) (xs : List Viewed) (j : ℕ) (v : Viewed) → slice_get (filter test xs) j ≡ Some v → (i : ℕ) × (slice_get xs i ≡ Some v)
+pub passed : (test : Viewed → Bool) (xs : List Viewed) (j : ℕ) (v : Viewed) → slice_get (filter test xs) j ≡ Some v → (i : ℕ) × (slice_get xs i ≡ Some v)
 passed test [] j v at = cc
 passed test (x ∷ xs) j v at = found (test x) j at (λ k there. passed test xs k v there)
   where
@@ -139,110 +133,6 @@ tip_view_there table n views t are there =
     from_map [] i row at = cc
     from_map (v ∷ vs) zero row at = (v, refl, (let e : v.members ≡ row = cc in e))
     from_map (v ∷ vs) (suc i) row at = from_map vs i row at
-
-module _ (table : Numbered) (order : AreInOrder table.parents) (small : length table.parents ≤ 512) (b : ℕ) (last : b + 1 ≡ length table.parents) (old items new : List Viewed) (tip : Viewed)
-    (were : AreOfTips table b old) (put : IsPut table b old tip items) (own : tip.members ≡ bar_row table b) (rest : new ≡ filter (is_beyond (past (graph_of table) b)) items) where
-  -- block b isn't in its past
-  not_past : has (past (graph_of table) b) b ≡ false
-  not_past = false_from_ne_true (has (past (graph_of table) b) b) (λ h.
-      let less : b < b = ancestors_lower table b b order (omega (arith, last)) (sym (past_members table b b order (omega (arith, last))) ∙ h) in absurd (omega (arith, less)))
-
-  -- so a view that has it stays
-  stays : (view : Viewed) → has view.members b ≡ true → is_beyond (past (graph_of table) b) view ≡ true
-  stays view there = ap not (false_from_ne_true (list_all (has (past (graph_of table) b)) view.members) (λ all. absurd (false≢true (sym not_past ∙ has_all (has (past (graph_of table) b)) view.members b all there))))
-
-  new_is : new ≡ filter (is_beyond (past (graph_of table) b)) put.front ++ tip ∷ put.more ∷ []
-  new_is =
-      let one : is_beyond (past (graph_of table) b) tip ≡ true = stays tip (ap (λ (l : List ℕ). has l b) own ∙ own_bar table order small b (omega (arith, last))) in
-      let two : is_beyond (past (graph_of table) b) put.more ≡ true = stays put.more (ap (λ (l : List ℕ). has l b) put.members ∙ in_range 0 (b + 1) b (omega arith) (omega arith)) in
-      rest ∙ ap (filter (is_beyond (past (graph_of table) b))) put.new_is ∙ filter-append (is_beyond (past (graph_of table) b)) put.front (tip ∷ put.more ∷ [])
-      ∙ ap (λ (c : Bool). filter (is_beyond (past (graph_of table) b)) put.front ++ cond c (tip ∷ cond (is_beyond (past (graph_of table) b) put.more) (put.more ∷ []) []) (cond (is_beyond (past (graph_of table) b) put.more) (put.more ∷ []) [])) one
-      ∙ ap (λ (c : Bool). filter (is_beyond (past (graph_of table) b)) put.front ++ tip ∷ cond c (put.more ∷ []) []) two
-
-  front_is : put.front ≡ were.tips
-  front_is = (snoc put.front were.tips put.all were.all (sym put.old_is ∙ were.is)).0
-
-  -- the tips' views are those of the tips
-  pub tips_after : AreOfTips table (b + 1) new
-  tips_after = record {
-    tips = filter (is_beyond (past (graph_of table) b)) put.front ++ tip ∷ [];
-    all = put.more;
-    is = new_is ∙ sym (append_assoc (filter (is_beyond (past (graph_of table) b)) put.front) (tip ∷ []) (put.more ∷ []));
-    each =
-        map-append (λ (v : Viewed). v.members) (filter (is_beyond (past (graph_of table) b)) put.front) (tip ∷ [])
-        ∙ ap (λ (l : List (List ℕ)). l ++ tip.members ∷ []) (
-        filter_map (λ row. not (list_all (has (past (graph_of table) b)) row)) put.front
-        ∙ ap (λ (l : List Viewed). filter (λ row. not (list_all (has (past (graph_of table) b)) row)) (map (λ (v : Viewed). v.members) l)) front_is
-        ∙ ap (filter (λ row. not (list_all (has (past (graph_of table) b)) row))) were.each
-        ∙ filter_rows (λ row. not (list_all (has (past (graph_of table) b)) row)) (bar_row table) (λ t. not (has (get_or table.parents b []) t)) (tips_of (take b table.parents))
-        (λ t there. (let parts = tip_in table.parents b t (omega (arith, last)) there in ap not (covers table order small b last t parts.0 parts.1)))
-        )
-        ∙ ap (λ (row : List ℕ). map (bar_row table) (filter (λ t. not (has (get_or table.parents b []) t)) (tips_of (take b table.parents))) ++ row ∷ []) own
-        ∙ sym (map-append (bar_row table) (filter (λ t. not (has (get_or table.parents b []) t)) (tips_of (take b table.parents))) (b ∷ []))
-        ∙ ap (map (bar_row table)) (sym (tips_more table b order last));
-    members = put.members;
-  }
-
-  module _ (v v' : Tallied) (views_are : v.views ≡ old) (views'_are : v'.views ≡ new) (pool : Pool) (sound : AreViews table pool b old)
-      (kept : (i : ℕ) (base : Viewed) → IsBest old (past (graph_of table) b) i base → AreKeptIdsBy table base.members (past (graph_of table) b) tip.members base.entries tip.entries) where
-    was_all : (view : Viewed) → IsOfAll v view → view ≡ put.all
-    was_all view h = all_is v put.front put.all view (views_are ∙ put.old_is) h
-
-    is_all : (view : Viewed) → IsOfAll v' view → view ≡ put.more
-    is_all view h =
-        let front : List Viewed = filter (is_beyond (past (graph_of table) b)) put.front in
-        let long : length v'.views ≡ length front + 2 = omega (arith, ap length views'_are, ap length new_is, length-append front (tip ∷ put.more ∷ [])) in
-        let at : slice_get (tip ∷ put.more ∷ []) 1 ≡ Some view =
-        sym (behind front (tip ∷ put.more ∷ []) h.0 1 (omega (arith, h.2, long))) ∙ ap (λ (l : List Viewed). slice_get l h.0) (sym (views'_are ∙ new_is)) ∙ h.1 in
-        let e : view ≡ put.more = cc in e
-
-    is_new_tip : (view : Viewed) → IsOfTip table v' b view → view ≡ tip
-    is_new_tip view h =
-        let front : List Viewed = filter (is_beyond (past (graph_of table) b)) put.front in
-        let long : length v'.views ≡ length front + 2 = omega (arith, ap length views'_are, ap length new_is, length-append front (tip ∷ put.more ∷ [])) in
-        let here : slice_get (front ++ tip ∷ put.more ∷ []) h.0 ≡ Some view = ap (λ (l : List Viewed). slice_get l h.0) (sym (views'_are ∙ new_is)) ∙ h.1 in
-        elim (cases_lt h.0 (length front)) [
-          | inl less ↦
-              let found = passed (is_beyond (past (graph_of table) b)) put.front h.0 view (sym (in_front front (tip ∷ put.more ∷ []) h.0 less) ∙ here) in
-              let at : slice_get old found.0 ≡ Some view = ap (λ (l : List Viewed). slice_get l found.0) put.old_is ∙ in_front put.front (put.all ∷ []) found.0 (slice_get_within put.front found.0 view found.1) ∙ found.1 in
-              let below : b < b = (view_of table pool b old found.0 view sound at).1 b (ap (λ (l : List ℕ). has l b) h.3 ∙ own_bar table order small b (omega (arith, last))) in
-              absurd (omega (arith, below))
-          | inr more ↦
-              let at : slice_get (tip ∷ put.more ∷ []) 0 ≡ Some view = sym (behind front (tip ∷ put.more ∷ []) h.0 0 (omega (arith, more, h.2, long))) ∙ here in
-              let e : view ≡ tip = cc in e
-        ]
-
-    other_stays : (n : ℕ) (view : Viewed) → n < b → IsOfTip table v n view → has (get_or table.parents b []) n ≡ false → IsOfTip table v' n view
-    other_stays n view lt h none =
-        let front : List Viewed = filter (is_beyond (past (graph_of table) b)) put.front in
-        let at : slice_get old h.0 ≡ Some view = ap (λ (l : List Viewed). slice_get l h.0) (sym views_are) ∙ h.1 in
-        let within : h.0 + 1 < length old = omega (arith, h.2, ap length views_are) in
-        let one = of_tip table b old h.0 view were (omega (arith, last)) at within in
-        let same : n ≡ one.0 = one_top table order small view.members one.0 n (omega (arith, one.1, last)) one.3 (subst (λ (l : List ℕ). IsGreatest l n) (sym h.3) (top_of_bar table order small n (omega (arith, lt, last)))) in
-        let stays_too : is_beyond (past (graph_of table) b) view ≡ true =
-        ap (λ (l : List ℕ). not (list_all (has (past (graph_of table) b)) l)) one.3 ∙ ap not (covers table order small b last one.0 one.1 one.2)
-        ∙ ap not (ap (has (get_or table.parents b [])) (sym same) ∙ none) in
-        let short : h.0 < length put.front = omega (arith, within, ap length put.old_is, length-append put.front (put.all ∷ [])) in
-        let in_it : slice_get put.front h.0 ≡ Some view = sym (in_front put.front (put.all ∷ []) h.0 short) ∙ ap (λ (l : List Viewed). slice_get l h.0) (sym put.old_is) ∙ at in
-        let found = passes (is_beyond (past (graph_of table) b)) put.front h.0 view in_it stays_too in
-        let place : found.0 < length front = slice_get_within front found.0 view found.1 in (
-          found.0,
-          ap (λ (l : List Viewed). slice_get l found.0) (views'_are ∙ new_is) ∙ in_front front (tip ∷ put.more ∷ []) found.0 place ∙ found.1,
-          omega (arith, place, ap length views'_are, ap length new_is, length-append front (tip ∷ put.more ∷ [])),
-          h.3,
-        )
-
-    -- so the votes grew as they should
-    pub grew : Grew table b v v'
-    grew = record {
-      all = λ view view' h h'.
-          subst (λ (x : Viewed). AreKeptIds table x.members view'.members x.entries view'.entries) (sym (was_all view h))
-          (subst (λ (x : Viewed). AreKeptIds table put.all.members x.members put.all.entries x.entries) (sym (is_all view' h')) put.kept);
-      tip = λ i base view best h.
-          subst (λ (x : Viewed). AreKeptIdsBy table base.members (past (graph_of table) b) x.members base.entries x.entries) (sym (is_new_tip view h))
-          (kept i base (subst (λ (l : List Viewed). IsBest l (past (graph_of table) b) i base) views_are best));
-      others = other_stays;
-    }
 
 -- there are no more views than blocks and one
 pub few_views : (table : Numbered) (n : ℕ) (views : List Viewed) → AreOfTips table n views → n ≤ length table.parents → length views ≤ n + 1

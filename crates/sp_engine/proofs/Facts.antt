@@ -21,22 +21,22 @@ use Rattle.sp_engine.proofs.Counts.{distinct_within, present_counts}
 use Rattle.sp_engine.proofs.NumberedBlocks.{next_fresh, next_kept}
 use Rattle.sp_engine.proofs.WordsByNumbers.{word_by_vote}
 
-abbrev seen : ℕ → List ReadBlock → Bool → Numbered → Tallied → Ledger
-seen bits kept broken blocks votes = record { profile = blocks.profile; bits = bits; kept = kept; broken = broken; numbered = blocks; votes = votes }
+abbrev seen : ℕ → List ReadBlock → Numbered → Tallied → Ledger
+seen bits kept blocks votes = record { profile = blocks.profile; bits = bits; kept = kept; numbered = blocks; votes = votes }
 
 module _ {bits genesis : ℕ} {kept : List ReadBlock} {blocks : Numbered} {votes : Tallied} where
   -- what is kept, of the value that contracts see
-  pub engine_of : {broken : Bool} {l : Ledger} {k : Carried} {a : Acceptance} {p : Held} → seen bits kept broken blocks votes ≡ l
-      → (broken ≡ false → IsEngine bits kept genesis blocks votes × IsAccepting kept blocks k a × IsPaying k a p) → l.broken ≡ false → IsEngine l.bits l.kept genesis blocks votes
-  engine_of view inv whole = subst (λ (l : Ledger). l.broken ≡ false → IsEngine l.bits l.kept genesis blocks votes) view (λ b. (inv b).0) whole
+  pub engine_of : {l : Ledger} {k : Carried} {a : Acceptance} {p : Held} → seen bits kept blocks votes ≡ l
+      → IsEngine bits kept genesis blocks votes × IsAccepting kept blocks k a × IsPaying k a p → IsEngine l.bits l.kept genesis blocks votes
+  engine_of view inv = subst (λ (l : Ledger). IsEngine l.bits l.kept genesis blocks votes) view inv.0
 
-  pub accepting_of : {broken : Bool} {l : Ledger} {k : Carried} {a : Acceptance} {p : Held} → seen bits kept broken blocks votes ≡ l
-      → (broken ≡ false → IsEngine bits kept genesis blocks votes × IsAccepting kept blocks k a × IsPaying k a p) → l.broken ≡ false → IsAccepting l.kept blocks k a
-  accepting_of {k = k} {a = a} view inv whole = subst (λ (l : Ledger). l.broken ≡ false → IsAccepting l.kept blocks k a) view (λ b. (inv b).1) whole
+  pub accepting_of : {l : Ledger} {k : Carried} {a : Acceptance} {p : Held} → seen bits kept blocks votes ≡ l
+      → IsEngine bits kept genesis blocks votes × IsAccepting kept blocks k a × IsPaying k a p → IsAccepting l.kept blocks k a
+  accepting_of {k = k} {a = a} view inv = subst (λ (l : Ledger). IsAccepting l.kept blocks k a) view inv.1
 
-  pub paying_of : {broken : Bool} {l : Ledger} {k : Carried} {a : Acceptance} {p : Held} → seen bits kept broken blocks votes ≡ l
-      → (broken ≡ false → IsEngine bits kept genesis blocks votes × IsAccepting kept blocks k a × IsPaying k a p) → l.broken ≡ false → IsPaying k a p
-  paying_of view inv whole = (inv (ap (λ (l : Ledger). l.broken) view ∙ whole)).2
+  pub paying_of : {l : Ledger} {k : Carried} {a : Acceptance} {p : Held} → seen bits kept blocks votes ≡ l
+      → IsEngine bits kept genesis blocks votes × IsAccepting kept blocks k a × IsPaying k a p → IsPaying k a p
+  paying_of view inv = inv.2
 
   pub present_count : IsEngine bits kept genesis blocks votes → length (present kept) ≡ length blocks.parents
   present_count e = present_counts kept blocks.ids e.all_kept.apart e.in_order.distinct e.same ∙ e.in_order.long

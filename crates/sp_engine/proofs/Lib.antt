@@ -2,6 +2,7 @@ pub mod Ranges
 pub mod Sharing
 pub mod Beside
 pub mod Tips
+pub mod TopTips
 pub mod Bars
 pub mod Covered
 pub mod Beginning
@@ -23,7 +24,13 @@ pub mod VotedBlocks
 pub mod WordsByNumbers
 pub mod Facts
 pub mod Released
+pub mod Replacing
+pub mod Retreat
+pub mod Settled
+pub mod Grown
+pub mod TakenBack
 pub mod Arriving
+pub mod Joined
 pub mod Judged
 pub mod Alone
 pub mod Judgements

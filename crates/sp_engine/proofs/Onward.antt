@@ -10,12 +10,12 @@ use Rattle.sp_engine.proofs.Beside.{shared_stays}
 use Rattle.sp_engine.proofs.Sharing.{views_stay}
 use Rattle.sp_engine.proofs.Bars.{bars_stay}
 
-take_more : {X : Type 0} (xs ys : List X) (n : ℕ) → n ≤ length xs → take n (xs ++ ys) ≡ take n xs
+pub take_more : {X : Type 0} (xs ys : List X) (n : ℕ) → n ≤ length xs → take n (xs ++ ys) ≡ take n xs
 take_more xs ys zero le = refl
 take_more [] ys (suc n) le = absurd (omega (arith, le))
 take_more {X} (x ∷ xs) ys (suc n) le = ap (λ (l : List X). x ∷ l) (take_more xs ys n (omega (arith, le)))
 
-tips_stay : (table : Numbered) (id salt : ℕ) (ps : List ℕ) (n : ℕ) (v : Tallied) → AreInOrder table.parents → n ≤ length table.parents → AreOfTips table n v.views
+pub tips_stay : (table : Numbered) (id salt : ℕ) (ps : List ℕ) (n : ℕ) (v : Tallied) → AreInOrder table.parents → n ≤ length table.parents → AreOfTips table n v.views
     → AreOfTips (with_next table id salt ps) n v.views
 tips_stay table id salt ps n v order le are = record {
   tips = are.tips;

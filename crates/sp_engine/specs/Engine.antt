@@ -1,6 +1,6 @@
 -- What contracts see of the engine, which is `Ledger`, and what public contracts say of it: `IsLedger`, `is_growth`, `Stays`, `GrewByOne` and
 -- `AreNumbered`. Behind these stands what the engine keeps: an invariant, which no public contract cites.
-use Rattle.std.specs.Prelude.{ℕ, ◌≡◌, ◌≤◌, ◌<◌, ◌+◌, true, false, Bool, List, [], ◌++◌, map, length, slice_get, slice_index_or, Some, take}
+use Rattle.std.specs.Prelude.{ℕ, ◌≡◌, ◌≤◌, ◌<◌, ◌+◌, true, false, Bool, List, [], ◌++◌, map, length, slice_get, slice_index_or, Some, take, replicate}
 use Rattle.std.specs.List.{list_all, range_with_len}
 use Rattle.std.specs.Option.{option_map}
 use Rattle.sp_block.specs.Block.{ReadBlock}
@@ -15,26 +15,26 @@ use Rattle.sp_accept.specs.Acceptance.{Acceptance, IsRight, is_set}
 use Rattle.sp_money.specs.Held.{Held, IsOf}
 use Rattle.sp_money.specs.Locks.{each_once}
 use Rattle.sp_engine.specs.Presence.{order_of}
-use Rattle.sp_engine.specs.Votes.{AreVoted, Grew, Tallied}
+use Rattle.sp_engine.specs.Votes.{AreVoted, Grew, IsAsBefore, Tallied}
 use Rattle.sp_engine.specs.declared.answer.Answer.{Answer}
 use Rattle.sp_engine.specs.declared.answer.Answer.TheVariants as answer
 use Rattle.sp_engine.specs.Transactions.{tx_ids_in, txs_of}
+use Rattle.sp_carry.specs.Carried as carried
+use Rattle.sp_dag.specs.Numbered as numbered
 
--- the profile, the bits of work, the kept blocks, whether memory was refused, and the present blocks by number with their votes
+-- the profile, the bits of work, the kept blocks, and the present blocks by number with their votes
 pub record Ledger : Type 0 where
   pub profile : Profile
   pub bits : ℕ
   pub kept : List ReadBlock
-  pub broken : Bool
   pub numbered : Numbered
   pub votes : Tallied
 
--- an engine of this profile, these bits and kept blocks, to which memory wasn't refused
+-- an engine of this profile, these bits and kept blocks
 pub record IsLedger (profile : Profile) (bits : ℕ) (kept : List ReadBlock) (engine : Ledger) : Type 0 where
   pub profile_is : engine.profile ≡ profile
   pub bits_are : engine.bits ≡ bits
   pub kept_are : engine.kept ≡ kept
-  pub whole : engine.broken ≡ false
 
 -- whether blocks became present
 abbrev pub is_growth : Answer → Bool
@@ -47,6 +47,14 @@ is_growth answer.Full = false
 -- where nothing became present, the blocks that are numbered stay, and all their votes, rows and views
 abbrev pub Stays : Ledger → Ledger → Type 0
 Stays old new = (new.numbered ≡ old.numbered) × (new.votes ≡ old.votes)
+
+-- where memory was refused, all stays but how many rows can be taken
+pub record IsRefused (old new : Ledger) : Type 0 where
+  pub profile : new.profile ≡ old.profile
+  pub bits : new.bits ≡ old.bits
+  pub kept : new.kept ≡ old.kept
+  pub numbered : new.numbered ≡ old.numbered
+  pub votes : IsAsBefore old.votes new.votes
 
 -- Where one block became present, it has the next number, and the votes grew by it.
 abbrev pub GrewByOne : Ledger → Ledger → Type 0
@@ -88,6 +96,14 @@ pub record IsAccepting (kept : List ReadBlock) (blocks : Numbered) (k : Carried)
   pub right : IsRight blocks k a
   pub all : a.blocks ≡ k.blocks
 
+-- the first of some numbered blocks
+abbrev pub first_numbered : Numbered → ℕ → Numbered
+first_numbered blocks n = numbered.cut_to blocks n
+
+-- the carriers of the first blocks
+abbrev pub first_carried : Carried → ℕ → Carried
+first_carried k n = carried.cut_to k n
+
 -- the purse is prepared for the transactions of the carriers, and has the flags of the accepted ones
 pub record IsPaying (k : Carried) (a : Acceptance) (p : Held) : Type 0 where
   pub of : IsOf k.txs p
@@ -103,3 +119,11 @@ pub record WasPaying (k : Carried) (a : Acceptance) (p : Held) : Type 0 where
 -- some transactions, and more behind them
 abbrev pub GoesOn : List Transaction → List Transaction → Type 0
 GoesOn front whole = (more : List Transaction) × (whole ≡ front ++ more)
+
+-- a purse that was prepared for some transactions may be so for more behind them, of which none has its flag
+pub record IsWider (txs : List Transaction) (old new : Held) : Type 0 where
+  pub list : List Transaction
+  pub front : GoesOn txs list
+  pub of : IsOf list new
+  pub more : ℕ
+  pub flags : new.accepted ≡ old.accepted ++ replicate more false

@@ -1,13 +1,13 @@
 -- The votes of the first blocks of a graph, as the engine keeps them: views of the tips' pasts and of all blocks, whose rows they share.
-use Rattle.std.specs.Prelude.{ℕ, true, false, ◌≡◌, ◌≤◌, ◌<◌, ◌+◌, Bool, not, List, [], ◌∷◌, ◌++◌, length, map, filter, take, slice_get, slice_index_or, Option, Some, None}
+use Rattle.std.specs.Prelude.{ℕ, true, false, ◌≡◌, ◌≤◌, ◌<◌, ◌+◌, ◌-◌, ◌&&◌, nat_le, Bool, not, List, [], ◌∷◌, ◌++◌, length, map, filter, take, slice_get, slice_index_or, Option, Some, None}
 use Rattle.std.specs.List.{list_all, list_any, range_with_len}
 use Rattle.sp_bits.specs.Places.{places_where}
 use Rattle.sp_model.specs.Graph.{Graph, has, past}
 use Rattle.sp_model.specs.Loose.{in_bar, plus, minus}
 use Rattle.sp_dag.specs.Numbered.{Numbered, graph_of, pairs_of}
-use Rattle.sp_frozen.specs.Voters.{FrozenRows, HoldsFrozen}
+use Rattle.sp_frozen.specs.Voters.{AreRows, FrozenRows, HoldsFrozen}
 use Rattle.sp_rows.specs.Pool.{Pool}
-use Rattle.sp_view.specs.Stored.{count_of}
+use Rattle.sp_view.specs.Stored.{count_of, row_of}
 use Rattle.sp_view.specs.Views.{AreKeptIds, IsBest, Viewed, entry_at, held, IsView}
 
 -- the frozen votes, the pool of rows, and the views over it: those of the tips, ascending, and behind them that of all blocks
@@ -69,6 +69,16 @@ pub record AreVotedBeside (table : Numbered) (v : Tallied) (beside : List Viewed
 abbrev pub AreVoted : Numbered → Tallied → Type 0
 AreVoted table v = AreVotedBeside table v []
 
+-- the votes of all blocks of a table, of which the last view is, whatever views stand before it
+pub record AreWhole (table : Numbered) (v : Tallied) : Type 0 where
+  pub frozen : HoldsFrozen table v.frozen
+  pub views : AreViews table v.rows v.frozen.blocks v.views
+  pub every : v.frozen.blocks ≡ length table.parents
+  pub front : List Viewed
+  pub all : Viewed
+  pub is : v.views ≡ front ++ all ∷ []
+  pub members : all.members ≡ range_with_len 0 (length table.parents)
+
 -- the view of all blocks, which is the last one
 abbrev pub IsOfAll : Tallied → Viewed → Type 0
 IsOfAll v view = (i : ℕ) × (slice_get v.views i ≡ Some view) × (i + 1 ≡ length v.views)
@@ -99,11 +109,81 @@ pub record Grew (table : Numbered) (b : ℕ) (old new : Tallied) : Type 0 where
       → AreKeptIdsBy table base.members (past (graph_of table) b) view.members base.entries view.entries
   pub others : (n : ℕ) (view : Viewed) → n < b → IsOfTip table old n view → has (slice_index_or table.parents b []) n ≡ false → IsOfTip table new n view
 
+-- ---- while the blocks of an arrival join
+
+-- the view of no blocks
+abbrev pub empty_view : Viewed
+empty_view = record { members = []; entries = [] }
+
+-- the live rows are the same ones, each counted as often and with the same places; how many more can be taken may differ
+pub record AreSameRows (old new : Pool) : Type 0 where
+  pub counts : (r : ℕ) → count_of new r ≡ count_of old r
+  pub places : (r : ℕ) → 0 < count_of old r → row_of new r ≡ row_of old r
+
+-- nothing changed but how many rows can be taken
+pub record IsAsBefore (old new : Tallied) : Type 0 where
+  pub frozen : new.frozen ≡ old.frozen
+  pub views : new.views ≡ old.views
+  pub rows : AreSameRows old.rows new.rows
+
+-- what stays of the rows of the view that a block's own was derived from keeps its id
+abbrev pub IsDerived : Numbered → ℕ → List Viewed → Viewed → Type 0
+IsDerived table b views tip =
+    (i : ℕ) (base : Viewed) → IsBest views (past (graph_of table) b) i base
+    → AreKeptIdsBy table base.members (past (graph_of table) b) tip.members base.entries tip.entries
+
+-- block n alone has joined some views, and what stays of the rows of the view of all blocks keeps its id
+pub record JoinedAlone (table : Numbered) (n : ℕ) (old : List Viewed) (was tip all : Viewed) : Type 0 where
+  pub kept : AreKeptIds table was.members all.members was.entries all.entries
+  pub derived : IsDerived table n old tip
+
+-- Blocks from number n on have joined the votes of the first n blocks. The views of the old tips stand first, all of them,
+-- then those of the blocks that joined, and last that of all blocks; what that was is held beside. The rows that the old
+-- views hold have their places.
+pub record AreJoining (table : Numbered) (n : ℕ) (old v : Tallied) (was : Viewed) : Type 0 where
+  pub frozen : HoldsFrozen table v.frozen
+  pub before : HoldsFrozen table old.frozen
+  pub rows : AreRows old.frozen
+  pub count : old.frozen.blocks ≡ n
+  pub held : (r : ℕ) → count_of old.rows r ≡ held_by old.views r
+  pub tips : AreOfTips table n old.views
+  pub later : n ≤ v.frozen.blocks
+  pub views : AreViews table v.rows v.frozen.blocks v.views
+  pub shared : AreShared table v.rows v.frozen.blocks v.views (was ∷ [])
+  pub olds : List Viewed
+  pub few : length olds ≤ n
+  pub old_is : old.views ≡ olds ++ was ∷ []
+  pub joined : List Viewed
+  pub all : Viewed
+  pub is : v.views ≡ olds ++ (joined ++ all ∷ [])
+  pub places : (r : ℕ) → 0 < held_by old.views r → row_of v.rows r ≡ row_of old.rows r
+
+-- so they stand where each block that joined has its view, and that of all blocks has them all
+pub record HaveJoined (table : Numbered) (n : ℕ) (old v : Tallied) (was : Viewed) : Type 0 where
+  pub joining : AreJoining table n old v was
+  pub every : v.frozen.blocks ≡ length table.parents
+  pub each : map (λ (view : Viewed). view.members) joining.joined ≡ map (bar_row table) (range_with_len n (length table.parents - n))
+  pub members : joining.all.members ≡ range_with_len 0 (length table.parents)
+  pub none : v.frozen.blocks ≡ n → joining.all ≡ was
+  pub one : v.frozen.blocks ≡ n + 1 → (tip : Viewed) × (joining.joined ≡ tip ∷ []) × JoinedAlone table n old.views was tip joining.all
+
+-- the same, of all blocks of a table but the last one, whose votes come next
+pub record HaveJoinedBut (table : Numbered) (n : ℕ) (old v : Tallied) (was : Viewed) : Type 0 where
+  pub joining : AreJoining table n old v was
+  pub last : v.frozen.blocks + 1 ≡ length table.parents
+  pub each : map (λ (view : Viewed). view.members) joining.joined ≡ map (bar_row table) (range_with_len n (v.frozen.blocks - n))
+  pub members : joining.all.members ≡ range_with_len 0 v.frozen.blocks
+  pub none : v.frozen.blocks ≡ n → joining.all ≡ was
+
 -- ---- while a block joins
 
--- whether a view has a member outside a past
-abbrev pub is_beyond : List ℕ → Viewed → Bool
-is_beyond past view = not (list_all (has past) view.members)
+-- whether the highest of some blocks is a tip
+abbrev pub is_top_tip : Numbered → List ℕ → Bool
+is_top_tip table members = list_any (λ z. is_tip table.parents z && list_all (λ k. nat_le k z) members) members
+
+-- whether a view is of a tip, or of all blocks, of which the last one is a tip
+abbrev pub is_uncovered : Numbered → Viewed → Bool
+is_uncovered table view = is_top_tip table view.members
 
 -- the last one of some views is that of all blocks below a number
 pub record IsLast (n : ℕ) (views : List Viewed) : Type 0 where

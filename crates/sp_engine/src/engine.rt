@@ -2,7 +2,7 @@
 //! their transactions are accepted, and what these leave under each lock. The calls on valid blocks
 //! that arrive stand apart, in `arrivals`, and those on transactions and on what they leave in `money`.
 
-ghost use Rattle.std.specs.Prelude.{◌≡◌, ◌≤◌, ◌<◌, ◌+◌, ◌∷◌, [], ◌==◌, ℕ, false, find, length, slice_get, Some, IfNone, IfOk, IfSome, OnOk, is_err, IsFalse, IsTrue};
+ghost use Rattle.std.specs.Prelude.{◌≡◌, ◌≤◌, ◌<◌, ◌+◌, ◌∷◌, [], ◌==◌, ℕ, false, find, length, slice_get, Some, IfNone, IfOk, IfSome, OnOk, OnErr, IsFalse, IsTrue};
 ghost use Rattle.std.specs.List.{range_with_len};
 ghost use Rattle.std.specs.Option.{option_copied};
 ghost use Rattle.sp_block.specs.Block.{IsGenesis};
@@ -39,7 +39,7 @@ use std::alloc::Global;
 use std::marker::Model;
 
 /// The ledger at one node: the blocks that it keeps, and what they say. Contracts see the profile,
-/// the bits of work, the kept blocks in their order, genesis first, whether memory was refused, and the present
+/// the bits of work, the kept blocks in their order, genesis first, and the present
 /// blocks by number with their votes: frozen ones, and views of the tips and of all of them, whose
 /// rows one pool has.
 pub struct Engine {
@@ -57,11 +57,9 @@ pub struct Engine {
     accepted: Accepted,
     // What these leave under each lock.
     purse: Purse,
-    broken: bool,
 }
 
 impl Model for Engine {
-    ghost use Rattle.std.specs.Prelude.{◌≡◌, false};
     ghost use Rattle.sp_engine.specs.Engine.{IsAccepting, IsEngine, IsPaying, Ledger};
 
     ghost Value = { Ledger };
@@ -70,13 +68,11 @@ impl Model for Engine {
       profile = e.dag.profile;
       bits = e.bits;
       kept = e.pool;
-      broken = e.broken;
       numbered = e.dag;
       votes = e.votes;
     } };
 
-    ghost invariant = { λ e. e.broken ≡ false →
-        IsEngine e.bits e.pool e.genesis e.dag e.votes × IsAccepting e.pool e.dag e.carriers e.accepted
+    ghost invariant = { λ e. IsEngine e.bits e.pool e.genesis e.dag e.votes × IsAccepting e.pool e.dag e.carriers e.accepted
         × IsPaying e.carriers e.accepted e.purse };
 }
 
@@ -94,13 +90,12 @@ impl Drop for Engine {
             carriers: _,
             accepted: _,
             purse: _,
-            broken: _,
         } = self;
     }
 }
 
 impl Engine {
-    ghost use Rattle.sp_engine.specs.Engine.{AreNumbered, GrewByOne, IsAccepting, IsEngine, is_growth, IsLedger, IsPaying, Stays};
+    ghost use Rattle.sp_engine.specs.Engine.{AreNumbered, GrewByOne, IsAccepting, IsEngine, is_growth, IsLedger, IsPaying, IsRefused, Stays};
     ghost use Rattle.sp_engine.specs.Votes.{AreOfTips, held_by, is_tip, IsOfAll, IsOfTip};
 
     /// An engine of genesis alone, which is present, in a profile.
@@ -143,7 +138,6 @@ impl Engine {
             carriers,
             accepted,
             purse,
-            broken: false,
         }
     }
 
@@ -157,27 +151,21 @@ impl Engine {
     ///
     /// # Errors
     ///
-    /// `Memory` where there was none. The engine is broken from then on.
+    /// `Memory` where there was none; the engine is as before, but that more rows may be spare.
     pub fn offer(&mut self, bytes: &[u8]) -> Result<Answer, Memory>
-        requires { self.old.broken ≡ false }
         ensures answer { IfOk result (λ answer.
             answer ≡ answer_of self.old.bits self.old.kept bytes.now) }
         ensures kept { OnOk result
             (self.new.kept ≡ kept_after self.old.bits self.old.kept bytes.now) }
         ensures profile { OnOk result (self.new.profile ≡ self.old.profile) }
         ensures bits { self.new.bits ≡ self.old.bits }
-        ensures broken { self.new.broken ≡ is_err result }
+        ensures memory { OnErr result (IsRefused self.old self.new) }
         ensures idle { IfOk result (λ answer. IsFalse (is_growth answer) →
             Stays self.old self.new) }
         ensures one { IfOk result (λ answer. (id : ℕ) → answer ≡ Kept id 1 →
             GrewByOne self.old self.new) }
     {
-        let found = valid_block(self.alloc, self.bits, bytes);
-        let Ok(found) = found else {
-            self.broken = true;
-            return Err(Memory);
-        };
-        match found {
+        match valid_block(self.alloc, self.bits, bytes)? {
             Ok(block) => self.keep(block),
             Err(refusal) => Ok(Answer::Refused(refusal)),
         }
@@ -186,7 +174,6 @@ impl Engine {
     /// What the present blocks say of two blocks. Their rows stand ready, so it takes about the time
     /// of two look-ups by hash and of four counts.
     pub fn vote(&self, x: &BlockId, y: &BlockId) -> Word
-        requires { self.now.broken ≡ false }
         ensures { result ≡
             word (graph_in self.now.profile self.now.kept) (present self.now.kept) x.now y.now }
     {
@@ -205,7 +192,6 @@ impl Engine {
     /// How many blocks are present, from 1 to 512. What stands of their order stands here, for each
     /// caller: it has the ids of the present blocks.
     pub fn present(&self) -> u16
-        requires { self.now.broken ≡ false }
         ensures count { result ≡ length (present self.now.kept) }
         ensures numbered { result ≡ length self.now.numbered.parents }
         ensures order { (id : ℕ) →
@@ -219,7 +205,6 @@ impl Engine {
 
     /// How many kept blocks wait for an ancestor, from 0 to 511.
     pub fn waiting(&self) -> u16
-        requires { self.now.broken ≡ false }
         ensures count { result + length (present self.now.kept) ≡ length self.now.kept }
         ensures few { result ≤ 511 }
     {
@@ -228,7 +213,6 @@ impl Engine {
 
     /// The id of the block that became present as the n-th one, counted from 0, which is genesis.
     pub fn id_at(&self, n: u16) -> BlockId
-        requires whole { self.now.broken ≡ false }
         requires within { n < length (present self.now.kept) }
         ensures { slice_get (order_of self.now.kept) n ≡ Some result }
     {
@@ -237,7 +221,6 @@ impl Engine {
 
     /// The present blocks by number, in the order in which they became so.
     pub fn dag(&self) -> &Dag
-        requires { self.now.broken ≡ false }
         ensures dag { result.now ≡ self.now.numbered }
         ensures numbered { IsNumbered result.now }
         ensures ids { result.now.ids ≡ order_of self.now.kept }
@@ -248,7 +231,6 @@ impl Engine {
 
     /// The frozen votes of the present blocks.
     pub fn frozen(&self) -> &Frozen
-        requires { self.now.broken ≡ false }
         ensures frozen { result.now ≡ self.now.votes.frozen }
         ensures holds { HoldsFrozen self.now.numbered result.now }
         ensures blocks { result.now.blocks ≡ length self.now.numbered.parents }
@@ -259,7 +241,6 @@ impl Engine {
     /// The pool of all rows that the views hold: each row is counted once for each entry of a view that
     /// holds it, and the views are those of the tips, each with its past, and that of all blocks.
     pub fn row_pool(&self) -> &RowPool
-        requires { self.now.broken ≡ false }
         ensures pool { result.now ≡ self.now.votes.rows }
         ensures counts { (row : ℕ) →
             count_of result.now row ≡ held_by self.now.votes.views row }
@@ -271,7 +252,6 @@ impl Engine {
 
     /// The view of all present blocks.
     pub fn view_all(&self) -> &View
-        requires { self.now.broken ≡ false }
         ensures view { IsOfAll self.now.votes result.now }
         ensures members { result.now.members
             ≡ range_with_len 0 (length self.now.numbered.parents) }
@@ -283,7 +263,6 @@ impl Engine {
     /// The view of the block of this number and its past, or `None` where a present block has it as a
     /// parent. It takes a step for each tip.
     pub fn tip_view(&self, n: u16) -> Option<&View>
-        requires whole { self.now.broken ≡ false }
         requires within { n < length self.now.numbered.parents }
         ensures view { IfSome result (λ view.
             IsOfTip self.now.numbered self.now.votes n view.now) }
@@ -297,7 +276,6 @@ impl Engine {
 
     /// Which rule on ties the votes follow.
     pub fn profile(&self) -> Profile
-        requires { self.now.broken ≡ false }
         ensures { result ≡ self.now.profile }
     {
         self.dag.profile()
@@ -305,7 +283,6 @@ impl Engine {
 
     /// The bits of work that an id has to meet.
     pub fn bits(&self) -> u8
-        requires { self.now.broken ≡ false }
         ensures value { result ≡ self.now.bits }
         ensures bound { result ≤ 64 }
     {
@@ -314,7 +291,6 @@ impl Engine {
 
     /// The genesis block, in about the time of a look-up by hash.
     pub fn genesis(&self) -> &Block
-        requires { self.now.broken ≡ false }
         ensures { slice_get self.now.kept 0 ≡ Some result.now }
     {
         match self.pool.block(&self.genesis) {
@@ -326,7 +302,6 @@ impl Engine {
     /// How many blocks are kept, from 1 to 512: genesis and the waiting ones count. What stands of
     /// the kept blocks stands here, for each caller.
     pub fn kept_count(&self) -> u16
-        requires { self.now.broken ≡ false }
         ensures count { result ≡ length self.now.kept }
         ensures blocks { AreKept self.now.kept }
     {
@@ -336,16 +311,8 @@ impl Engine {
     /// The kept block with this id, or `None` where there is none. It takes about the time of a
     /// look-up by hash.
     pub fn block(&self, id: &BlockId) -> Option<&Block>
-        requires { self.now.broken ≡ false }
         ensures { option_copied result ≡ find (λ block. block.id == id.now) self.now.kept }
     {
         self.pool.block(id)
-    }
-
-    /// Whether memory was refused to an arrival. Nothing else may be asked then.
-    pub fn broken(&self) -> bool
-        ensures { result ≡ self.now.broken }
-    {
-        self.broken
     }
 }

@@ -1,28 +1,127 @@
 //! The growth by the blocks that become present: they join the graph and the votes with their
 //! carriers, and then acceptance and the purse follow.
 
-ghost use Rattle.std.specs.Prelude.{◌≡◌, ◌+◌, ◌++◌, length, OnOk};
+ghost use Rattle.std.specs.Prelude.{◌≡◌, ◌<◌, ◌≤◌, ◌+◌, ◌++◌, ℕ, List, false, length, take, All, IfOk, OnErr, OnOk};
+ghost use Rattle.sp_tx.specs.Parts.{Transaction};
 ghost use Rattle.sp_pool.specs.Kept.{Releases};
 ghost use Rattle.sp_dag.specs.Numbered.{IsNumbered};
-ghost use Rattle.sp_engine.specs.Engine.{AreNumbered, IsAccepting, IsPaying};
-ghost use Rattle.sp_engine.specs.Votes.{AreVoted, Grew};
+ghost use Rattle.sp_money.specs.Accepted.{is_set};
+ghost use Rattle.sp_money.specs.Held.{IsOf};
+ghost use Rattle.sp_accept.specs.Acceptance.{first_blocks};
+ghost use Rattle.sp_accept.specs.Flips.{flips_of};
+ghost use Rattle.sp_engine.specs.Engine.{AreNumbered, first_carried, first_numbered, GoesOn, IsAccepting, IsPaying, IsWider};
+ghost use Rattle.sp_engine.specs.Votes.{AreJoining, AreVoted, Grew, HaveJoined, IsAsBefore, Tallied};
 
-use crate::acceptance::accept_all;
-use crate::numbering::join_all;
-use crate::votes::Votes;
+use crate::acceptance::update;
+use crate::numbering::add_all;
+use crate::votes::{Before, Votes};
 use sp_accept::Accepted;
-use sp_carry::Carriers;
+use sp_carry::{Carriers, Flip};
 use sp_dag::Dag;
 use sp_ids::{BlockId, Memory};
 use sp_money::Purse;
 use sp_pool::Pool;
 
-/// Adds the kept blocks of these ids, which become present one after another, their votes and their
-/// carriers, decides on the carriers that may have changed, and turns in the purse what turned.
+/// Adds the kept blocks of these ids, their votes and their carriers, makes the purse's room for them,
+/// and decides on the carriers that may have changed. It answers what turned. No view from before is
+/// let go.
 ///
 /// # Errors
 ///
-/// `Memory` where there was none.
+/// `Memory` where there was none; what was accepted stays, and some of the blocks are there.
+fn decide(
+    pool: &Pool,
+    dag: &mut Dag,
+    votes: &mut Votes,
+    carriers: &mut Carriers,
+    accepted: &mut Accepted,
+    purse: &mut Purse,
+    ids: &[BlockId],
+    before: &Before,
+) -> Result<Vec<Flip>, Memory>
+    requires numbered { AreNumbered pool.now dag.old }
+    requires joined { (old : Tallied) ×
+        HaveJoined dag.old before.now.blocks old votes.old before.now.all }
+    requires blocks { before.now.blocks ≡ length dag.old.parents }
+    requires members { before.now.all.members ≡ first_blocks (length dag.old.parents) }
+    requires accepting { IsAccepting pool.now dag.old carriers.old accepted.old }
+    requires paying { IsPaying carriers.old accepted.old purse.old }
+    requires order { Releases pool.now dag.old.ids ids.now }
+    ensures in_order { OnOk result (IsNumbered dag.new) }
+    ensures numbered { OnOk result (AreNumbered pool.now dag.new) }
+    ensures profile { OnOk result (dag.new.profile ≡ dag.old.profile) }
+    ensures ids { OnOk result (dag.new.ids ≡ dag.old.ids ++ ids.now) }
+    ensures joined { OnOk result ((old : Tallied) →
+        HaveJoined dag.old before.now.blocks old votes.old before.now.all →
+        HaveJoined dag.new before.now.blocks old votes.new before.now.all) }
+    ensures err { OnErr result ((old : Tallied) →
+        HaveJoined dag.old before.now.blocks old votes.old before.now.all →
+        AreJoining dag.new before.now.blocks old votes.new before.now.all) }
+    ensures front { (n : ℕ) → n ≤ length dag.old.parents →
+        first_numbered dag.new n ≡ first_numbered dag.old n }
+    ensures first { (n : ℕ) → n ≤ carriers.old.blocks →
+        first_carried carriers.new n ≡ first_carried carriers.old n }
+    ensures accepting { OnOk result (IsAccepting pool.now dag.new carriers.new accepted.new) }
+    ensures accepted { OnErr result (accepted.new ≡ accepted.old) }
+    ensures flips { IfOk result (λ flips. flips.items
+        ≡ flips_of accepted.old.txs accepted.new.txs (length carriers.new.txs)) }
+    ensures known { IfOk result (λ flips.
+        All (λ flip. flip.tx < length carriers.new.txs) flips.items) }
+    ensures longer { carriers.old.blocks ≤ carriers.new.blocks }
+    ensures more { OnOk result (GoesOn carriers.old.txs carriers.new.txs) }
+    ensures of { OnOk result (IsOf carriers.new.txs purse.new) }
+    ensures wider { IsWider carriers.old.txs purse.old purse.new }
+{
+    // Tells the proof what numbered blocks are.
+    let _before = dag.len();
+    let from = carriers.carrier_count();
+    add_all(pool, dag, votes, carriers, ids)?;
+    // Tells the proof what numbered blocks are.
+    let _blocks = dag.len();
+    let changed = votes.changes(dag, before)?;
+    let changed = changed.as_slice();
+    purse.prepare(carriers)?;
+    update(dag, votes, carriers, changed, from, accepted)
+}
+
+/// Takes the blocks back that joined, with their votes and carriers, and what the purse has of them.
+fn take_back(
+    dag: &mut Dag,
+    votes: &mut Votes,
+    carriers: &mut Carriers,
+    purse: &mut Purse,
+    txs: u32,
+    before: Before,
+)
+    requires some { 1 ≤ before.blocks }
+    requires within { before.blocks ≤ length dag.old.parents }
+    requires carried { before.blocks ≤ carriers.old.blocks }
+    requires joining { (old : Tallied) × AreJoining dag.old before.blocks old votes.old before.all
+        × (before.tips + 1 ≡ length old.views) }
+    requires accepted { txs ≤ length purse.old.accepted }
+    requires none { (tx : ℕ) → txs ≤ tx → is_set purse.old.accepted tx ≡ false }
+    requires of { (list : List Transaction) × IsOf list purse.old }
+    ensures dag { dag.new ≡ first_numbered dag.old before.blocks }
+    ensures carriers { carriers.new ≡ first_carried carriers.old before.blocks }
+    ensures votes { (old : Tallied) → AreJoining dag.old before.blocks old votes.old before.all →
+        before.tips + 1 ≡ length old.views → IsAsBefore old votes.new }
+    ensures of { (list : List Transaction) → IsOf list purse.old → IsOf (take txs list) purse.new }
+    ensures accepted { purse.new.accepted ≡ take txs purse.old.accepted }
+{
+    let blocks = before.blocks;
+    purse.cut(txs);
+    carriers.cut(blocks);
+    votes.take_back(dag, before);
+    dag.cut(blocks);
+}
+
+/// Adds the kept blocks of these ids, which become present one after another, their votes and their
+/// carriers, decides on the carriers that may have changed, and turns in the purse what turned. Every
+/// call that may be refused memory comes before the first view from before is let go.
+///
+/// # Errors
+///
+/// `Memory` where there was none; all is as before, but that more rows may be spare.
 pub(crate) fn grow(
     pool: &Pool,
     dag: &mut Dag,
@@ -47,13 +146,25 @@ pub(crate) fn grow(
         × Grew dag.new (length dag.old.parents) votes.old votes.new) }
     ensures accepting { OnOk result (IsAccepting pool.now dag.new carriers.new accepted.new) }
     ensures paying { OnOk result (IsPaying carriers.new accepted.new purse.new) }
+    ensures dag { OnErr result (dag.new ≡ dag.old) }
+    ensures votes { OnErr result (IsAsBefore votes.old votes.new) }
+    ensures carriers { OnErr result (carriers.new ≡ carriers.old) }
+    ensures accepted { OnErr result (accepted.new ≡ accepted.old) }
+    ensures purse { OnErr result (IsPaying carriers.old accepted.old purse.new) }
 {
     // Tells the proof what numbered blocks are.
-    let _before = dag.len();
-    let from = carriers.carrier_count();
-    let changed = join_all(pool, dag, votes, carriers, ids)?;
-    // Tells the proof what numbered blocks are.
     let _blocks = dag.len();
-    let changed = changed.as_slice();
-    accept_all(dag, votes, carriers, changed, from, accepted, purse)
+    let txs = carriers.tx_count();
+    let before = votes.before(dag)?;
+    match decide(pool, dag, votes, carriers, accepted, purse, ids, &before) {
+        Ok(flips) => {
+            purse.apply(carriers, flips.as_slice());
+            votes.settle(dag, before);
+            Ok(())
+        }
+        Err(refused) => {
+            take_back(dag, votes, carriers, purse, txs, before);
+            Err(refused)
+        }
+    }
 }

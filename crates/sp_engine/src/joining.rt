@@ -1,13 +1,14 @@
 //! The steps by which a block joins the votes: the view of it with its past, the view of all blocks,
-//! and the views that it covers. A view that is held beside these stays as it is.
+//! and how the views that are covered are let go, or those that joined. A view that is held beside
+//! these stays as it is.
 
-ghost use Rattle.std.specs.Prelude.{◌≡◌, ◌<◌, ◌≤◌, ◌+◌, ◌∷◌, ℕ, List, length, filter, vec_len, vec_capacity, IfOk, OnOk};
-ghost use Rattle.sp_model.specs.Graph.{past};
+ghost use Rattle.std.specs.Prelude.{◌≡◌, ◌<◌, ◌≤◌, ◌+◌, ◌^◌, ◌++◌, ◌∷◌, [], true, not, ℕ, List, length, filter, vec_len, vec_capacity, IfOk, OnOk, OnErr};
+ghost use Rattle.sp_model.specs.Graph.{has, past};
 ghost use Rattle.sp_dag.specs.Numbered.{Numbered, graph_of};
 ghost use Rattle.sp_frozen.specs.Voters.{HoldsFrozen};
-ghost use Rattle.sp_view.specs.Stored.{count_of, row_of};
-ghost use Rattle.sp_view.specs.Views.{Viewed, IsBest};
-ghost use Rattle.sp_engine.specs.Votes.{AreKeptIdsBy, AreShared, AreViews, bar_row, held_by, is_beyond, IsLast, IsPut};
+ghost use Rattle.sp_view.specs.Stored.{count_of, live, row_of};
+ghost use Rattle.sp_view.specs.Views.{held, Viewed, AreKeptIds, IsBest, IsView};
+ghost use Rattle.sp_engine.specs.Votes.{AreKeptIdsBy, AreShared, AreViews, bar_row, held_by, is_top_tip, is_uncovered, IsLast, IsPut};
 
 use sp_bits::Row;
 use sp_dag::Dag;
@@ -16,8 +17,64 @@ use sp_ids::Memory;
 use sp_rows::RowPool;
 use sp_view::View;
 use std::alloc::Global;
+use std::mem;
+
+// Whether a block has the highest one of these members as a parent.
+fn is_covered(dag: &Dag, members: &Row) -> bool
+    requires { (z : ℕ) → has members.now z ≡ true → z < length dag.now.parents }
+    ensures { result ≡ not (is_top_tip dag.now members.now) }
+{
+    // Tells the proof that the blocks stand in order.
+    let _blocks = dag.len();
+    match members.highest() {
+        Some(top) => dag.future(top).highest().is_some(),
+        // A view has genesis.
+        None => true,
+    }
+}
+
+/// Gives the frozen votes the votes of the last block, by a view of its past, and adds the block to
+/// that view.
+fn vote_tip(
+    tip: &mut View,
+    dag: &Dag,
+    frozen: &mut Frozen,
+    rows: &mut RowPool,
+) -> Result<(), Memory>
+    requires next { length dag.now.parents ≡ frozen.old.blocks + 1 }
+    requires frozen { HoldsFrozen dag.now frozen.old }
+    requires view { IsView dag.now tip.old rows.old }
+    requires members { tip.old.members ≡ past (graph_of dag.now) frozen.old.blocks }
+    requires few { live rows.old < 2 ^ 30 }
+    ensures frozen { OnOk result (HoldsFrozen dag.now frozen.new) }
+    ensures blocks { OnOk result (frozen.new.blocks ≡ frozen.old.blocks + 1) }
+    ensures view { OnOk result (IsView dag.now tip.new rows.new) }
+    ensures members { OnOk result (tip.new.members ≡ bar_row dag.now frozen.old.blocks) }
+    ensures kept { OnOk result (AreKeptIds dag.now tip.old.members tip.new.members
+        tip.old.entries tip.new.entries) }
+    ensures counts { (r : ℕ) → count_of rows.new r + held tip.old.entries r ≡
+        count_of rows.old r + held tip.new.entries r }
+    ensures others { (r : ℕ) → held tip.old.entries r < count_of rows.old r →
+        row_of rows.new r ≡ row_of rows.old r }
+    ensures err { OnErr result (tip.new ≡ tip.old) }
+    ensures err_frozen { OnErr result (HoldsFrozen dag.now frozen.new
+        × (frozen.old.blocks ≤ frozen.new.blocks)) }
+    ensures err_rows { OnErr result (rows.new.rows ≡ rows.old.rows) }
+{
+    let b = dag.len() - 1;
+    // Tells the proof that there are at most 130,816 pairs.
+    let _pairs = dag.pair_count();
+    let signs = tip.past_votes(frozen, rows)?;
+    frozen.add(dag, b, &signs)?;
+    tip.add(dag, frozen, rows, b)
+}
 
 /// The view of the last block with its past. Its past's votes join the frozen ones on the way.
+///
+/// # Errors
+///
+/// `Memory` where there was none. No row is held more often, and those that were live have their
+/// places; the frozen votes may have the block.
 pub(crate) fn new_tip(
     alloc: Global,
     views: &[View],
@@ -45,6 +102,10 @@ pub(crate) fn new_tip(
         AreKeptIdsBy dag.now base.members
         (past (graph_of dag.now) frozen.old.blocks) tip.members
         base.entries tip.entries) }
+    ensures places { (row : ℕ) → 0 < count_of rows.old row → row_of rows.new row ≡ row_of rows.old row }
+    ensures err_frozen { OnErr result (HoldsFrozen dag.now frozen.new
+        × (frozen.old.blocks ≤ frozen.new.blocks)) }
+    ensures err_counts { OnErr result ((row : ℕ) → count_of rows.new row ≡ count_of rows.old row) }
 {
     let b = dag.len() - 1;
     // Tell the proof that there are at most 130,816 pairs, and what the rows of a pool are.
@@ -54,15 +115,22 @@ pub(crate) fn new_tip(
     // Tells the proof that the past is a row.
     let _members = past.count();
     let mut tip = View::derive(alloc, views, dag, frozen, rows, past)?;
-    let signs = tip.past_votes(frozen, rows)?;
-    frozen.add(dag, b, &signs)?;
     let _derived = rows.live();
-    tip.add(dag, frozen, rows, b)?;
-    Ok(tip)
+    match vote_tip(&mut tip, dag, frozen, rows) {
+        Ok(()) => Ok(tip),
+        Err(refused) => {
+            tip.release(rows);
+            Err(refused)
+        }
+    }
 }
 
 /// Adds the last block of a graph to the view of all blocks, which is the last one, and puts a view
 /// before it.
+///
+/// # Errors
+///
+/// `Memory` where there was none. That view is let go, and the others stay.
 pub(crate) fn put_tip(
     views: &mut Vec<View>,
     dag: &Dag,
@@ -85,24 +153,39 @@ pub(crate) fn put_tip(
     ensures shared { OnOk result ((beside : List Viewed) →
         AreShared dag.now rows.old frozen.now.blocks (tip ∷ views.old.items) beside →
         AreShared dag.now rows.new frozen.now.blocks views.new.items beside) }
+    ensures places { (row : ℕ) (front : List Viewed) (all : Viewed) → views.old.items ≡ front ++ all ∷ [] →
+        held all.entries row < count_of rows.old row → 0 < count_of rows.new row →
+        row_of rows.new row ≡ row_of rows.old row }
+    ensures err { OnErr result (views.new.items ≡ views.old.items) }
+    ensures err_counts { OnErr result ((row : ℕ) →
+        count_of rows.new row + held tip.entries row ≡ count_of rows.old row) }
+    ensures err_rows { OnErr result ((row : ℕ) → 0 < count_of rows.new row →
+        row_of rows.new row ≡ row_of rows.old row) }
 {
     // Tell the proof that there are at most 512 blocks and 130,816 pairs, and what rows are.
     let b = dag.len() - 1;
     let _pairs = dag.pair_count();
     let _live = rows.live();
     let last = views.len() - 1;
-    views[last].add(dag, frozen, rows, b)?;
-    match views.insert(last, tip) {
-        Ok(()) => Ok(()),
-        // There is room.
-        Err(_) => unreachable!(),
+    match views[last].add(dag, frozen, rows, b) {
+        Ok(()) => match views.insert(last, tip) {
+            Ok(()) => Ok(()),
+            // There is room.
+            Err(_) => unreachable!(),
+        },
+        Err(refused) => {
+            tip.release(rows);
+            Err(refused)
+        }
     }
 }
 
-/// Lets the views go that lie within a past.
-pub(crate) fn release_within(views: &mut Vec<View>, rows: &mut RowPool, past: &Row)
-    requires { (row : ℕ) → held_by views.old.items row ≤ count_of rows.old row }
-    ensures rest { views.new.items ≡ filter (is_beyond past.now) views.old.items }
+/// Lets the views go of blocks that another one covers, by their highest members. The view of all
+/// blocks has the last one, which none covers.
+pub(crate) fn release_covered(views: &mut Vec<View>, rows: &mut RowPool, dag: &Dag)
+    requires counts { (row : ℕ) → held_by views.old.items row ≤ count_of rows.old row }
+    requires views { (n : ℕ) × AreViews dag.now rows.old n views.old.items }
+    ensures rest { views.new.items ≡ filter (is_uncovered dag.now) views.old.items }
     ensures views { (table : Numbered) (n : ℕ) → AreViews table rows.old n views.old.items →
         AreViews table rows.new n views.new.items }
     ensures counts { (row : ℕ) → count_of rows.new row + held_by views.old.items row
@@ -112,10 +195,43 @@ pub(crate) fn release_within(views: &mut Vec<View>, rows: &mut RowPool, past: &R
 {
     let mut i = 0;
     'views: while i < views.len() {
-        if views[i].members().within(past) {
+        if is_covered(dag, views[i].members()) {
             views.remove(i).release(rows);
         } else {
             i += 1;
         }
     }
+}
+
+/// Lets the views go that stand from a place on, but for the last one.
+pub(crate) fn release_joined(views: &mut Vec<View>, rows: &mut RowPool, place: usize)
+    requires within { place < vec_len views.old }
+    requires counts { (row : ℕ) → held_by views.old.items row ≤ count_of rows.old row }
+    ensures rest { (front joined : List Viewed) (last : Viewed) → place ≡ length front →
+        views.old.items ≡ front ++ (joined ++ last ∷ []) → views.new.items ≡ front ++ last ∷ [] }
+    ensures counts { (row : ℕ) → count_of rows.new row + held_by views.old.items row
+        ≡ count_of rows.old row + held_by views.new.items row }
+    ensures rows { (row : ℕ) → 0 < count_of rows.new row →
+        row_of rows.new row ≡ row_of rows.old row }
+{
+    'views: while place + 1 < views.len() {
+        views.remove(place).release(rows);
+    }
+}
+
+/// Puts a view into the place of the last one, which is let go.
+pub(crate) fn put_last(views: &mut Vec<View>, rows: &mut RowPool, view: View)
+    requires some { 0 < vec_len views.old }
+    requires counts { (row : ℕ) → held_by views.old.items row + held view.entries row
+        ≤ count_of rows.old row }
+    ensures put { (front : List Viewed) (last : Viewed) → views.old.items ≡ front ++ last ∷ [] →
+        views.new.items ≡ front ++ view ∷ [] }
+    ensures counts { (row : ℕ) → count_of rows.new row + held_by views.old.items row + held view.entries row
+        ≡ count_of rows.old row + held_by views.new.items row }
+    ensures rows { (row : ℕ) → 0 < count_of rows.new row →
+        row_of rows.new row ≡ row_of rows.old row }
+{
+    let last = views.len() - 1;
+    let all = mem::replace(&mut views[last], view);
+    all.release(rows);
 }

@@ -1,12 +1,12 @@
 //! The numbering of the blocks that become present, in their order, with their votes and carriers.
 
-ghost use Rattle.std.specs.Prelude.{◌≡◌, ◌≤◌, ◌+◌, ◌++◌, ◌∷◌, [], ℕ, List, length, IfOk, OnOk};
+ghost use Rattle.std.specs.Prelude.{◌≡◌, ◌≤◌, ◌+◌, ◌++◌, ◌∷◌, [], ℕ, List, length, IfOk, OnErr, OnOk};
 ghost use Rattle.sp_pool.specs.Kept.{IsNext, Releases};
 ghost use Rattle.sp_view.specs.Views.{Viewed};
 ghost use Rattle.sp_accept.specs.Acceptance.{Acceptance, IsRight};
 ghost use Rattle.sp_accept.specs.Changes.{carriers_below, TellsChanges};
-ghost use Rattle.sp_engine.specs.Engine.{AreCarried, AreNumbered, GoesOn};
-ghost use Rattle.sp_engine.specs.Votes.{AreVoted, AreVotedBeside, Grew};
+ghost use Rattle.sp_engine.specs.Engine.{AreCarried, AreNumbered, first_carried, first_numbered, GoesOn};
+ghost use Rattle.sp_engine.specs.Votes.{AreJoining, HaveJoined, Tallied};
 
 use crate::votes::Votes;
 use sp_carry::Carriers;
@@ -24,23 +24,26 @@ fn add_one(
     id: &BlockId,
 ) -> Result<(), Memory>
     requires numbered { AreNumbered pool.now dag.old }
-    requires voted { (beside : List Viewed) × AreVotedBeside dag.old votes.old beside }
+    requires joined { (n : ℕ) × (old : Tallied) × (was : Viewed) × HaveJoined dag.old n old votes.old was }
     requires carried { AreCarried pool.now dag.old carriers.old }
     requires next { IsNext pool.now dag.old.ids id.now }
     ensures numbered { OnOk result (AreNumbered pool.now dag.new) }
     ensures profile { OnOk result (dag.new.profile ≡ dag.old.profile) }
     ensures ids { OnOk result (dag.new.ids ≡ dag.old.ids ++ id.now ∷ []) }
     ensures long { OnOk result (length dag.new.parents ≡ length dag.old.parents + 1) }
-    ensures voted { OnOk result ((beside : List Viewed) →
-        AreVotedBeside dag.old votes.old beside →
-        AreVotedBeside dag.new votes.new beside) }
-    ensures grew { OnOk result
-        (Grew dag.new (length dag.old.parents) votes.old votes.new) }
+    ensures joined { OnOk result ((n : ℕ) (old : Tallied) (was : Viewed) →
+        HaveJoined dag.old n old votes.old was → HaveJoined dag.new n old votes.new was) }
+    ensures err { OnErr result ((n : ℕ) (old : Tallied) (was : Viewed) →
+        HaveJoined dag.old n old votes.old was → AreJoining dag.new n old votes.new was) }
+    ensures front { (n : ℕ) → n ≤ length dag.old.parents →
+        first_numbered dag.new n ≡ first_numbered dag.old n }
+    ensures first { (n : ℕ) → n ≤ carriers.old.blocks →
+        first_carried carriers.new n ≡ first_carried carriers.old n }
     ensures carried { OnOk result (AreCarried pool.now dag.new carriers.new) }
     ensures more { OnOk result (GoesOn carriers.old.txs carriers.new.txs) }
     ensures right { OnOk result ((a : Acceptance) → IsRight dag.old carriers.old a →
         IsRight dag.new carriers.new a) }
-    ensures blocks { OnOk result (carriers.old.blocks ≤ carriers.new.blocks) }
+    ensures longer { carriers.old.blocks ≤ carriers.new.blocks }
     ensures below { OnOk result ((n : ℕ) → n ≤ carriers.old.blocks →
         carriers_below carriers.new.rows n ≡ carriers_below carriers.old.rows n) }
 {
@@ -64,7 +67,11 @@ fn add_one(
 
 /// Adds the kept blocks of these ids, which become present one after another, their votes and their
 /// carriers.
-fn add_all(
+///
+/// # Errors
+///
+/// Memory was refused; some of them are there.
+pub(crate) fn add_all(
     pool: &Pool,
     dag: &mut Dag,
     votes: &mut Votes,
@@ -72,18 +79,21 @@ fn add_all(
     ids: &[BlockId],
 ) -> Result<(), Memory>
     requires numbered { AreNumbered pool.now dag.old }
-    requires voted { (beside : List Viewed) × AreVotedBeside dag.old votes.old beside }
+    requires joined { (n : ℕ) × (old : Tallied) × (was : Viewed) × HaveJoined dag.old n old votes.old was }
     requires carried { AreCarried pool.now dag.old carriers.old }
     requires order { Releases pool.now dag.old.ids ids.now }
     ensures numbered { OnOk result (AreNumbered pool.now dag.new) }
     ensures profile { OnOk result (dag.new.profile ≡ dag.old.profile) }
     ensures ids { OnOk result (dag.new.ids ≡ dag.old.ids ++ ids.now) }
-    ensures voted { OnOk result ((beside : List Viewed) →
-        AreVotedBeside dag.old votes.old beside →
-        AreVotedBeside dag.new votes.new beside) }
-    ensures one { OnOk result (length ids.now ≡ 1 →
-        (length dag.new.parents ≡ length dag.old.parents + 1)
-        × Grew dag.new (length dag.old.parents) votes.old votes.new) }
+    ensures joined { OnOk result ((n : ℕ) (old : Tallied) (was : Viewed) →
+        HaveJoined dag.old n old votes.old was → HaveJoined dag.new n old votes.new was) }
+    ensures err { OnErr result ((n : ℕ) (old : Tallied) (was : Viewed) →
+        HaveJoined dag.old n old votes.old was → AreJoining dag.new n old votes.new was) }
+    ensures front { (n : ℕ) → n ≤ length dag.old.parents →
+        first_numbered dag.new n ≡ first_numbered dag.old n }
+    ensures first { (n : ℕ) → n ≤ carriers.old.blocks →
+        first_carried carriers.new n ≡ first_carried carriers.old n }
+    ensures longer { carriers.old.blocks ≤ carriers.new.blocks }
     ensures carried { OnOk result (AreCarried pool.now dag.new carriers.new) }
     ensures more { OnOk result (GoesOn carriers.old.txs carriers.new.txs) }
     ensures right { OnOk result ((a : Acceptance) → IsRight dag.old carriers.old a →
@@ -95,42 +105,4 @@ fn add_all(
         add_one(pool, dag, votes, carriers, id)?;
     }
     Ok(())
-}
-
-/// Adds the kept blocks of these ids, as above, and answers the pairs of the blocks that were there
-/// before on which the virtual vote of all turned, and maybe more.
-///
-/// # Errors
-///
-/// Memory was refused.
-pub(crate) fn join_all(
-    pool: &Pool,
-    dag: &mut Dag,
-    votes: &mut Votes,
-    carriers: &mut Carriers,
-    ids: &[BlockId],
-) -> Result<Vec<(u16, u16)>, Memory>
-    requires numbered { AreNumbered pool.now dag.old }
-    requires voted { AreVoted dag.old votes.old }
-    requires carried { AreCarried pool.now dag.old carriers.old }
-    requires order { Releases pool.now dag.old.ids ids.now }
-    ensures told { IfOk result (λ pairs.
-        TellsChanges dag.new (length dag.old.parents) pairs.items) }
-    ensures numbered { OnOk result (AreNumbered pool.now dag.new) }
-    ensures profile { OnOk result (dag.new.profile ≡ dag.old.profile) }
-    ensures ids { OnOk result (dag.new.ids ≡ dag.old.ids ++ ids.now) }
-    ensures voted { OnOk result (AreVoted dag.new votes.new) }
-    ensures one { OnOk result (length ids.now ≡ 1 →
-        (length dag.new.parents ≡ length dag.old.parents + 1)
-        × Grew dag.new (length dag.old.parents) votes.old votes.new) }
-    ensures carried { OnOk result (AreCarried pool.now dag.new carriers.new) }
-    ensures more { OnOk result (GoesOn carriers.old.txs carriers.new.txs) }
-    ensures right { OnOk result ((a : Acceptance) → IsRight dag.old carriers.old a →
-        IsRight dag.new carriers.new a) }
-    ensures below { OnOk result ((n : ℕ) → n ≤ carriers.old.blocks →
-        carriers_below carriers.new.rows n ≡ carriers_below carriers.old.rows n) }
-{
-    let fork = votes.fork(dag)?;
-    add_all(pool, dag, votes, carriers, ids)?;
-    votes.changes(dag, fork)
 }

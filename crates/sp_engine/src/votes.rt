@@ -2,7 +2,7 @@
 //! and of all blocks share. While an arrival's blocks join, a fork of the view of all is held beside,
 //! so that it can be told which votes turned.
 
-ghost use Rattle.std.specs.Prelude.{◌≡◌, ◌≢◌, ◌<◌, ◌≤◌, ◌+◌, ◌∷◌, [], ℕ, List, length, IfOk, IfSome, IfNone, OnOk, IsTrue, IsFalse, ◌↔◌};
+ghost use Rattle.std.specs.Prelude.{◌≡◌, ◌≢◌, ◌<◌, ◌≤◌, ◌+◌, ◌∷◌, [], ℕ, List, length, IfOk, IfSome, IfNone, OnOk, OnErr, IsTrue, IsFalse, ◌↔◌};
 ghost use Rattle.sp_bits.specs.Places.{IsGreatest};
 ghost use Rattle.sp_model.specs.Votes.{virt, word_of};
 ghost use Rattle.sp_dag.specs.Numbered.{Numbered, graph_of, AreInOrder};
@@ -10,10 +10,10 @@ ghost use Rattle.sp_view.specs.Views.{IsView, Viewed};
 ghost use Rattle.sp_accept.specs.Acceptance.{first_blocks};
 ghost use Rattle.sp_accept.specs.Changes.{TellsChanges};
 ghost use Rattle.sp_engine.specs.Engine.{numbers};
-ghost use Rattle.sp_engine.specs.Votes.{AreVoted, AreVotedBeside, Grew, HoldsVotes, IsOfAll, IsOfTip, is_tip};
+ghost use Rattle.sp_engine.specs.Votes.{AreJoining, AreVoted, AreWhole, empty_view, Grew, HaveJoined, HaveJoinedBut, IsAsBefore, IsOfAll, IsOfTip, is_tip, Tallied};
 
 use crate::changes::changed_pairs;
-use crate::joining::{new_tip, put_tip, release_within};
+use crate::joining::{new_tip, put_last, put_tip, release_covered, release_joined};
 use crate::words::{related_word, word_by};
 use sp_bits::Row;
 use sp_dag::Dag;
@@ -40,6 +40,15 @@ impl Model for Votes {
     ghost Value = { Tallied };
 
     ghost view = { λ v. record { frozen = v.frozen; rows = v.rows; views = v.views.items } };
+}
+
+/// What the votes were before the blocks of an arrival joined them: how many blocks, how many of
+/// their tips, and the view of all of them.
+#[derive(Drop)]
+pub(crate) struct Before {
+    pub(crate) blocks: u16,
+    pub(crate) tips: usize,
+    pub(crate) all: View,
 }
 
 // Written out, so that where they are let go there is one call.
@@ -71,8 +80,8 @@ impl Votes {
     ///
     /// Memory was refused.
     pub(crate) fn new(alloc: Global) -> Result<Votes, Memory>
-        ensures holds { IfOk result (λ votes. (table : Numbered) → AreInOrder table.parents →
-            HoldsVotes table votes []) }
+        ensures joining { IfOk result (λ votes. (table : Numbered) → AreInOrder table.parents →
+            length table.parents ≡ 1 → HaveJoinedBut table 0 votes votes empty_view) }
         ensures blocks { IfOk result (λ votes. votes.frozen.blocks ≡ 0) }
     {
         let mut views = Vec::new(alloc);
@@ -85,66 +94,105 @@ impl Votes {
         })
     }
 
-    /// Adds the last block of a graph, whose other blocks were added. A view that is held beside
-    /// stays one.
+    /// Adds the last block of a graph, whose other blocks were added. The view of the block and its
+    /// past stands behind those that were there, which stay.
     ///
     /// # Errors
     ///
-    /// Memory was refused.
+    /// Memory was refused; the frozen votes may have the block.
     pub(crate) fn add(&mut self, dag: &Dag) -> Result<(), Memory>
-        requires holds { (beside : List Viewed) × HoldsVotes dag.now self.old beside }
+        requires joining { (n : ℕ) × (old : Tallied) × (was : Viewed) ×
+            HaveJoinedBut dag.now n old self.old was }
         requires next { length dag.now.parents ≡ self.old.frozen.blocks + 1 }
-        ensures voted { OnOk result ((beside : List Viewed) →
-            HoldsVotes dag.now self.old beside →
-            AreVotedBeside dag.now self.new beside) }
-        ensures grew { OnOk result
-            (Grew dag.now self.old.frozen.blocks self.old self.new) }
+        ensures joined { OnOk result ((n : ℕ) (old : Tallied) (was : Viewed) →
+            HaveJoinedBut dag.now n old self.old was → HaveJoined dag.now n old self.new was) }
+        ensures err { OnErr result ((n : ℕ) (old : Tallied) (was : Viewed) →
+            HaveJoinedBut dag.now n old self.old was → AreJoining dag.now n old self.new was) }
     {
         // Tells the proof that there are at most 512 blocks.
-        let b = dag.len() - 1;
+        let _blocks = dag.len();
         self.views.reserve(1)?;
         let views = self.views.as_slice();
         let tip = new_tip(self.alloc, views, dag, &mut self.frozen, &mut self.rows)?;
         put_tip(&mut self.views, dag, &self.frozen, &mut self.rows, tip)?;
-        release_within(&mut self.views, &mut self.rows, dag.past(b));
         Ok(())
     }
 
-    /// The view of all blocks, to be held beside while more blocks join.
+    /// What the votes are before the blocks of an arrival join them. The view of all blocks is held
+    /// once more, so that it stays.
     ///
     /// # Errors
     ///
-    /// Memory was refused.
-    pub(crate) fn fork(&mut self, dag: &Dag) -> Result<View, Memory>
+    /// Memory was refused; only more rows may be spare.
+    pub(crate) fn before(&mut self, dag: &Dag) -> Result<Before, Memory>
         requires { AreVoted dag.now self.old }
-        ensures voted { IfOk result (λ fork.
-            AreVotedBeside dag.now self.new (fork ∷ [])) }
-        ensures members { IfOk result (λ fork.
-            fork.members ≡ first_blocks (length dag.now.parents)) }
-        ensures views { OnOk result (self.new.views ≡ self.old.views) }
+        ensures joined { IfOk result (λ before.
+            HaveJoined dag.now (length dag.now.parents) self.old self.new before.all) }
+        ensures blocks { IfOk result (λ before. before.blocks ≡ length dag.now.parents) }
+        ensures tips { IfOk result (λ before. before.tips + 1 ≡ length self.old.views) }
+        ensures members { IfOk result (λ before.
+            before.all.members ≡ first_blocks (length dag.now.parents)) }
+        ensures err { OnErr result (IsAsBefore self.old self.new) }
     {
         // Tells the proof that there are at most 512 blocks.
         let _blocks = dag.len();
-        let last = self.views.len() - 1;
-        self.views[last].fork(&mut self.rows)
+        let blocks = self.frozen.blocks();
+        let tips = self.views.len() - 1;
+        let all = self.views[tips].fork(&mut self.rows)?;
+        Ok(Before { blocks, tips, all })
     }
 
-    /// The pairs of a fork's blocks on which all blocks have another virtual vote than those did, and
-    /// maybe more. The fork is let go, whatever is answered.
+    /// The pairs of the blocks from before on which all blocks have another virtual vote than those
+    /// did, and maybe more.
     ///
     /// # Errors
     ///
     /// Memory was refused.
-    pub(crate) fn changes(&mut self, dag: &Dag, fork: View) -> Result<Vec<(u16, u16)>, Memory>
-        requires { AreVotedBeside dag.now self.old (fork ∷ []) }
-        ensures told { IfOk result (λ pairs. (n : ℕ) → fork.members ≡ first_blocks n →
+    pub(crate) fn changes(&self, dag: &Dag, before: &Before) -> Result<Vec<(u16, u16)>, Memory>
+        requires { (old : Tallied) × HaveJoined dag.now before.now.blocks old self.now before.now.all }
+        ensures { IfOk result (λ pairs. (n : ℕ) → before.now.all.members ≡ first_blocks n →
             TellsChanges dag.now n pairs.items) }
-        ensures voted { AreVoted dag.now self.new }
-        ensures views { self.new.views ≡ self.old.views }
     {
-        let pairs = changed_pairs(self.alloc, dag, self.all(), &fork, &self.frozen, &self.rows);
-        fork.release(&mut self.rows);
-        pairs
+        changed_pairs(
+            self.alloc,
+            dag,
+            self.all(),
+            &before.all,
+            &self.frozen,
+            &self.rows,
+        )
+    }
+
+    /// Keeps the blocks that joined: the views of covered blocks are let go, and what was before.
+    pub(crate) fn settle(&mut self, dag: &Dag, before: Before)
+        requires { (old : Tallied) × HaveJoined dag.now before.blocks old self.old before.all }
+        ensures voted { AreVoted dag.now self.new }
+        ensures grew { (old : Tallied) → HaveJoined dag.now before.blocks old self.old before.all →
+            length dag.now.parents ≡ before.blocks + 1 → Grew dag.now before.blocks old self.new }
+    {
+        // Tells the proof that the blocks stand in order.
+        let _blocks = dag.len();
+        let Before {
+            blocks: _,
+            tips: _,
+            all,
+        } = before;
+        all.release(&mut self.rows);
+        release_covered(&mut self.views, &mut self.rows, dag);
+    }
+
+    /// Takes the blocks back that joined, for a graph that is cut to those from before after this
+    /// call: their views are let go, and the view of all blocks is that from before.
+    pub(crate) fn take_back(&mut self, dag: &Dag, before: Before)
+        requires { (old : Tallied) × AreJoining dag.now before.blocks old self.old before.all
+            × (before.tips + 1 ≡ length old.views) }
+        ensures { (old : Tallied) → AreJoining dag.now before.blocks old self.old before.all →
+            before.tips + 1 ≡ length old.views → IsAsBefore old self.new }
+    {
+        let Before { blocks, tips, all } = before;
+        put_last(&mut self.views, &mut self.rows, all);
+        release_joined(&mut self.views, &mut self.rows, tips);
+        self.frozen.cut(dag, blocks);
     }
 
     /// The frozen votes, lent as they stand.
@@ -191,7 +239,7 @@ impl Votes {
 
     /// The word of two different blocks, by four counts at most.
     pub(crate) fn word(&self, dag: &Dag, x: u16, y: u16) -> Word
-        requires voted { AreVoted dag.now self.now }
+        requires voted { AreWhole dag.now self.now }
         requires x_in { x < length dag.now.parents }
         requires y_in { y < length dag.now.parents }
         requires other { x ≢ y }

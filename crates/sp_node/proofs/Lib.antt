@@ -1,6 +1,5 @@
 pub mod AnswerLengths
 pub mod AnswerLists
-pub mod Arrived
 pub mod Changes
 pub mod Opened
 pub mod Questions

@@ -1,5 +1,5 @@
 -- What a question leaves as it was.
-use Rattle.std.proofs.Common.{inl, ◌≡◌, ◌≢◌, ℕ, List, Bor, Option, Some, None, Result, Ok, Err, refl}
+use Rattle.std.proofs.Common.{inl, ◌≡◌, ◌≢◌, ◌∙◌, ℕ, Bool, false, List, Bor, Option, Some, None, Result, Ok, Err, refl, sym, ap}
 use Rattle.std.specs.Prelude.{IfErr, IfSome, OnOk}
 use Rattle.sp_io.specs.Causes.{Rose}
 use Rattle.sp_block.specs.Block.{ReadBlock}
@@ -12,7 +12,7 @@ use Rattle.sp_feed.specs.declared.message.Message.TheVariants.{Block, Vote, Tx, 
 use Rattle.sp_journal.specs.Writer.{Writer}
 use Rattle.sp_node.specs.Answers.{IsQuestion, kept_then}
 use Rattle.sp_node.specs.Journalled.{HoldsThen, IsKeptOn, LeavesOn}
-use Rattle.sp_node.specs.Node.{HasNodeCause}
+use Rattle.sp_node.specs.Node.{HasNodeCause, State, stops}
 use Rattle.sp_node.specs.declared.fault.NodeFault.{NodeFault}
 use Rattle.sp_node.specs.declared.fault.NodeFault.TheVariants.{WriteFault, DiskFault, Memory}
 
@@ -60,3 +60,7 @@ question_cause (Ok x) before now disk_before disk_now never rose = tt
 question_cause (Err WriteFault) before now disk_before disk_now never rose = rose refl
 question_cause (Err DiskFault) before now disk_before disk_now never rose = absurd (never refl)
 question_cause (Err Memory) before now disk_before disk_now never rose = tt
+
+-- a question for which there was no memory leaves a node as it was that isn't stopped
+pub as_before : {X : Type 0} (before now : State) (r : Result X NodeFault) → before.stopped ≡ false → now ≡ record before { stopped = stops r } → r ≡ Err Memory → now ≡ before
+as_before before now r live state is = state ∙ ap (λ (b : Bool). record before { stopped = b }) (ap stops is ∙ sym live)

@@ -1,16 +1,12 @@
 -- What contracts see of a node, and why a message isn't answered.
-use Rattle.std.specs.Prelude.{ℕ, Bool, false, List, Option, None}
+use Rattle.std.specs.Prelude.{ℕ, Bool, false, true, List, Option, None, Result, Ok, Err}
 use Rattle.sp_io.specs.Causes.{Rose}
 use Rattle.sp_block.specs.Block.{ReadBlock}
 use Rattle.sp_journal.specs.Writer.{Writer}
-use Rattle.sp_report.specs.declared.text.TextFault.{TextFault}
-use Rattle.sp_report.specs.declared.text.TextFault.TheVariants as text
-use Rattle.sp_node.specs.declared.fault.KeepFault.{KeepFault}
-use Rattle.sp_node.specs.declared.fault.KeepFault.TheVariants as keeps
 use Rattle.sp_node.specs.declared.fault.NodeFault.{NodeFault}
 use Rattle.sp_node.specs.declared.fault.NodeFault.TheVariants.{WriteFault, DiskFault, Memory}
 
--- the bits of work, the kept blocks, whether a message wasn't answered, and the journal, where there is one
+-- the bits of work, the kept blocks, whether the sink or the disk failed, and the journal, where there is one
 pub record State : Type 0 where
   pub bits : ℕ
   pub kept : List ReadBlock
@@ -26,12 +22,9 @@ HasNodeCause before now disk_before disk_now WriteFault = Rose before now
 HasNodeCause before now disk_before disk_now DiskFault = Rose disk_before disk_now
 HasNodeCause before now disk_before disk_now Memory = Unit {0}
 
--- the fault of a text as that of its message
-abbrev pub of_text : TextFault → NodeFault
-of_text text.WriteFault = WriteFault
-of_text text.Memory = Memory
-
--- why a block wasn't kept for sure, as why its message wasn't answered
-abbrev pub of_keeping : KeepFault → NodeFault
-of_keeping keeps.DiskFault = DiskFault
-of_keeping keeps.Memory = Memory
+-- whether a message leaves the node stopped: the sink or the disk failed
+abbrev pub stops : {X : Type 0} → Result X NodeFault → Bool
+stops (Ok x) = false
+stops (Err WriteFault) = true
+stops (Err DiskFault) = true
+stops (Err Memory) = false

@@ -4,6 +4,7 @@ ghost use Rattle.std.specs.Prelude.{◌≡◌, ◌≤◌, ◌≢◌, Err, None, 
 ghost use Rattle.sp_io.specs.Causes.{Rose};
 ghost use Rattle.sp_disk.specs.Moments.{Leaves};
 ghost use Rattle.sp_engine.specs.Arrivals.{answer_of, kept_after};
+ghost use Rattle.sp_engine.specs.Engine.{IsRefused};
 ghost use Rattle.sp_journal.specs.Settled.{IsTold, SameTold};
 ghost use Rattle.sp_node.specs.Journalled.{FitsKept, FitsOn, HoldsBeforeOrAfter, IsKeptOn, LeavesOn, StandsForKept};
 ghost use Rattle.sp_node.specs.Journalled as meant;
@@ -33,7 +34,6 @@ fn keep<D: Disk>(
     disk: &mut D,
     bytes: &[u8],
 ) -> Result<Answer, KeepFault>
-    requires whole { engine.old.broken ≡ false }
     requires fits { FitsKept engine.old.bits engine.old.kept journal.old }
     requires stands { IsTold (D.now disk.old) → StandsForKept engine.old.bits engine.old.kept journal.old (D.now disk.old) }
 
@@ -43,7 +43,6 @@ fn keep<D: Disk>(
         → engine.new.kept ≡ kept_after engine.old.bits engine.old.kept bytes.now }
     ensures profile { OnOk result (engine.new.profile ≡ engine.old.profile) }
     ensures bits { engine.new.bits ≡ engine.old.bits }
-    ensures whole { OnOk result (engine.new.broken ≡ false) }
     ensures fits { OnOk result (FitsKept engine.new.bits engine.new.kept journal.new) }
 
     ensures acknowledged { OnOk result (IsTold (D.now disk.old)
@@ -53,6 +52,7 @@ fn keep<D: Disk>(
     ensures told { SameTold (D.now disk.old) (D.now disk.new) }
     ensures fault { IsErrOf result DiskFault → Rose (D.now disk.old).faults (D.now disk.new).faults }
     ensures memory { IsErrOf result Memory → (disk.new ≡ disk.old) × (journal.new ≡ journal.old) }
+    ensures refused { IsErrOf result Memory → IsRefused engine.old engine.new }
     ensures later { (D.now disk.old).faults ≤ (D.now disk.new).faults }
     ensures quiet { (IsErrOf result DiskFault → ⊥) → (D.now disk.new).faults ≡ (D.now disk.old).faults }
 {
@@ -78,7 +78,6 @@ pub(crate) fn keep_on<D: Disk>(
     disk: &mut D,
     bytes: &[u8],
 ) -> Result<Answer, KeepFault>
-    requires whole { engine.old.broken ≡ false }
     requires fits { FitsOn engine.old.bits engine.old.kept journal.old }
     requires stands { IsKeptOn engine.old.bits engine.old.kept journal.old (D.now disk.old) }
 
@@ -88,7 +87,6 @@ pub(crate) fn keep_on<D: Disk>(
         → engine.new.kept ≡ kept_after engine.old.bits engine.old.kept bytes.now }
     ensures profile { OnOk result (engine.new.profile ≡ engine.old.profile) }
     ensures bits { engine.new.bits ≡ engine.old.bits }
-    ensures whole { OnOk result (engine.new.broken ≡ false) }
     ensures fits { OnOk result (FitsOn engine.new.bits engine.new.kept journal.new) }
     ensures has { is_some journal.new ≡ is_some journal.old }
 
@@ -99,6 +97,7 @@ pub(crate) fn keep_on<D: Disk>(
     ensures told { SameTold (D.now disk.old) (D.now disk.new) }
     ensures fault { IsErrOf result DiskFault → Rose (D.now disk.old).faults (D.now disk.new).faults }
     ensures memory { IsErrOf result Memory → (disk.new ≡ disk.old) × (journal.new ≡ journal.old) }
+    ensures refused { IsErrOf result Memory → IsRefused engine.old engine.new }
     ensures later { (D.now disk.old).faults ≤ (D.now disk.new).faults }
     ensures quiet { (IsErrOf result DiskFault → ⊥) → (D.now disk.new).faults ≡ (D.now disk.old).faults }
 {

@@ -1,8 +1,6 @@
 //! Why a message wasn't answered.
 
 use sp_ids::Memory;
-use sp_io::Failed;
-use sp_report::TextFault;
 
 /// Why a message wasn't answered.
 #[derive(Clone, Copy, Debug, PartialEq, Eq)]
@@ -32,44 +30,5 @@ impl From<Memory> for KeepFault {
 
     fn from(_refused: Memory) -> KeepFault {
         KeepFault::Memory
-    }
-}
-
-impl From<KeepFault> for NodeFault {
-    ghost use Rattle.std.specs.Prelude.{◌≡◌};
-    ghost use Rattle.sp_node.specs.Node.{of_keeping};
-
-    ghost from_gives = { λ fault e. e ≡ of_keeping fault };
-
-    fn from(fault: KeepFault) -> NodeFault {
-        match fault {
-            KeepFault::DiskFault => NodeFault::DiskFault,
-            KeepFault::Memory => NodeFault::Memory,
-        }
-    }
-}
-
-impl From<Failed> for NodeFault {
-    ghost use Rattle.std.specs.Prelude.{◌≡◌};
-    ghost use Rattle.sp_node.specs.declared.fault.NodeFault.TheVariants as faults;
-
-    ghost from_gives = { λ _ e. e ≡ faults.WriteFault };
-
-    fn from(_failed: Failed) -> NodeFault {
-        NodeFault::WriteFault
-    }
-}
-
-impl From<TextFault> for NodeFault {
-    ghost use Rattle.std.specs.Prelude.{◌≡◌};
-    ghost use Rattle.sp_node.specs.Node.{of_text};
-
-    ghost from_gives = { λ fault e. e ≡ of_text fault };
-
-    fn from(fault: TextFault) -> NodeFault {
-        match fault {
-            TextFault::WriteFault => NodeFault::WriteFault,
-            TextFault::Memory => NodeFault::Memory,
-        }
     }
 }

@@ -1,6 +1,6 @@
-//! A node: an engine, a journal where it has one, and whether anything failed.
+//! A node: an engine, a journal where it has one, and whether the sink or the disk failed.
 
-ghost use Rattle.std.specs.Prelude.{◌⊎◌, ◌≡◌, ◌≢◌, ◌≤◌, ◌∷◌, [], ℕ, false, true, Err, is_err, is_some, IfErr, IfOk, IfSome, IsErrOf, IsSome, map, None, OnErr, OnOk, Some};
+ghost use Rattle.std.specs.Prelude.{◌⊎◌, ◌≡◌, ◌≢◌, ◌≤◌, ◌∷◌, [], ℕ, false, true, Err, is_some, IfErr, IfOk, IfSome, IsErrOf, IsSome, map, None, OnErr, OnOk, Some};
 ghost use Rattle.std.specs.Io.KnownBytes.{Appends};
 ghost use Rattle.sp_io.specs.Causes.{Rose};
 ghost use Rattle.sp_io.specs.Whole.{AppendsFront};
@@ -12,7 +12,7 @@ ghost use Rattle.sp_journal.specs.Recovery.{bytes_in};
 ghost use Rattle.sp_journal.specs.Settled.{SameTold};
 ghost use Rattle.sp_node.specs.Answers.{IsQuestion, kept_then, reply_of};
 ghost use Rattle.sp_node.specs.Journalled.{FitsKept, HoldsThen, IsKeptOn, LeavesOn};
-ghost use Rattle.sp_node.specs.Node.{HasNodeCause};
+ghost use Rattle.sp_node.specs.Node.{HasNodeCause, stops};
 ghost use Rattle.sp_node.specs.Stored.{IsFound, IsOfSame, IsReady, LeavesStarted, NamesBoth, stored_blocks};
 ghost use Rattle.sp_node.specs.declared.start.StartFault.TheVariants as starts;
 
@@ -52,7 +52,7 @@ impl Model for Node {
     ghost view = { λ n. record { bits = n.engine.bits; kept = n.engine.kept; stopped = n.stopped; journal = n.journal } };
 
     ghost invariant = { λ n. n.stopped ≡ false
-        → (n.engine.broken ≡ false) × ((n.engine.profile ≡ One) × FitsOn n.engine.bits n.engine.kept n.journal) };
+        → (n.engine.profile ≡ One) × FitsOn n.engine.bits n.engine.kept n.journal };
 }
 
 // Written out, so that where a node is let go there is one call, and not one for each thing that it
@@ -144,7 +144,6 @@ impl Node {
 
     // A node of an engine and the journal of its kept blocks.
     fn with_journal(alloc: Global, engine: Engine, journal: Journal) -> Node
-        requires whole { engine.broken ≡ false }
         requires profile { engine.profile ≡ One }
         requires fits { FitsKept engine.bits engine.kept journal }
         ensures { result ≡ record { bits = engine.bits; kept = engine.kept; stopped = false; journal = Some journal } }
@@ -169,7 +168,8 @@ impl Node {
     /// `WriteFault` where the sink failed; a block is kept all the same, and recorded. `DiskFault`
     /// where the disk refused a call: it may hold the block or not, and nothing was written. `Memory`
     /// where there was none for a block, or for the order in which a text lists; neither sink nor disk
-    /// was called. The node is stopped from then on.
+    /// was called, and the node is as it was: it answers the next message as if this one hadn't come. After
+    /// `WriteFault` and `DiskFault` the node is stopped.
     pub fn message<K: Sink, D: Disk>(
         &mut self,
         message: &Message<'_>,
@@ -235,7 +235,9 @@ impl Node {
             → result ≢ Err NodeFault.Memory }
         ensures later { K.faults sink.old ≤ K.faults sink.new }
 
-        ensures stopped { self.new.stopped ≡ is_err result }
+        // The sink or the disk failed. Where memory was refused, all is as it was.
+        ensures stopped { self.new.stopped ≡ stops result }
+        ensures refused { result ≡ Err NodeFault.Memory → self.new ≡ self.old }
     {
         match message {
             Message::Block(bytes) => self.arrive(bytes, naming, sink, disk),
@@ -243,18 +245,17 @@ impl Node {
         }
     }
 
-    /// Whether a message wasn't answered. No other is then.
+    /// Whether a message wasn't answered since the sink or the disk failed. No other is then.
     pub fn stopped(&self) -> bool
         ensures { result ≡ self.now.stopped }
     {
         self.stopped
     }
 
-    /// The engine, which is whole while the node isn't stopped.
+    /// The engine.
     pub fn engine(&self) -> &Engine
         ensures bits { result.now.bits ≡ self.now.bits }
         ensures kept { result.now.kept ≡ self.now.kept }
-        ensures whole { self.now.stopped ≡ false → result.now.broken ≡ false }
         ensures profile { self.now.stopped ≡ false → result.now.profile ≡ One }
     {
         &self.engine

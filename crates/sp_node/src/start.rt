@@ -101,7 +101,6 @@ pub(crate) fn start_new<D: Disk>(
 
 /// Offers blocks to an engine that keeps them all, since each may be recorded behind those before it.
 fn restore(engine: &mut Engine, blocks: &[Block]) -> Result<(), Memory>
-    requires whole { engine.old.broken ≡ false }
     requires good { InTurn (IsGood engine.old.bits) id_behind (ids_of engine.old.kept) blocks.now }
     requires few { length engine.old.kept + length blocks.now ≤ 512 }
     ensures kept { OnOk result (engine.new.kept ≡ engine.old.kept ++ blocks.now) }
@@ -109,7 +108,6 @@ fn restore(engine: &mut Engine, blocks: &[Block]) -> Result<(), Memory>
         ≡ fold (kept_after engine.old.bits) engine.old.kept (map bytes_in blocks.now)) }
     ensures profile { OnOk result (engine.new.profile ≡ engine.old.profile) }
     ensures bits { engine.new.bits ≡ engine.old.bits }
-    ensures whole { OnOk result (engine.new.broken ≡ false) }
 {
     let mut i = 0;
     'each: while i < blocks.len() {

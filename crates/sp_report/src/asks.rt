@@ -16,7 +16,6 @@ use sp_io::{Failed, Sink, write_whole};
 
 /// The line that answers a question.
 pub(crate) fn line_of(engine: &Engine, ask: &Ask, naming: &Naming<'_>) -> Line
-    requires { engine.now.broken ≡ false }
     ensures { result ≡ ask_text engine.now.profile (labels_of naming.now) engine.now.kept ask.now }
 {
     match ask {
@@ -47,7 +46,6 @@ pub fn ask_line<K: Sink>(
     naming: &Naming<'_>,
     sink: &mut K,
 ) -> Result<(), Failed>
-    requires { engine.now.broken ≡ false }
     ensures ok { OnOk result
         (Appends (K.taken sink.old) (K.taken sink.new) (ask_text engine.now.profile (labels_of naming.now) engine.now.kept ask.now)) }
     ensures err { OnErr result

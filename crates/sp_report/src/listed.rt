@@ -16,7 +16,6 @@ use std::alloc::Global;
 
 // The ids of the present blocks in the order in which they became so.
 fn numbered_ids(alloc: Global, engine: &Engine) -> Result<Vec<BlockId>, Memory>
-    requires { engine.now.broken ≡ false }
     ensures { IfOk result (λ ids. ids.items ≡ order_of engine.now.kept) }
 {
     let count = engine.present();
@@ -33,7 +32,6 @@ fn numbered_ids(alloc: Global, engine: &Engine) -> Result<Vec<BlockId>, Memory>
 ///
 /// `Memory` where there was none for them.
 pub(crate) fn ascending_ids(alloc: Global, engine: &Engine) -> Result<Vec<BlockId>, Memory>
-    requires { engine.now.broken ≡ false }
     ensures items { IfOk result (λ ids. ids.items ≡ ascending (present engine.now.kept)) }
     ensures sorted { IfOk result (λ ids. IsSorted nat_cmp ids.items) }
     ensures once { IfOk result (λ ids. AreDistinct ids.items) }
@@ -60,7 +58,6 @@ fn push_wanted<K: Copy>(keys: &mut Vec<K>, key: K, wanted: bool) -> Result<(), M
 
 // The ids of the accepted transactions in the order in which they were numbered.
 fn numbered_accepted(alloc: Global, engine: &Engine) -> Result<Vec<TxId>, Memory>
-    requires { engine.now.broken ≡ false }
     ensures items { IfOk result (λ ids. ids.items ≡ filter
         (λ id. is_accepted (ledger_by_id engine.now.profile engine.now.kept) (present engine.now.kept) id)
         (tx_ids engine.now.kept)) }
@@ -82,7 +79,6 @@ fn numbered_accepted(alloc: Global, engine: &Engine) -> Result<Vec<TxId>, Memory
 ///
 /// `Memory` where there was none for them.
 pub(crate) fn ascending_accepted(alloc: Global, engine: &Engine) -> Result<Vec<TxId>, Memory>
-    requires { engine.now.broken ≡ false }
     ensures items { IfOk result (λ ids. ids.items ≡ ascending (filter
         (λ id. is_accepted (ledger_by_id engine.now.profile engine.now.kept) (present engine.now.kept) id)
         (tx_ids engine.now.kept))) }
@@ -99,7 +95,6 @@ pub(crate) fn ascending_accepted(alloc: Global, engine: &Engine) -> Result<Vec<T
 
 // The locks under which something is left, in the order in which they were numbered.
 fn numbered_paid(alloc: Global, engine: &Engine) -> Result<Vec<Lock>, Memory>
-    requires { engine.now.broken ≡ false }
     ensures items { IfOk result (λ paid. paid.items
         ≡ filter (λ lock. not (balance_by_id engine.now.profile engine.now.kept lock == 0)) (locks engine.now.kept)) }
     ensures few { IfOk result (λ paid. vec_len paid ≤ 2097152) }
@@ -120,7 +115,6 @@ fn numbered_paid(alloc: Global, engine: &Engine) -> Result<Vec<Lock>, Memory>
 ///
 /// `Memory` where there was none for them.
 pub(crate) fn ascending_paid(alloc: Global, engine: &Engine) -> Result<Vec<Lock>, Memory>
-    requires { engine.now.broken ≡ false }
     ensures items { IfOk result (λ paid. paid.items ≡ ascending (filter
         (λ lock. not (balance_by_id engine.now.profile engine.now.kept lock == 0)) (locks engine.now.kept))) }
     ensures sorted { IfOk result (λ paid. IsSorted nat_cmp paid.items) }

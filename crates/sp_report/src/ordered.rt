@@ -67,7 +67,6 @@ pub fn present_ids(
     engine: &Engine,
     naming: &Naming<'_>,
 ) -> Result<Vec<BlockId>, Memory>
-    requires { engine.now.broken ≡ false }
     ensures order { IfOk result (λ ids.
         ids.items ≡ meant.present_ids (labels_of naming.now) engine.now.kept) }
     ensures few { IfOk result (λ ids. vec_len ids ≤ 512) }
@@ -95,7 +94,6 @@ pub(crate) fn accepted_ids(
     engine: &Engine,
     naming: &Naming<'_>,
 ) -> Result<Vec<TxId>, Memory>
-    requires { engine.now.broken ≡ false }
     ensures order { IfOk result (λ ids.
         ids.items ≡ meant.accepted_ids engine.now.profile (labels_of naming.now) engine.now.kept) }
     ensures few { IfOk result (λ ids. vec_len ids ≤ 131072) }
@@ -123,7 +121,6 @@ pub(crate) fn paid_locks(
     engine: &Engine,
     naming: &Naming<'_>,
 ) -> Result<Vec<Lock>, Memory>
-    requires { engine.now.broken ≡ false }
     ensures order { IfOk result (λ paid.
         paid.items ≡ meant.paid_locks engine.now.profile (labels_of naming.now) engine.now.kept) }
     ensures few { IfOk result (λ paid. vec_len paid ≤ 2097152) }

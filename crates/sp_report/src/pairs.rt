@@ -25,7 +25,6 @@ fn push_votes<K: Sink>(
     page: &mut Page,
     sink: &mut K,
 ) -> Result<(), Failed>
-    requires { engine.now.broken ≡ false }
     ensures ok { OnOk result (Wrote (K.taken sink.old) (K.taken sink.new)
         (page.old ++ votes_text engine.now.profile (labels_of naming.now) engine.now.kept first.now others.now) page.new) }
     ensures err { OnErr result (AppendsFront (K.taken sink.old) (K.taken sink.new)
@@ -47,7 +46,6 @@ fn push_pairs<K: Sink>(
     page: &mut Page,
     sink: &mut K,
 ) -> Result<(), Failed>
-    requires { engine.now.broken ≡ false }
     ensures ok { OnOk result (Wrote (K.taken sink.old) (K.taken sink.new)
         (page.old ++ flat_map (pair_text engine.now.profile (labels_of naming.now) engine.now.kept) (pairs_of ids.now)) page.new) }
     ensures err { OnErr result (AppendsFront (K.taken sink.old) (K.taken sink.new)
@@ -83,7 +81,6 @@ pub(crate) fn write_pairs<K: Sink>(
     ids: &[BlockId],
     sink: &mut K,
 ) -> Result<(), Failed>
-    requires whole { engine.now.broken ≡ false }
     requires few { length ids.now ≤ 65535 }
     ensures ok { OnOk result (Appends (K.taken sink.old) (K.taken sink.new)
         (pairs_of_ids_text engine.now.profile (labels_of naming.now) engine.now.kept ids.now)) }

@@ -19,7 +19,6 @@ use sp_io::{Failed, Page, Sink};
 
 // The line of how many blocks are present, and how many wait.
 fn counts_line(engine: &Engine) -> Line
-    requires { engine.now.broken ≡ false }
     ensures { result ≡ counts_text engine.now.kept }
 {
     blocks_line(engine.present(), engine.waiting())
@@ -79,7 +78,6 @@ fn push_paid<K: Sink>(
     page: &mut Page,
     sink: &mut K,
 ) -> Result<(), Failed>
-    requires { engine.now.broken ≡ false }
     ensures ok { OnOk result (Wrote (K.taken sink.old) (K.taken sink.new)
         (page.old ++ flat_map (paid_text engine.now.profile (labels_of naming.now) engine.now.kept) locks.now) page.new) }
     ensures err { OnErr result (AppendsFront (K.taken sink.old) (K.taken sink.new)
@@ -101,7 +99,6 @@ fn push_all_paid<K: Sink>(
     page: &mut Page,
     sink: &mut K,
 ) -> Result<(), Failed>
-    requires whole { engine.now.broken ≡ false }
     requires few { length locks.now ≤ 2097152 }
     ensures ok { OnOk result (Wrote (K.taken sink.old) (K.taken sink.new)
         (page.old ++ all_paid_text engine.now.profile (labels_of naming.now) engine.now.kept locks.now) page.new) }
@@ -127,7 +124,6 @@ pub(crate) fn write_report<K: Sink>(
     locks: &[Lock],
     sink: &mut K,
 ) -> Result<(), Failed>
-    requires whole { engine.now.broken ≡ false }
     requires few_ids { length ids.now ≤ 131072 }
     requires few_locks { length locks.now ≤ 2097152 }
     ensures ok { OnOk result (Appends (K.taken sink.old) (K.taken sink.new)

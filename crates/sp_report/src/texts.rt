@@ -24,7 +24,6 @@ fn write_all_pairs<K: Sink>(
     naming: &Naming<'_>,
     sink: &mut K,
 ) -> Result<(), TextFault>
-    requires { engine.now.broken ≡ false }
     ensures ok { OnOk result
         (Appends (K.taken sink.old) (K.taken sink.new) (pairs_text engine.now.profile (labels_of naming.now) engine.now.kept)) }
     ensures err { OnErr result
@@ -47,7 +46,6 @@ fn write_whole_report<K: Sink>(
     naming: &Naming<'_>,
     sink: &mut K,
 ) -> Result<(), TextFault>
-    requires { engine.now.broken ≡ false }
     ensures ok { OnOk result
         (Appends (K.taken sink.old) (K.taken sink.new) (report_text engine.now.profile (labels_of naming.now) engine.now.kept)) }
     ensures err { OnErr result
@@ -77,7 +75,6 @@ pub fn write_text<K: Sink>(
     naming: &Naming<'_>,
     sink: &mut K,
 ) -> Result<(), TextFault>
-    requires { engine.now.broken ≡ false }
     ensures ok { OnOk result
         (Appends (K.taken sink.old) (K.taken sink.new) (text_of engine.now.profile (labels_of naming.now) engine.now.kept text.now)) }
 

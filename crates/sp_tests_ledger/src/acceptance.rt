@@ -21,9 +21,6 @@ struct Ran {
 }
 
 fn state(engine: &Engine, id: &TxId) -> Result<TxState, Fail> {
-    if engine.broken() {
-        return Err("broken".into());
-    }
     Ok(engine.tx_state(id))
 }
 
@@ -38,14 +35,11 @@ fn states(alloc: Global, engine: &Engine, ids: &[TxId]) -> Result<Vec<TxState>, 
 
 /// How many blocks are present, and how many transactions they carry.
 pub fn counts(engine: &Engine) -> Result<(u16, u32), Fail> {
-    if engine.broken() {
-        return Err("broken".into());
-    }
     Ok((engine.present(), engine.tx_count()))
 }
 
 fn tx_at(engine: &Engine, i: u32) -> Result<(TxId, bool), Fail> {
-    if engine.broken() || i >= engine.tx_count() {
+    if i >= engine.tx_count() {
         return Err("not carried".into());
     }
     Ok(engine.tx_at(i))

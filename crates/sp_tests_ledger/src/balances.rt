@@ -11,23 +11,17 @@ use std::alloc::Global;
 use std::test::Fail;
 
 fn lock_count(engine: &Engine) -> Result<u32, Fail> {
-    if engine.broken() {
-        return Err("broken".into());
-    }
     Ok(engine.lock_count())
 }
 
 fn lock_at(engine: &Engine, i: u32) -> Result<(Lock, u128), Fail> {
-    if engine.broken() || i >= engine.lock_count() {
+    if i >= engine.lock_count() {
         return Err("no such lock".into());
     }
     Ok(engine.lock_at(i))
 }
 
 pub fn balance(engine: &Engine, lock: &Lock) -> Result<u128, Fail> {
-    if engine.broken() {
-        return Err("broken".into());
-    }
     Ok(engine.balance(lock))
 }
 

@@ -15,7 +15,7 @@ use std::alloc::Global;
 use std::test::Fail;
 
 fn block_at(engine: &Engine, n: u16) -> Result<&Block, Fail> {
-    if engine.broken() || n >= engine.present() {
+    if n >= engine.present() {
         return Err("not present".into());
     }
     let id = engine.id_at(n);

@@ -99,9 +99,6 @@ impl Ran {
 
 /// Bytes come to an engine.
 pub fn offer(engine: &mut Engine, bytes: &[u8]) -> Result<Told, Fail> {
-    if engine.broken() {
-        return Err("broken".into());
-    }
     let answer = engine.offer(bytes)?;
     Ok(told_of(&answer, &BlockId::of(bytes)))
 }
@@ -115,9 +112,6 @@ fn offer_each(alloc: Global, engine: &mut Engine, came: &[Vec<u8>]) -> Result<Ve
 }
 
 fn word(engine: &Engine, x: &BlockId, y: &BlockId) -> Result<Word, Fail> {
-    if engine.broken() {
-        return Err("broken".into());
-    }
     Ok(engine.vote(x, y))
 }
 
@@ -131,9 +125,6 @@ fn words(engine: &Engine, ids: &[BlockId], words: &mut Vec<Word>) -> Result<(), 
 }
 
 fn salt(engine: &Engine, id: &BlockId) -> Result<Option<u64>, Fail> {
-    if engine.broken() {
-        return Err("broken".into());
-    }
     Ok(engine.block(id).map(|block| block.salt))
 }
 
@@ -145,14 +136,11 @@ fn salts(engine: &Engine, ids: &[BlockId], salts: &mut Vec<Option<u64>>) -> Resu
 }
 
 fn counts(engine: &Engine) -> Result<Counts, Fail> {
-    if engine.broken() {
-        return Err("broken".into());
-    }
     Ok((engine.present(), engine.waiting(), engine.kept_count()))
 }
 
 fn id_at(engine: &Engine, n: u16) -> Result<BlockId, Fail> {
-    if engine.broken() || n >= engine.present() {
+    if n >= engine.present() {
         return Err("not present".into());
     }
     Ok(engine.id_at(n))
@@ -166,9 +154,6 @@ fn order(engine: &Engine, present: u16, ids: &mut Vec<BlockId>) -> Result<(), Fa
 }
 
 fn head(engine: &Engine) -> Result<(u8, BlockId), Fail> {
-    if engine.broken() {
-        return Err("broken".into());
-    }
     Ok((engine.bits(), engine.genesis().id))
 }
 

@@ -59,7 +59,6 @@ fn word_of(vote: i8) -> Word {
 
 /// Whether the engine says of a block and each one before it, in both orders, what the votes say.
 fn row_agrees(engine: &Engine, votes: &Matrix, x: u16) -> bool
-    requires whole { engine.now.broken ≡ false }
     requires within { x < length engine.now.numbered.parents }
     requires votes { HasVirts (graph_of engine.now.numbered)
         (numbers engine.now.numbered) (length engine.now.numbered.parents) votes.now }
@@ -79,9 +78,6 @@ fn row_agrees(engine: &Engine, votes: &Matrix, x: u16) -> bool
 
 /// Whether the engine says of each two present blocks what their plain votes say.
 pub fn all_agree(alloc: Global, engine: &Engine) -> Result<bool, Fail> {
-    if engine.broken() {
-        return Err("broken".into());
-    }
     let dag = engine.dag();
     let votes = votes_of_all(alloc, dag)?;
     for x in 0..dag.len() {
@@ -100,9 +96,6 @@ fn is_bar(row: &Row, past: &Row, n: u16) -> bool {
 /// Whether so many blocks are present, and the views that the engine keeps are those of all of them,
 /// and of each that is no parent with its past.
 pub fn views_are_right(engine: &Engine, count: usize) -> Result<bool, Fail> {
-    if engine.broken() {
-        return Err("broken".into());
-    }
     let dag = engine.dag();
     for n in 0..dag.len() {
         let right = match engine.tip_view(n) {

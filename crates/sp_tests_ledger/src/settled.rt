@@ -62,9 +62,6 @@ fn come(engine: &mut Engine, blocks: &Numbered, numbers: &[usize]) -> Result<(),
 fn wrong_in(engine: &mut Engine, blocks: &Numbered, row: &Row) -> Result<&'static str, Fail> {
     let (_, numbers, x, y, word) = *row;
     come(engine, blocks, numbers)?;
-    if engine.broken() {
-        return Err("broken".into());
-    }
     if engine.profile() != Profile::Two {
         return Ok("the profile");
     }

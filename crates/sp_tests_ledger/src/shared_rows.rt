@@ -14,15 +14,12 @@ const DIAMOND: &[&[usize]] = &[&[0], &[0], &[1, 2]];
 
 /// The rows of the pair of blocks 1 and 2 in the view of all blocks.
 fn rows_of_all(engine: &Engine) -> Result<Option<(RowId, RowId)>, Fail> {
-    if engine.broken() {
-        return Err("broken".into());
-    }
     Ok(engine.view_all().rows(0))
 }
 
 /// The rows of that pair in the view of block 3 and its past.
 fn rows_of_tip(engine: &Engine) -> Result<Option<(RowId, RowId)>, Fail> {
-    if engine.broken() || engine.dag().len() < 4 {
+    if engine.dag().len() < 4 {
         return Err("block 3 isn't present".into());
     }
     Ok(match engine.tip_view(3) {
@@ -33,7 +30,7 @@ fn rows_of_tip(engine: &Engine) -> Result<Option<(RowId, RowId)>, Fail> {
 
 /// Whether a block of the first three has a view of its own.
 fn has_view(engine: &Engine, n: u16) -> Result<bool, Fail> {
-    if engine.broken() || n >= engine.dag().len() {
+    if n >= engine.dag().len() {
         return Err("it isn't present".into());
     }
     Ok(engine.tip_view(n).is_some())
@@ -50,9 +47,6 @@ fn row(pool: &RowPool, id: RowId) -> Result<(bool, u32), Fail> {
 
 /// How many rows are live, and the two rows of a pair.
 fn rows(engine: &Engine, pair: (RowId, RowId)) -> Result<(usize, (bool, u32), (bool, u32)), Fail> {
-    if engine.broken() {
-        return Err("broken".into());
-    }
     let pool = engine.row_pool();
     Ok((pool.live(), row(pool, pair.0)?, row(pool, pair.1)?))
 }

@@ -150,11 +150,11 @@ fn answered(answer: &Answer, names: &Names, sink: &mut MemSink) -> bool {
 }
 
 fn asked(engine: &Engine, ask: &Ask, names: &Names, sink: &mut MemSink) -> bool {
-    !engine.broken() && ask_line(engine, ask, &Naming::Names(names), sink) == Ok(())
+    ask_line(engine, ask, &Naming::Names(names), sink) == Ok(())
 }
 
 fn texted(alloc: Global, engine: &Engine, text: &Text, names: &Names, sink: &mut MemSink) -> bool {
-    !engine.broken() && write_text(alloc, engine, text, &Naming::Names(names), sink) == Ok(())
+    write_text(alloc, engine, text, &Naming::Names(names), sink) == Ok(())
 }
 
 /// Tells a row that is an answer, or says that it is none.
@@ -212,9 +212,6 @@ fn is_told_by_names(alloc: Global, engine: &Engine, row: Row, text: &str) -> Res
 
 /// A block comes to an engine.
 fn offer(engine: &mut Engine, bytes: &[u8]) -> Result<(), Fail> {
-    if engine.broken() {
-        return Err("broken".into());
-    }
     let _answer = engine.offer(bytes)?;
     Ok(())
 }
@@ -253,9 +250,6 @@ fn told_by_names(rt: HostRuntime) -> Result<(), Fail> {
 
 /// The ids of the present blocks by a naming, as hexadecimal text.
 fn listed(alloc: Global, engine: &Engine, naming: &Naming<'_>) -> Result<Vec<BlockId>, Fail> {
-    if engine.broken() {
-        return Err("broken".into());
-    }
     Ok(present_ids(alloc, engine, naming)?)
 }
 

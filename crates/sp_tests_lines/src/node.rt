@@ -10,9 +10,9 @@ use crate::rows::holds;
 use sp_feed::{FeedHead, Message};
 use sp_fixtures::{GENESIS as GENESIS_BYTES, genesis_of};
 use sp_ids::TxId;
-use sp_io::{Failed, MemSink};
+use sp_io::MemSink;
 use sp_node::NodeFault;
-use sp_report::{Naming, TextFault};
+use sp_report::Naming;
 use std::alloc::Global;
 use std::test::Fail;
 
@@ -281,20 +281,4 @@ fn cut_answers(rt: HostRuntime) -> Result<(), Fail> {
         holds(&rt, place, are_cut(rt.alloc(), row)?);
     }
     Ok(())
-}
-
-/// A node tells a sink's failure from want of memory.
-#[test]
-fn causes(rt: HostRuntime) {
-    holds(&rt, 0, NodeFault::from(Failed) == NodeFault::WriteFault);
-    holds(
-        &rt,
-        1,
-        NodeFault::from(TextFault::WriteFault) == NodeFault::WriteFault,
-    );
-    holds(
-        &rt,
-        2,
-        NodeFault::from(TextFault::Memory) == NodeFault::Memory,
-    );
 }

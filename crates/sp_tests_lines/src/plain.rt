@@ -1,7 +1,8 @@
 //! A node without a journal, as the tests of its lines ask it.
 
-ghost use Rattle.std.specs.Prelude.{◌≡◌, false, IfOk, IsSome, is_err};
+ghost use Rattle.std.specs.Prelude.{◌≡◌, false, IfOk, IsSome};
 ghost use Rattle.sp_feed.specs.Messages.{said_by};
+ghost use Rattle.sp_node.specs.Node.{stops};
 
 use sp_disk::MemDisk;
 use sp_engine::Engine;
@@ -51,22 +52,20 @@ impl PlainNode {
     ) -> Result<(), NodeFault>
         requires live { self.old.stopped ≡ false }
         requires before_end { IsSome (said_by message.now) }
-        ensures stopped { self.new.stopped ≡ is_err result }
+        ensures stopped { self.new.stopped ≡ stops result }
     {
         self.node.message(message, naming, sink, &mut self.disk)
     }
 
-    /// Whether a message wasn't answered.
+    /// Whether the sink failed.
     pub fn stopped(&self) -> bool
         ensures { result ≡ self.now.stopped }
     {
         self.node.stopped()
     }
 
-    /// The engine, which is whole while the node isn't stopped.
-    pub fn engine(&self) -> &Engine
-        ensures whole { self.now.stopped ≡ false → result.now.broken ≡ false }
-    {
+    /// The engine.
+    pub fn engine(&self) -> &Engine {
         self.node.engine()
     }
 }

@@ -44,9 +44,6 @@ const QUESTIONS: &[Said] = &[
 
 /// A block comes to an engine.
 fn offer(engine: &mut Engine, bytes: &[u8]) -> Result<(), Fail> {
-    if engine.broken() {
-        return Err("broken".into());
-    }
     let _answer = engine.offer(bytes)?;
     Ok(())
 }

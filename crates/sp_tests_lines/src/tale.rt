@@ -24,9 +24,6 @@ struct Written {
 }
 
 fn tell_ask(engine: &Engine, ask: &Ask, sink: &mut MemSink) -> Result<(), TextFault> {
-    if engine.broken() {
-        return Err(TextFault::Memory);
-    }
     ask_line(engine, ask, &Naming::Hex, sink)?;
     Ok(())
 }
@@ -37,9 +34,6 @@ fn tell_text(
     text: &Text,
     sink: &mut MemSink,
 ) -> Result<(), TextFault> {
-    if engine.broken() {
-        return Err(TextFault::Memory);
-    }
     write_text(alloc, engine, text, &Naming::Hex, sink)
 }
 

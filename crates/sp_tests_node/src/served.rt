@@ -85,17 +85,15 @@ impl Served {
         )
     }
 
-    /// Whether a message wasn't answered.
+    /// Whether the sink or the disk failed.
     pub fn stopped(&self) -> bool
         ensures { result ≡ self.now.stopped }
     {
         self.node.stopped()
     }
 
-    /// The engine, which is whole while the node isn't stopped.
-    pub fn engine(&self) -> &Engine
-        ensures { self.now.stopped ≡ false → result.now.broken ≡ false }
-    {
+    /// The engine.
+    pub fn engine(&self) -> &Engine {
         self.node.engine()
     }
 

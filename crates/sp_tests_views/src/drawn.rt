@@ -62,9 +62,6 @@ fn is_whole(
 
 /// Whether the view of all of an engine votes as the plain votes of all say.
 fn all_is_right(alloc: Global, engine: &Engine) -> Result<bool, Fail> {
-    if engine.broken() {
-        return Err("broken".into());
-    }
     let (frozen, pool) = (engine.frozen(), engine.row_pool());
     is_right(alloc, engine.dag(), frozen, pool, engine.view_all())
 }
@@ -72,8 +69,7 @@ fn all_is_right(alloc: Global, engine: &Engine) -> Result<bool, Fail> {
 /// Whether the view of a tip with its past is right, or that of all behind the last block; the rows that
 /// it holds are counted.
 fn is_whole_at(alloc: Global, engine: &Engine, n: u16, holders: &mut [u32]) -> Result<bool, Fail>
-    requires whole { engine.now.broken ≡ false }
-    requires within { n ≤ length engine.now.numbered.parents }
+    requires { n ≤ length engine.now.numbered.parents }
 {
     let (dag, frozen, pool) = (engine.dag(), engine.frozen(), engine.row_pool());
     let Some(view) = view_at(engine, n) else {
@@ -85,9 +81,6 @@ fn is_whole_at(alloc: Global, engine: &Engine, n: u16, holders: &mut [u32]) -> R
 
 /// Whether all views of an engine are right, and each row is counted as often as they hold it.
 fn all_are_whole(alloc: Global, engine: &Engine) -> Result<bool, Fail> {
-    if engine.broken() {
-        return Err("broken".into());
-    }
     let mut holders = vec![in alloc; 0u32; IDS as usize]?;
     for n in 0..=engine.present() {
         if !is_whole_at(alloc, engine, n, &mut holders)? {
@@ -99,9 +92,6 @@ fn all_are_whole(alloc: Global, engine: &Engine) -> Result<bool, Fail> {
 
 /// Whether the frozen votes of an engine are right, which is asked of small graphs.
 fn frozen_are_right(alloc: Global, engine: &Engine) -> Result<bool, Fail> {
-    if engine.broken() {
-        return Err("broken".into());
-    }
     let dag = engine.dag();
     Ok(dag.len() > 17 || are_frozen(alloc, dag, engine.frozen())?)
 }

@@ -21,9 +21,6 @@ pub(crate) fn engine_of(
 
 /// A block comes to an engine, whose parents are all present.
 pub(crate) fn come(engine: &mut Engine, blocks: &Numbered, number: usize) -> Result<(), Fail> {
-    if engine.broken() {
-        return Err("broken".into());
-    }
     match engine.offer(blocks.text(number))? {
         Answer::Kept { id: _, present: 1 } => Ok(()),
         _ => Err("not present".into()),
@@ -33,8 +30,7 @@ pub(crate) fn come(engine: &mut Engine, blocks: &Numbered, number: usize) -> Res
 /// The view of a tip and its past, by the tip's number, or that of all blocks by the number behind the
 /// last one.
 pub(crate) fn view_at(engine: &Engine, n: u16) -> Option<&View>
-    requires whole { engine.now.broken ≡ false }
-    requires within { n ≤ length engine.now.numbered.parents }
+    requires { n ≤ length engine.now.numbered.parents }
     ensures { IfSome result (λ view. CanVote engine.now.numbered
         engine.now.votes.frozen engine.now.votes.rows view.now) }
 {

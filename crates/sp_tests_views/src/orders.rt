@@ -13,9 +13,6 @@ use std::test::Fail;
 
 /// The words on each two blocks, by their numbers in the graph.
 fn words(engine: &Engine, blocks: &Numbered) -> Result<Vec<Word>, Fail> {
-    if engine.broken() {
-        return Err("broken".into());
-    }
     if engine.present() as usize != blocks.ids.len() {
         return Err("not present".into());
     }
@@ -30,9 +27,6 @@ fn words(engine: &Engine, blocks: &Numbered) -> Result<Vec<Word>, Fail> {
 
 fn come_all(engine: &mut Engine, blocks: &Numbered, order: &[u8]) -> Result<(), Fail> {
     for number in order {
-        if engine.broken() {
-            return Err("broken".into());
-        }
         let _answer = engine.offer(blocks.text(*number as usize))?;
     }
     Ok(())

@@ -223,9 +223,6 @@ fn said_again(
 
 /// What the view of all of an engine has, which grew block by block, and the derived one.
 fn both(alloc: Global, engine: &Engine, x: u16, y: u16) -> Result<(Said, Said), Fail> {
-    if engine.broken() {
-        return Err("broken".into());
-    }
     let (dag, frozen, pool) = (engine.dag(), engine.frozen(), engine.row_pool());
     let all = engine.view_all();
     let said = said_of(dag, frozen, pool, all, x, y)?;

@@ -76,9 +76,6 @@ fn count_ties(dag: &Dag, frozen: &Frozen, past: &[Option<i8>], z: u16, ties: &mu
 
 /// Counts the ties in the past of the latest block of an engine.
 fn count_last(alloc: Global, engine: &Engine, ties: &mut Ties) -> Result<bool, Fail> {
-    if engine.broken() {
-        return Err("broken".into());
-    }
     let z = engine.present() - 1;
     let (dag, frozen) = (engine.dag(), engine.frozen());
     // Two blocks that are unrelated have genesis beside them.

@@ -33,7 +33,6 @@ fn with_word(tally: Tally, word: Word) -> Tally
 
 // The tally after what is said of a block and each of the others.
 fn count_votes(engine: &Engine, first: &BlockId, others: &[BlockId], before: Tally) -> Tally
-    requires whole { engine.now.broken ≡ false }
     requires few { length others.now ≤ 512 }
     requires bound { AreUpTo before 1048576 }
     ensures tally { result ≡
@@ -48,7 +47,6 @@ fn count_votes(engine: &Engine, first: &BlockId, others: &[BlockId], before: Tal
 
 // What is said of each pair of these blocks.
 fn count_pairs(engine: &Engine, ids: &[BlockId]) -> Tally
-    requires whole { engine.now.broken ≡ false }
     requires few { length ids.now ≤ 512 }
     ensures { result ≡ tally_of (pair_words engine.now.profile engine.now.kept ids.now) }
 {
@@ -66,7 +64,6 @@ fn count_pairs(engine: &Engine, ids: &[BlockId]) -> Tally
 
 // How many transactions of the present blocks are accepted.
 fn count_accepted(engine: &Engine) -> u32
-    requires { engine.now.broken ≡ false }
     ensures { result ≡ accepted_count engine.now.profile engine.now.kept }
 {
     let mut count = 0;
@@ -79,7 +76,6 @@ fn count_accepted(engine: &Engine) -> u32
 
 // Under how many locks something is left.
 fn count_paid(engine: &Engine) -> u32
-    requires { engine.now.broken ≡ false }
     ensures { result ≡ paid_count engine.now.profile engine.now.kept }
 {
     let mut count = 0;
@@ -103,7 +99,6 @@ fn pair_count(ids: &[BlockId]) -> u32
 /// What there is of everything where these blocks are the present ones. It takes the time of a vote
 /// for each pair, and of a pass over all transactions and locks, and no memory.
 pub fn count_all(engine: &Engine, ids: &[BlockId]) -> Counts
-    requires whole { engine.now.broken ≡ false }
     requires few { length ids.now ≤ 512 }
     ensures { result ≡ counts_of engine.now.profile engine.now.kept ids.now }
 {

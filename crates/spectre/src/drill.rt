@@ -53,7 +53,6 @@ fn summarize<K: Sink>(
     naming: &Naming<'_>,
     sink: &mut K,
 ) -> Result<(), Stop>
-    requires { engine.now.broken ≡ false }
     ensures ok { OnOk result (Appends (K.taken sink.old) (K.taken sink.new)
         (meant.summary engine.now.profile (labels_of naming.now) engine.now.kept)) }
     ensures err { OnErr result (AppendsFront (K.taken sink.old) (K.taken sink.new)

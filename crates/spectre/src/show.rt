@@ -27,7 +27,6 @@ use std::alloc::Global;
 /// Writes how many records a journal has, and the report on the kept blocks of an engine.
 #[tactic(auto, using(sp_io::proofs::Writing::wrote_stops))]
 fn tell<K: Sink>(alloc: Global, engine: &Engine, count: u16, sink: &mut K) -> Result<(), Stop>
-    requires { engine.now.broken ≡ false }
     ensures ok { OnOk result (Appends (K.taken sink.old) (K.taken sink.new)
         (recovered_text count ++ report_text engine.now.profile no_labels engine.now.kept)) }
     ensures err { OnErr result (AppendsFront (K.taken sink.old) (K.taken sink.new)

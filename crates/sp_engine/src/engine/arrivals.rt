@@ -1,25 +1,24 @@
 //! What becomes of a valid block that arrives: it is known, there is no room for it, or it is kept.
 
-ghost use Rattle.std.specs.Prelude.{◌≡◌, ◌++◌, ◌∷◌, [], ℕ, false, IfOk, OnOk, is_err, IsFalse};
+ghost use Rattle.std.specs.Prelude.{◌≡◌, ◌++◌, ◌∷◌, [], ℕ, IfOk, OnOk, OnErr, IsFalse};
 ghost use Rattle.sp_ids.specs.Bits.{BeginsWithZeros};
 ghost use Rattle.sp_block.specs.Block.{IsOther};
 ghost use Rattle.sp_pool.specs.Kept.{keep, standing_of};
 ghost use Rattle.sp_pool.specs.declared.answers.Standing.{Standing};
 ghost use Rattle.sp_engine.specs.Arrivals.{answer_by, joined};
-ghost use Rattle.sp_engine.specs.Engine.{GrewByOne, is_growth, Stays};
+ghost use Rattle.sp_engine.specs.Engine.{GrewByOne, is_growth, IsRefused, Stays};
 ghost use Rattle.sp_engine.specs.declared.answer.Answer.TheVariants.{Kept};
 
 use crate::answer::Answer;
 use crate::engine::Engine;
 use crate::growth::grow;
 use sp_block::Block;
-use sp_ids::Memory;
+use sp_ids::{BlockId, Memory};
 use sp_pool::{Offer, Standing};
 
 impl Engine {
     /// Keeps a valid block where its id is new and there is room for it, and answers what became of it.
     pub(super) fn keep(&mut self, block: Block) -> Result<Answer, Memory>
-        requires whole { self.old.broken ≡ false }
         requires other { IsOther block }
         requires work { BeginsWithZeros block.id self.old.bits }
         ensures answer { IfOk result (λ answer. answer ≡
@@ -27,7 +26,7 @@ impl Engine {
         ensures kept { OnOk result (self.new.kept ≡ keep self.old.kept block) }
         ensures profile { OnOk result (self.new.profile ≡ self.old.profile) }
         ensures bits { self.new.bits ≡ self.old.bits }
-        ensures broken { self.new.broken ≡ is_err result }
+        ensures memory { OnErr result (IsRefused self.old self.new) }
         ensures idle { IfOk result (λ answer. IsFalse (is_growth answer) →
             Stays self.old self.new) }
         ensures one { IfOk result (λ answer. (id : ℕ) → answer ≡ Kept id 1 →
@@ -45,9 +44,8 @@ impl Engine {
     ///
     /// # Errors
     ///
-    /// `Memory` where there was none. The engine is broken from then on.
+    /// `Memory` where there was none; the engine is as before, but that more rows may be spare.
     pub fn take(&mut self, block: Block) -> Result<Answer, Memory>
-        requires whole { self.old.broken ≡ false }
         requires other { IsOther block }
         requires work { BeginsWithZeros block.id self.old.bits }
         requires fresh { standing_of self.old.kept block.id ≡ Standing.Fresh }
@@ -55,18 +53,18 @@ impl Engine {
         ensures kept { OnOk result (self.new.kept ≡ self.old.kept ++ block ∷ []) }
         ensures profile { OnOk result (self.new.profile ≡ self.old.profile) }
         ensures bits { self.new.bits ≡ self.old.bits }
-        ensures broken { self.new.broken ≡ is_err result }
+        ensures memory { OnErr result (IsRefused self.old self.new) }
         ensures idle { IfOk result (λ answer. IsFalse (is_growth answer) →
             Stays self.old self.new) }
         ensures one { IfOk result (λ answer. (id : ℕ) → answer ≡ Kept id 1 →
             GrewByOne self.old self.new) }
     {
         let id = block.id;
-        self.broken = true;
         match self.pool.offer(block)? {
             Offer::Present(ids) => {
                 let ids = ids.as_slice();
-                grow(
+                let present = ids.len() as u16;
+                let grown = grow(
                     &self.pool,
                     &mut self.dag,
                     &mut self.votes,
@@ -74,15 +72,17 @@ impl Engine {
                     &mut self.accepted,
                     &mut self.purse,
                     ids,
-                )?;
-                self.broken = false;
-                let present = ids.len() as u16;
-                Ok(Answer::Kept { id, present })
+                );
+                match grown {
+                    Ok(()) => Ok(Answer::Kept { id, present }),
+                    // The offer is taken back too.
+                    Err(refused) => {
+                        self.pool.withdraw();
+                        Err(refused)
+                    }
+                }
             }
-            Offer::Waiting => {
-                self.broken = false;
-                Ok(Answer::Held { id })
-            }
+            Offer::Waiting => Ok(Answer::Held { id }),
             // Its id is fresh.
             Offer::Known | Offer::Full => unreachable!(),
         }

@@ -27,7 +27,6 @@ impl Engine {
     /// Where no two different transactions of the present blocks have one id, which would take two
     /// inputs of one SHA-256, each is its own.
     pub fn tx_state(&self, id: &TxId) -> TxState
-        requires { self.now.broken ≡ false }
         ensures value { result ≡ state_of self.now.profile self.now.kept id.now }
         ensures absent { (result ≡ TxState.Absent) ↔
             IsFalse (is_carried (ledger_of self.now.profile self.now.kept) (present self.now.kept) id.now) }
@@ -49,7 +48,6 @@ impl Engine {
     /// How many transactions the present blocks carry, from 0 to 131,072. One that several of them
     /// carry counts once. What stands of the list of their ids stands here, for each caller.
     pub fn tx_count(&self) -> u32
-        requires { self.now.broken ≡ false }
         ensures count { result ≡ length (tx_ids self.now.kept) }
         ensures ids { (id : ℕ) → has (tx_ids self.now.kept) id
             ≡ is_carried (ledger_of self.now.profile self.now.kept) (present self.now.kept) id }
@@ -65,7 +63,6 @@ impl Engine {
     ///
     /// The transaction of an id is the first one that has it, as in `tx_state`.
     pub fn tx_at(&self, i: u32) -> (TxId, bool)
-        requires whole { self.now.broken ≡ false }
         requires within { i < length (tx_ids self.now.kept) }
         ensures id { slice_get (tx_ids self.now.kept) i ≡ Some result.0 }
         ensures value { result.1 ≡
@@ -82,7 +79,6 @@ impl Engine {
     ///
     /// The transaction of an id is the first one that has it, as in `tx_state`.
     pub fn balance(&self, lock: &Lock) -> u128
-        requires { self.now.broken ≡ false }
         ensures value { result ≡ balance_by_id self.now.profile self.now.kept lock.now }
         ensures balance { IsPlain (ledger_of self.now.profile self.now.kept) (present self.now.kept) →
             result ≡ balance (ledger_of self.now.profile self.now.kept) (present self.now.kept) lock.now }
@@ -94,7 +90,6 @@ impl Engine {
     /// 2,097,152. What stands of their list stands here, for each caller: each lock under which
     /// anything is left is among them.
     pub fn lock_count(&self) -> u32
-        requires { self.now.broken ≡ false }
         ensures count { result ≡ length (locks self.now.kept) }
         ensures once { AreDistinct (locks self.now.kept) }
         ensures paid { (lock : ℕ) → has (locks self.now.kept) lock ≡ false →
@@ -108,7 +103,6 @@ impl Engine {
     /// the transactions whose outputs have them, and then in that of the outputs. It takes a bounded
     /// number of steps.
     pub fn lock_at(&self, i: u32) -> (Lock, u128)
-        requires whole { self.now.broken ≡ false }
         requires within { i < length (locks self.now.kept) }
         ensures lock { slice_get (locks self.now.kept) i ≡ Some result.0 }
         ensures value { result.1 ≡ balance_by_id self.now.profile self.now.kept result.0 }
@@ -128,7 +122,6 @@ impl Engine {
     ///
     /// Memory was refused.
     pub fn unspent(&self, lock: &Lock) -> Result<Vec<Outpoint>, Memory>
-        requires { self.now.broken ≡ false }
         ensures names { IfOk result (λ names. IsPermutation (names_by_id self.now.profile self.now.kept lock.now) names.items) }
         ensures ascending { IfOk result (λ names. IsSorted outpoint_cmp names.items) }
         ensures own { IsPlain (ledger_of self.now.profile self.now.kept) (present self.now.kept) → IfOk result (λ names.
@@ -142,7 +135,6 @@ impl Engine {
     ///
     /// The transaction of an id is the first one that has it, as in `tx_state`.
     pub fn output(&self, from: &Outpoint) -> Option<&Output>
-        requires { self.now.broken ≡ false }
         ensures value { option_copied result ≡ output_by_id self.now.kept from.now }
         ensures own { IsPlain (ledger_of self.now.profile self.now.kept) (present self.now.kept) → option_copied result
             ≡ output_at (carried (ledger_of self.now.profile self.now.kept) (present self.now.kept)) from.now }

@@ -1,6 +1,6 @@
 //! How a node replies to each kind of message: to a block that arrives, and to the questions.
 
-ghost use Rattle.std.specs.Prelude.{◌≡◌, ◌≢◌, ◌≤◌, false, Err, is_err, is_some, IfErr, IfSome, IsSome, None, OnErr, OnOk};
+ghost use Rattle.std.specs.Prelude.{◌≡◌, ◌≢◌, ◌≤◌, false, Err, is_some, IfErr, IfSome, IsSome, None, OnErr, OnOk};
 ghost use Rattle.std.specs.Io.KnownBytes.{Appends};
 ghost use Rattle.sp_io.specs.Causes.{Rose};
 ghost use Rattle.sp_io.specs.Whole.{AppendsFront};
@@ -13,15 +13,15 @@ ghost use Rattle.sp_report.specs.Texts.{text_of};
 ghost use Rattle.sp_journal.specs.Settled.{SameTold};
 ghost use Rattle.sp_node.specs.Answers.{IsQuestion, IsTextOf, kept_then, reply_of};
 ghost use Rattle.sp_node.specs.Journalled.{HoldsThen, IsKeptOn, LeavesOn};
-ghost use Rattle.sp_node.specs.Node.{HasNodeCause};
+ghost use Rattle.sp_node.specs.Node.{HasNodeCause, stops};
 
 use crate::arrival::keep_on;
-use crate::fault::NodeFault;
+use crate::fault::{KeepFault, NodeFault};
 use crate::node::Node;
 use sp_disk::Disk;
 use sp_feed::Message;
 use sp_io::Sink;
-use sp_report::{Ask, Naming, Text, answer_line, ask_line, write_text};
+use sp_report::{Ask, Naming, Text, TextFault, answer_line, ask_line, write_text};
 
 impl Node {
     // Offers a block's bytes to the engine, records the block where it is kept, and writes what became
@@ -65,13 +65,23 @@ impl Node {
         ensures told { SameTold (D.now disk.old) (D.now disk.new) }
         ensures disk_later { (D.now disk.old).faults ≤ (D.now disk.new).faults }
         ensures later { K.faults sink.old ≤ K.faults sink.new }
-        ensures stopped { self.new.stopped ≡ is_err result }
+        ensures stopped { self.new.stopped ≡ stops result }
+        ensures refused { result ≡ Err NodeFault.Memory → self.new ≡ self.old }
     {
-        self.stopped = true;
-        let answer = keep_on(&mut self.engine, &mut self.journal, disk, bytes)?;
-        answer_line(&answer, naming, sink)?;
-        self.stopped = false;
-        Ok(())
+        match keep_on(&mut self.engine, &mut self.journal, disk, bytes) {
+            Ok(answer) => match answer_line(&answer, naming, sink) {
+                Ok(()) => Ok(()),
+                Err(_) => {
+                    self.stopped = true;
+                    Err(NodeFault::WriteFault)
+                }
+            },
+            Err(KeepFault::DiskFault) => {
+                self.stopped = true;
+                Err(NodeFault::DiskFault)
+            }
+            Err(KeepFault::Memory) => Err(NodeFault::Memory),
+        }
     }
 
     // Answers a question.
@@ -91,7 +101,7 @@ impl Node {
         ensures err { OnErr result (IfSome (said_by question.now) (λ said.
             AppendsFront (K.taken sink.old) (K.taken sink.new)
             (reply_of (labels_of naming.now) self.old.bits self.old.kept said))) }
-        ensures state { self.new ≡ record self.old { stopped = is_err result } }
+        ensures state { self.new ≡ record self.old { stopped = stops result } }
         ensures memory { result ≡ Err NodeFault.Memory → IsTextOf (said_by question.now) × (sink.new ≡ sink.old) }
         ensures never { result ≢ Err NodeFault.DiskFault }
         ensures cause { result ≡ Err NodeFault.WriteFault → Rose (K.faults sink.old) (K.faults sink.new) }
@@ -118,7 +128,7 @@ impl Node {
         requires { self.old.stopped ≡ false }
         ensures ok { OnOk result
             (Appends (K.taken sink.old) (K.taken sink.new) (ask_text One (labels_of naming.now) self.old.kept ask.now)) }
-        ensures state { self.new ≡ record self.old { stopped = is_err result } }
+        ensures state { self.new ≡ record self.old { stopped = stops result } }
         ensures err { OnErr result
             (AppendsFront (K.taken sink.old) (K.taken sink.new) (ask_text One (labels_of naming.now) self.old.kept ask.now)) }
         ensures never { IfErr result (λ fault. fault ≡ NodeFault.WriteFault) }
@@ -146,7 +156,7 @@ impl Node {
         requires { self.old.stopped ≡ false }
         ensures ok { OnOk result
             (Appends (K.taken sink.old) (K.taken sink.new) (text_of One (labels_of naming.now) self.old.kept text.now)) }
-        ensures state { self.new ≡ record self.old { stopped = is_err result } }
+        ensures state { self.new ≡ record self.old { stopped = stops result } }
         ensures err { OnErr result
             (AppendsFront (K.taken sink.old) (K.taken sink.new) (text_of One (labels_of naming.now) self.old.kept text.now)) }
         ensures memory { result ≡ Err NodeFault.Memory → sink.new ≡ sink.old }
@@ -155,9 +165,13 @@ impl Node {
         ensures quiet { result ≢ Err NodeFault.WriteFault → K.faults sink.new ≡ K.faults sink.old }
         ensures later { K.faults sink.old ≤ K.faults sink.new }
     {
-        self.stopped = true;
-        write_text(self.alloc, &self.engine, text, naming, sink)?;
-        self.stopped = false;
-        Ok(())
+        match write_text(self.alloc, &self.engine, text, naming, sink) {
+            Ok(()) => Ok(()),
+            Err(TextFault::WriteFault) => {
+                self.stopped = true;
+                Err(NodeFault::WriteFault)
+            }
+            Err(TextFault::Memory) => Err(NodeFault::Memory),
+        }
     }
 }

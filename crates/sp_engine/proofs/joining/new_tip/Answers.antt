@@ -1,14 +1,11 @@
-use Rattle.std.proofs.Common.{◌≡◌, ◌∙◌, ◌<◌, ◌≤◌, ◌-◌, ◌+◌, ℕ, List, ◌∷◌, ap, sym, arith, subst, inl, inr, length}
+use Rattle.std.proofs.Common.{◌≡◌, ◌∙◌, ◌<◌, ◌≤◌, ◌-◌, ◌+◌, ℕ, List, ◌∷◌, ap, sym, arith, subst, length}
 use Rattle.sp_dag.specs.Numbered.{Numbered, graph_of, pairs_of}
-use Rattle.sp_model.specs.Graph.{has, past}
-use Rattle.sp_frozen.specs.PastVotes.{signs_of}
+use Rattle.sp_model.specs.Graph.{past}
 use Rattle.sp_view.specs.Views.{AreKeptIds, IsBest, Viewed}
-use Rattle.sp_view.proofs.Listing.{view_listed}
-use Rattle.sp_view.proofs.Members.{more_parts}
-use Rattle.sp_engine.specs.Votes.{AreKeptIdsBy, AreViews, bar_row}
+use Rattle.sp_engine.specs.Votes.{AreKeptIdsBy, AreViews}
 use Rattle.sp_engine.proofs.Beside.{counted, few_counted, few_live_beside, shared_derived, shared_grown, shared_up}
 use Rattle.sp_engine.proofs.Sharing.{view_of, views_move}
-use Rattle.sp_engine.proofs.Tips.{kept_by_two, others_stay, past_and_block, past_asked, past_lower, past_there, past_without}
+use Rattle.sp_engine.proofs.Tips.{kept_by_two, others_stay, past_asked, past_lower}
 use Rattle.sp_engine.proofs.joining.new_tip.Goals as goal
 
 pub derive-requires-clause-views : goal.derive-requires-clause-views
@@ -42,37 +39,8 @@ derive-requires-clause-few c =
       c.requires.few,
     )
 
-pub past_votes-requires-clause-listed : goal.past_votes-requires-clause-listed
-past_votes-requires-clause-listed c =
-    view_listed c.args.dag.now c.in_ok-tip.tip c.derive.new.pool c.args.frozen.now c.in_ok-tip.ensures.ok c.requires.frozen
-    (λ z h.
-    let less : z < c.len-b.result - 1 =
-    past_lower c.args.dag.now (c.len-b.result - 1) c.len-b.ensures.numbered.order (omega (arith, c.len-b.ensures.value, c.len-b.ensures.numbered.some)) c.in_ok-tip.tip.members
-    (c.in_ok-tip.ensures.members ∙ c.past-past.ensures) z h in
-    omega (arith, less, c.requires.next, c.len-b.ensures.value))
-
-pub add-requires-clause-votes : goal.add-requires-clause-votes
-add-requires-clause-votes c =
-    c.in_ok-signs.ensures c.args.dag.now c.in_ok-tip.ensures.ok c.requires.frozen
-    (λ z h.
-    let less : z < c.len-b.result - 1 =
-    past_lower c.args.dag.now (c.len-b.result - 1) c.len-b.ensures.numbered.order (omega (arith, c.len-b.ensures.value, c.len-b.ensures.numbered.some)) c.in_ok-tip.tip.members
-    (c.in_ok-tip.ensures.members ∙ c.past-past.ensures) z h in
-    omega (arith, less, c.requires.next, c.len-b.ensures.value))
-    ∙ ap (λ (l : List ℕ). signs_of c.args.dag.now l) (c.in_ok-tip.ensures.members ∙ c.past-past.ensures)
-
-pub add-requires-2-clause-new : goal.add-requires-2-clause-new
-add-requires-2-clause-new c =
-    past_without c.args.dag.now (c.len-b.result - 1) c.len-b.ensures.numbered.order (omega (arith, c.len-b.ensures.value, c.len-b.ensures.numbered.some)) c.in_ok-tip.tip.members
-    (c.in_ok-tip.ensures.members ∙ c.past-past.ensures)
-
-pub add-requires-2-clause-past : goal.add-requires-2-clause-past
-add-requires-2-clause-past c =
-    past_there c.args.dag.now (c.len-b.result - 1) c.len-b.ensures.numbered.order (omega (arith, c.len-b.ensures.value, c.len-b.ensures.numbered.some)) c.in_ok-tip.tip.members
-    (c.in_ok-tip.ensures.members ∙ c.past-past.ensures)
-
-pub add-requires-2-clause-few : goal.add-requires-2-clause-few
-add-requires-2-clause-few c =
+pub vote_tip-requires-clause-few : goal.vote_tip-requires-clause-few
+vote_tip-requires-clause-few c =
     let table : Numbered = c.args.dag.now in
     let small : length (pairs_of table) ≤ 130816 = omega (arith, c.pair_count-pairs.ensures.value, c.pair_count-pairs.ensures.bound) in
     let tip : Viewed = c.in_ok-tip.tip in
@@ -94,49 +62,33 @@ add-requires-2-clause-few c =
       c.requires.few,
     )
 
-pub returns-clause-views : goal.returns-clause-views
-returns-clause-views c =
+pub returns-in-Ok-clause-views : goal.returns-in-Ok-clause-views
+returns-in-Ok-clause-views c =
     let table : Numbered = c.args.dag.now in
-    let tip : Viewed = c.in_ok-tip.tip in
-    let lt : c.len-b.result - 1 < length table.parents = omega (arith, c.len-b.ensures.value, c.len-b.ensures.numbered.some) in
-    let is = c.in_ok-tip.ensures.members ∙ c.past-past.ensures in (
-      c.in_ok-add-2.ensures.ok,
-      (λ z h. elim (more_parts table c.len-b.ensures.numbered.order c.len-b.ensures.numbered.small tip.members (c.len-b.result - 1) c.in_ok-tip.ensures.ok.asked c.in_ok-tip.ensures.ok.below lt
-          (past_without table (c.len-b.result - 1) c.len-b.ensures.numbered.order lt tip.members is)
-          (past_there table (c.len-b.result - 1) c.len-b.ensures.numbered.order lt tip.members is)
-          z (ap (λ (l : List ℕ). has l z) (sym c.in_ok-add-2.ensures.members) ∙ h)) [
-            | inl there ↦ (let less : z < c.len-b.result - 1 = past_lower table (c.len-b.result - 1) c.len-b.ensures.numbered.order lt tip.members is z there in omega (arith, less, c.in_ok-add.ensures.blocks))
-            | inr e ↦ omega (arith, e, c.in_ok-add.ensures.blocks)
-          ]),
-      subst (λ (n : ℕ). AreViews table c.add-2.new.pool n c.args.views.now) (let e : c.args.frozen.now.blocks + 1 ≡ c.add.new.self.blocks = omega (arith, c.in_ok-add.ensures.blocks, c.requires.next, c.len-b.ensures.value, c.len-b.ensures.numbered.some) in e)
-          (others_stay table c.args.rows.now c.derive.new.pool c.add-2.new.pool c.args.frozen.now.blocks c.args.views.now tip c.add-2.new.self
-          (counted table c.args.rows.now c.args.frozen.now.blocks c.args.views.now c.requires.shared.0 c.requires.shared.1) c.in_ok-tip.ensures.counts c.in_ok-tip.ensures.rows c.in_ok-add-2.ensures.counts c.in_ok-add-2.ensures.others c.requires.views),
+    let tip : Viewed = c.in_ok-tip.tip in (
+      c.in-Ok.ensures.view,
+      (λ z h. (let less : z < length table.parents = c.in-Ok.ensures.view.below z h in omega (arith, less, c.requires.next, c.in-Ok.ensures.blocks))),
+      subst (λ (n : ℕ). AreViews table c.vote_tip.new.rows n c.args.views.now) (let e : c.args.frozen.now.blocks + 1 ≡ c.vote_tip.new.frozen.blocks = omega (arith, c.in-Ok.ensures.blocks) in e)
+          (others_stay table c.args.rows.now c.derive.new.pool c.vote_tip.new.rows c.args.frozen.now.blocks c.args.views.now tip c.vote_tip.new.tip
+          (counted table c.args.rows.now c.args.frozen.now.blocks c.args.views.now c.requires.shared.0 c.requires.shared.1) c.in_ok-tip.ensures.counts c.in_ok-tip.ensures.rows c.in-Ok.ensures.counts c.in-Ok.ensures.others c.requires.views),
     )
 
-pub returns-clause-shared : goal.returns-clause-shared
-returns-clause-shared c = λ beside shared.
+pub returns-in-Ok-clause-shared : goal.returns-in-Ok-clause-shared
+returns-in-Ok-clause-shared c = λ beside shared.
     let table : Numbered = c.args.dag.now in
     let n : ℕ = c.args.frozen.now.blocks in
     let views : List Viewed = c.args.views.now in
     let tip : Viewed = c.in_ok-tip.tip in
     let derived = shared_derived table c.args.rows.now n views beside shared c.derive.new.pool tip c.in_ok-tip.ensures.counts c.in_ok-tip.ensures.rows in
-    let grown = shared_grown table c.derive.new.pool n views beside tip c.add-2.new.self c.add-2.new.pool derived c.in_ok-add-2.ensures.counts c.in_ok-add-2.ensures.others in
-    shared_up table c.add-2.new.pool n (c.add-2.new.self ∷ views) beside grown c.add.new.self.blocks (omega (arith, c.in_ok-add.ensures.blocks, c.requires.next, c.len-b.ensures.value))
+    let grown = shared_grown table c.derive.new.pool n views beside tip c.vote_tip.new.tip c.vote_tip.new.rows derived c.in-Ok.ensures.counts c.in-Ok.ensures.others in
+    shared_up table c.vote_tip.new.rows n (c.vote_tip.new.tip ∷ views) beside grown c.vote_tip.new.frozen.blocks (omega (arith, c.in-Ok.ensures.blocks, c.requires.next, c.len-b.ensures.value))
 
-pub returns-clause-members : goal.returns-clause-members
-returns-clause-members c =
-    let table : Numbered = c.args.dag.now in
-    let lt : c.len-b.result - 1 < length table.parents = omega (arith, c.len-b.ensures.value, c.len-b.ensures.numbered.some) in
-    let at_b : c.len-b.result - 1 ≡ c.args.frozen.now.blocks = omega (arith, c.requires.next, c.len-b.ensures.value) in
-    past_and_block table (c.len-b.result - 1) c.len-b.ensures.numbered.order lt c.in_ok-tip.tip.members (c.in_ok-tip.ensures.members ∙ c.past-past.ensures) c.add-2.new.self.members c.in_ok-add-2.ensures.members
-    ∙ ap (bar_row table) at_b
-
-pub returns-clause-kept : goal.returns-clause-kept
-returns-clause-kept c = λ i base best.
+pub returns-in-Ok-clause-kept : goal.returns-in-Ok-clause-kept
+returns-in-Ok-clause-kept c = λ i base best.
     let table : Numbered = c.args.dag.now in
     let at_b : c.len-b.result - 1 ≡ c.args.frozen.now.blocks = omega (arith, c.requires.next, c.len-b.ensures.value) in
     let is : c.past-past.result.now ≡ past (graph_of table) c.args.frozen.now.blocks = c.past-past.ensures ∙ ap (past (graph_of table)) at_b in
-    subst (λ (mid : List ℕ). AreKeptIdsBy table base.members mid c.add-2.new.self.members base.entries c.add-2.new.self.entries) is
-    (kept_by_two table base.members c.past-past.result.now c.add-2.new.self.members base.entries c.in_ok-tip.tip.entries c.add-2.new.self.entries
+    subst (λ (mid : List ℕ). AreKeptIdsBy table base.members mid c.vote_tip.new.tip.members base.entries c.vote_tip.new.tip.entries) is
+    (kept_by_two table base.members c.past-past.result.now c.vote_tip.new.tip.members base.entries c.in_ok-tip.tip.entries c.vote_tip.new.tip.entries
     (c.in_ok-tip.ensures.kept i base (subst (λ (mid : List ℕ). IsBest c.args.views.now mid i base) (sym is) best))
-    (subst (λ (mid : List ℕ). AreKeptIds table mid c.add-2.new.self.members c.in_ok-tip.tip.entries c.add-2.new.self.entries) c.in_ok-tip.ensures.members c.in_ok-add-2.ensures.kept))
+    (subst (λ (mid : List ℕ). AreKeptIds table mid c.vote_tip.new.tip.members c.in_ok-tip.tip.entries c.vote_tip.new.tip.entries) c.in_ok-tip.ensures.members c.in-Ok.ensures.kept))

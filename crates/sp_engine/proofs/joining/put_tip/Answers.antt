@@ -4,6 +4,7 @@ use Rattle.sp_view.specs.Views.{Viewed}
 use Rattle.sp_engine.specs.Votes.{AreShared, AreViews, IsPut}
 use Rattle.sp_engine.proofs.Beside.{few_live_beside}
 use Rattle.sp_engine.proofs.Ending.{IsAtEnd, at_end, below_after, is_put, last_below, last_new, last_past, last_view, members_after, put_before, shared_put, some_there, views_after}
+use Rattle.sp_engine.proofs.Replacing.{same_row}
 use Rattle.sp_engine.proofs.joining.put_tip.Goals as goal
 
 pub overflow_sub-last : goal.overflow_sub-last
@@ -12,8 +13,56 @@ overflow_sub-last c = omega (arith, c.len-last.ensures, some_there c.args.dag.no
 pub index_mut-requires : goal.index_mut-requires
 index_mut-requires c = omega (arith, c.len-last.ensures, some_there c.args.dag.now c.len-b.result c.args.views.now.items c.len-b.ensures.value c.len-b.ensures.numbered.some c.requires.last)
 
-pub add-requires : goal.add-requires
-add-requires c =
+pub add-requires-clause-view : goal.add-requires-clause-view
+add-requires-clause-view c =
+    let table : Numbered = c.args.dag.now in
+    let rows = c.args.rows.now in
+    let b : ℕ = c.len-b.result - 1 in
+    let n : ℕ = c.args.frozen.now.blocks in
+    let views : List Viewed = c.args.views.now.items in
+    let view : Viewed = c.index_mut.result.now in
+    let end : IsAtEnd b (c.len-last.result - 1) views view =
+    at_end table c.len-b.result c.len-last.result views view c.len-b.ensures.value c.len-b.ensures.numbered.some (c.len-last.ensures ∙ c.args.views.now.ok.0) c.requires.last c.index_mut.ensures.value in
+    last_view table rows b n views view c.args.tip end.ends c.requires.views
+
+pub add-requires-clause-added : goal.add-requires-clause-added
+add-requires-clause-added c =
+    let table : Numbered = c.args.dag.now in
+    let rows = c.args.rows.now in
+    let b : ℕ = c.len-b.result - 1 in
+    let n : ℕ = c.args.frozen.now.blocks in
+    let views : List Viewed = c.args.views.now.items in
+    let view : Viewed = c.index_mut.result.now in
+    let end : IsAtEnd b (c.len-last.result - 1) views view =
+    at_end table c.len-b.result c.len-last.result views view c.len-b.ensures.value c.len-b.ensures.numbered.some (c.len-last.ensures ∙ c.args.views.now.ok.0) c.requires.last c.index_mut.ensures.value in
+    last_below table rows b n views view c.args.tip end.ends c.requires.views
+
+pub add-requires-clause-new : goal.add-requires-clause-new
+add-requires-clause-new c =
+    let table : Numbered = c.args.dag.now in
+    let rows = c.args.rows.now in
+    let b : ℕ = c.len-b.result - 1 in
+    let n : ℕ = c.args.frozen.now.blocks in
+    let views : List Viewed = c.args.views.now.items in
+    let view : Viewed = c.index_mut.result.now in
+    let end : IsAtEnd b (c.len-last.result - 1) views view =
+    at_end table c.len-b.result c.len-last.result views view c.len-b.ensures.value c.len-b.ensures.numbered.some (c.len-last.ensures ∙ c.args.views.now.ok.0) c.requires.last c.index_mut.ensures.value in
+    last_new table rows b n views view c.args.tip end.ends c.requires.views
+
+pub add-requires-clause-past : goal.add-requires-clause-past
+add-requires-clause-past c =
+    let table : Numbered = c.args.dag.now in
+    let rows = c.args.rows.now in
+    let b : ℕ = c.len-b.result - 1 in
+    let n : ℕ = c.args.frozen.now.blocks in
+    let views : List Viewed = c.args.views.now.items in
+    let view : Viewed = c.index_mut.result.now in
+    let end : IsAtEnd b (c.len-last.result - 1) views view =
+    at_end table c.len-b.result c.len-last.result views view c.len-b.ensures.value c.len-b.ensures.numbered.some (c.len-last.ensures ∙ c.args.views.now.ok.0) c.requires.last c.index_mut.ensures.value in
+    last_past table rows b n views view c.args.tip end.ends c.requires.views c.len-b.ensures.numbered.order (omega (arith, c.len-b.ensures.value, c.len-b.ensures.numbered.some))
+
+pub add-requires-clause-few : goal.add-requires-clause-few
+add-requires-clause-few c =
     let table : Numbered = c.args.dag.now in
     let rows = c.args.rows.now in
     let b : ℕ = c.len-b.result - 1 in
@@ -23,23 +72,15 @@ add-requires c =
     let end : IsAtEnd b (c.len-last.result - 1) views view =
     at_end table c.len-b.result c.len-last.result views view c.len-b.ensures.value c.len-b.ensures.numbered.some (c.len-last.ensures ∙ c.args.views.now.ok.0) c.requires.last c.index_mut.ensures.value in
     let small : length (pairs_of table) ≤ 130816 = omega (arith, c.pair_count-pairs.ensures.value, c.pair_count-pairs.ensures.bound) in
-    record {
-      view = last_view table rows b n views view c.args.tip end.ends c.requires.views;
-      frozen = c.requires.frozen;
-      added = last_below table rows b n views view c.args.tip end.ends c.requires.views;
-      b_added = omega (arith, c.len-b.ensures.value, c.len-b.ensures.numbered.some, c.requires.next);
-      new = last_new table rows b n views view c.args.tip end.ends c.requires.views;
-      past = last_past table rows b n views view c.args.tip end.ends c.requires.views c.len-b.ensures.numbered.order (omega (arith, c.len-b.ensures.value, c.len-b.ensures.numbered.some));
-      few = omega (
-        arith,
-        few_live_beside table rows n (c.args.tip ∷ views) c.requires.shared.0 c.requires.shared.1 small c.requires.views c.live-live.ensures.rows,
-        c.requires.few,
-        c.args.views.now.ok.0,
-      );
-    }
+    omega (
+      arith,
+      few_live_beside table rows n (c.args.tip ∷ views) c.requires.shared.0 c.requires.shared.1 small c.requires.views c.live-live.ensures.rows,
+      c.requires.few,
+      c.args.views.now.ok.0,
+    )
 
-pub returns : goal.returns
-returns c =
+pub returns-in-Ok-insert-clause-put : goal.returns-in-Ok-insert-clause-put
+returns-in-Ok-insert-clause-put c =
     let table : Numbered = c.args.dag.now in
     let rows = c.args.rows.now in
     let b : ℕ = c.len-b.result - 1 in
@@ -49,13 +90,41 @@ returns c =
     let end : IsAtEnd b (c.len-last.result - 1) views view =
     at_end table c.len-b.result c.len-last.result views view c.len-b.ensures.value c.len-b.ensures.numbered.some (c.len-last.ensures ∙ c.args.views.now.ok.0) c.requires.last c.index_mut.ensures.value in
     let new : Viewed = c.add.new.self in
-    let items : c.insert.new.self.items ≡ end.ends.front ++ c.args.tip ∷ new ∷ [] = c.in-Ok.ensures.items ∙ put_before b views (c.len-last.result - 1) view new c.args.tip end.ends end.place in
-    let members = members_after table rows b n views view c.args.tip end.ends c.requires.views new (omega (arith, c.len-b.ensures.value, c.len-b.ensures.numbered.some, c.len-b.ensures.numbered.small)) c.in_ok-add.ensures.members in
-    record {
-      put = λ k at. subst (λ (m : ℕ). IsPut table m views c.args.tip c.insert.new.self.items) (let e : b ≡ k = omega (arith, c.len-b.ensures.value, at) in e) (is_put table rows b n views view c.args.tip end.ends c.requires.views c.insert.new.self.items new items members c.in_ok-add.ensures.kept);
-      views = subst (λ (l : List Viewed). AreViews table c.add.new.pool n l) (sym items)
-          (views_after table rows b n views view c.args.tip end.ends c.requires.views c.add.new.pool new c.requires.shared.0 c.requires.shared.1 c.in_ok-add.ensures.counts c.in_ok-add.ensures.others c.in_ok-add.ensures.ok
-          (below_after table rows b n views view c.args.tip end.ends c.requires.views new (omega (arith, c.len-b.ensures.value, c.len-b.ensures.numbered.some, c.requires.next)) members));
-      shared = λ beside shared. subst (λ (l : List Viewed). AreShared table c.add.new.pool n l beside) (sym items)
-          (shared_put table rows b n views view c.args.tip end.ends c.requires.views c.add.new.pool new beside shared c.in_ok-add.ensures.counts c.in_ok-add.ensures.others);
-    }
+    let items : c.insert.new.self.items ≡ end.ends.front ++ c.args.tip ∷ new ∷ [] = c.in-Ok-insert.ensures.items ∙ put_before b views (c.len-last.result - 1) view new c.args.tip end.ends end.place in
+    let members = members_after table rows b n views view c.args.tip end.ends c.requires.views new (omega (arith, c.len-b.ensures.value, c.len-b.ensures.numbered.some, c.len-b.ensures.numbered.small)) c.in-Ok.ensures.members in
+    λ k at. subst (λ (m : ℕ). IsPut table m views c.args.tip c.insert.new.self.items) (let e : b ≡ k = omega (arith, c.len-b.ensures.value, at) in e) (is_put table rows b n views view c.args.tip end.ends c.requires.views c.insert.new.self.items new items members c.in-Ok.ensures.kept)
+
+pub returns-in-Ok-insert-clause-views : goal.returns-in-Ok-insert-clause-views
+returns-in-Ok-insert-clause-views c =
+    let table : Numbered = c.args.dag.now in
+    let rows = c.args.rows.now in
+    let b : ℕ = c.len-b.result - 1 in
+    let n : ℕ = c.args.frozen.now.blocks in
+    let views : List Viewed = c.args.views.now.items in
+    let view : Viewed = c.index_mut.result.now in
+    let end : IsAtEnd b (c.len-last.result - 1) views view =
+    at_end table c.len-b.result c.len-last.result views view c.len-b.ensures.value c.len-b.ensures.numbered.some (c.len-last.ensures ∙ c.args.views.now.ok.0) c.requires.last c.index_mut.ensures.value in
+    let new : Viewed = c.add.new.self in
+    let items : c.insert.new.self.items ≡ end.ends.front ++ c.args.tip ∷ new ∷ [] = c.in-Ok-insert.ensures.items ∙ put_before b views (c.len-last.result - 1) view new c.args.tip end.ends end.place in
+    let members = members_after table rows b n views view c.args.tip end.ends c.requires.views new (omega (arith, c.len-b.ensures.value, c.len-b.ensures.numbered.some, c.len-b.ensures.numbered.small)) c.in-Ok.ensures.members in
+    subst (λ (l : List Viewed). AreViews table c.add.new.pool n l) (sym items)
+    (views_after table rows b n views view c.args.tip end.ends c.requires.views c.add.new.pool new c.requires.shared.0 c.requires.shared.1 c.in-Ok.ensures.counts c.in-Ok.ensures.others c.in-Ok.ensures.ok
+    (below_after table rows b n views view c.args.tip end.ends c.requires.views new (omega (arith, c.len-b.ensures.value, c.len-b.ensures.numbered.some, c.requires.next)) members))
+
+pub returns-in-Ok-insert-clause-shared : goal.returns-in-Ok-insert-clause-shared
+returns-in-Ok-insert-clause-shared c =
+    let table : Numbered = c.args.dag.now in
+    let rows = c.args.rows.now in
+    let b : ℕ = c.len-b.result - 1 in
+    let n : ℕ = c.args.frozen.now.blocks in
+    let views : List Viewed = c.args.views.now.items in
+    let view : Viewed = c.index_mut.result.now in
+    let end : IsAtEnd b (c.len-last.result - 1) views view =
+    at_end table c.len-b.result c.len-last.result views view c.len-b.ensures.value c.len-b.ensures.numbered.some (c.len-last.ensures ∙ c.args.views.now.ok.0) c.requires.last c.index_mut.ensures.value in
+    let new : Viewed = c.add.new.self in
+    let items : c.insert.new.self.items ≡ end.ends.front ++ c.args.tip ∷ new ∷ [] = c.in-Ok-insert.ensures.items ∙ put_before b views (c.len-last.result - 1) view new c.args.tip end.ends end.place in
+    λ beside shared. subst (λ (l : List Viewed). AreShared table c.add.new.pool n l beside) (sym items)
+    (shared_put table rows b n views view c.args.tip end.ends c.requires.views c.add.new.pool new beside shared c.in-Ok.ensures.counts c.in-Ok.ensures.others)
+
+pub returns-in-Err-clause-err_rows : goal.returns-in-Err-clause-err_rows
+returns-in-Err-clause-err_rows c = λ row some. c.release.ensures.rows row some ∙ same_row c.args.rows.now c.add.new.pool row c.in-Err.ensures.err_rows

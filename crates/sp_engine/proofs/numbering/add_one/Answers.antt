@@ -9,8 +9,12 @@ use Rattle.sp_engine.proofs.CarriedBlocks.{AreCarried-more, carried_count, few_t
 use Rattle.sp_engine.proofs.Decided.{block_below, block_longer, block_right}
 use Rattle.sp_engine.proofs.Facts.{all_items, is_found, room_left}
 use Rattle.sp_engine.proofs.NumberedBlocks.{AreNumbered-more, found_by, found_salt, next_closed, next_fresh, next_kept}
-use Rattle.sp_dag.specs.Numbered.{number_of}
-use Rattle.sp_engine.proofs.Onward.{votes_stay}
+use Rattle.sp_dag.specs.Numbered.{cut_to, number_of, Numbered}
+use Rattle.sp_rows.proofs.Keeps.{on_err}
+use Rattle.sp_carry.specs.Carried.{Carried}
+use Rattle.sp_carry.specs.Carried as carried
+use Rattle.sp_carry.proofs.Cutting.{cut_before}
+use Rattle.sp_engine.proofs.Joined.{first_stays, joined_stays}
 use Rattle.sp_engine.proofs.Paying.{block_goes}
 use Rattle.sp_engine.proofs.numbering.add_one.Goals as goal
 
@@ -66,18 +70,20 @@ returns-clause-more c =
     block_goes c.add.new.self c.args.carriers.now c.add-in-Some-2.new.self c.in-Some.block.now.txs
     (c.in_ok-add-in-Some-2.ensures.ok ∙ ap (λ (b : ReadBlock). with_block c.add.new.self c.args.carriers.now b.txs) c.block-in-Some.view_is)
 
-pub add-requires-in-Some-clause-holds : goal.add-requires-in-Some-clause-holds
-add-requires-in-Some-clause-holds c = (
-  c.requires.voted.0,
-  votes_stay c.args.dag.now c.add.new.self c.args.id.now c.block-in-Some.inside.salt (map (number_of c.args.dag.now.ids) c.as_slice.result.now) c.args.votes.now c.requires.voted.0
-      c.in_ok-number-in-Some.ensures.ok c.len-blocks.ensures.numbered c.len-more.ensures.numbered.order (omega (arith, c.requires.voted.1.every)) c.requires.voted.1.holds,
+pub add-requires-in-Some-clause-joining : goal.add-requires-in-Some-clause-joining
+add-requires-in-Some-clause-joining c = (
+  c.requires.joined.0,
+  c.requires.joined.1,
+  c.requires.joined.2,
+  joined_stays c.args.dag.now c.add.new.self c.args.id.now c.block-in-Some.inside.salt (map (number_of c.args.dag.now.ids) c.as_slice.result.now) c.requires.joined.0 c.requires.joined.1 c.args.votes.now c.requires.joined.2
+      c.in_ok-number-in-Some.ensures.ok c.len-blocks.ensures.numbered c.len-more.ensures.numbered.order c.requires.joined.3,
 )
 
-pub returns-clause-voted : goal.returns-clause-voted
-returns-clause-voted c = λ beside voted.
-    c.in_ok-add-in-Some.ensures.voted beside
-    (votes_stay c.args.dag.now c.add.new.self c.args.id.now c.block-in-Some.inside.salt (map (number_of c.args.dag.now.ids) c.as_slice.result.now) c.args.votes.now beside
-    c.in_ok-number-in-Some.ensures.ok c.len-blocks.ensures.numbered c.len-more.ensures.numbered.order (omega (arith, voted.every)) voted.holds)
+pub returns-clause-joined : goal.returns-clause-joined
+returns-clause-joined c = λ n old was joined.
+    c.in_ok-add-in-Some.ensures.joined n old was
+    (joined_stays c.args.dag.now c.add.new.self c.args.id.now c.block-in-Some.inside.salt (map (number_of c.args.dag.now.ids) c.as_slice.result.now) n old c.args.votes.now was
+    c.in_ok-number-in-Some.ensures.ok c.len-blocks.ensures.numbered c.len-more.ensures.numbered.order joined)
 
 pub returns-clause-right : goal.returns-clause-right
 returns-clause-right c = λ a right.
@@ -87,8 +93,8 @@ returns-clause-right c = λ a right.
     c.in-Some.block.now.txs a c.in_ok-number-in-Some.ensures.ok
     c.len-blocks.ensures.numbered c.len-more.ensures.numbered.order c.requires.carried.carried c.block_count-added.ensures.carried (omega (arith, long)) added right
 
-pub returns-clause-blocks : goal.returns-clause-blocks
-returns-clause-blocks c =
+pub returns-clause-longer : goal.returns-clause-longer
+returns-clause-longer c =
     block_longer c.add.new.self c.args.carriers.now c.add-in-Some-2.new.self c.in-Some.block.now.txs
     (c.in_ok-add-in-Some-2.ensures.ok ∙ ap (λ (b : ReadBlock). with_block c.add.new.self c.args.carriers.now b.txs) c.block-in-Some.view_is)
 
@@ -96,3 +102,32 @@ pub returns-clause-below : goal.returns-clause-below
 returns-clause-below c = λ n le.
     block_below c.add.new.self c.args.carriers.now c.add-in-Some-2.new.self c.in-Some.block.now.txs n
     (c.in_ok-add-in-Some-2.ensures.ok ∙ ap (λ (b : ReadBlock). with_block c.add.new.self c.args.carriers.now b.txs) c.block-in-Some.view_is) le
+
+pub returns-in_err-add-in-Some-clause-err : goal.returns-in_err-add-in-Some-clause-err
+returns-in_err-add-in-Some-clause-err c = on_err c.from_residual-in_err-add-in-Some.result (λ n old was joined.
+    c.in_err-add-in-Some.ensures.err n old was
+    (joined_stays c.args.dag.now c.add.new.self c.args.id.now c.block-in-Some.inside.salt (map (number_of c.args.dag.now.ids) c.as_slice.result.now) n old c.args.votes.now was
+    c.in_ok-number-in-Some.ensures.ok c.len-blocks.ensures.numbered c.len-more.ensures.numbered.order joined))
+
+pub returns-in_err-add-in-Some-2-clause-err : goal.returns-in_err-add-in-Some-2-clause-err
+returns-in_err-add-in-Some-2-clause-err c = on_err c.from_residual-in_err-add-in-Some-2.result (λ n old was joined.
+    (c.in_ok-add-in-Some.ensures.joined n old was
+    (joined_stays c.args.dag.now c.add.new.self c.args.id.now c.block-in-Some.inside.salt (map (number_of c.args.dag.now.ids) c.as_slice.result.now) n old c.args.votes.now was
+    c.in_ok-number-in-Some.ensures.ok c.len-blocks.ensures.numbered c.len-more.ensures.numbered.order joined)).joining)
+
+pub returns-in_err-add-in-Some-clause-front : goal.returns-in_err-add-in-Some-clause-front
+returns-in_err-add-in-Some-clause-front c = λ n le.
+    ap (λ (d : Numbered). cut_to d n) c.in_ok-number-in-Some.ensures.ok ∙ first_stays c.args.dag.now c.args.id.now c.block-in-Some.inside.salt c.as_slice.result.now n c.len-blocks.ensures.numbered.long c.len-blocks.ensures.numbered.salts_long le
+
+pub returns-in_err-add-in-Some-2-clause-front : goal.returns-in_err-add-in-Some-2-clause-front
+returns-in_err-add-in-Some-2-clause-front c = λ n le.
+    ap (λ (d : Numbered). cut_to d n) c.in_ok-number-in-Some.ensures.ok ∙ first_stays c.args.dag.now c.args.id.now c.block-in-Some.inside.salt c.as_slice.result.now n c.len-blocks.ensures.numbered.long c.len-blocks.ensures.numbered.salts_long le
+
+pub returns-clause-front : goal.returns-clause-front
+returns-clause-front c = λ n le.
+    ap (λ (d : Numbered). cut_to d n) c.in_ok-number-in-Some.ensures.ok ∙ first_stays c.args.dag.now c.args.id.now c.block-in-Some.inside.salt c.as_slice.result.now n c.len-blocks.ensures.numbered.long c.len-blocks.ensures.numbered.salts_long le
+
+pub returns-clause-first : goal.returns-clause-first
+returns-clause-first c = λ n le.
+    ap (λ (k : Carried). carried.cut_to k n) (c.in_ok-add-in-Some-2.ensures.ok ∙ ap (λ (b : ReadBlock). with_block c.add.new.self c.args.carriers.now b.txs) c.block-in-Some.view_is)
+    ∙ cut_before c.add.new.self c.args.carriers.now c.in-Some.block.now.txs n c.requires.carried.carried le

@@ -9,7 +9,6 @@ use Rattle.sp_node.proofs.start.restore.Goals as goal
 
 pub each-init : goal.each-init
 each-init c = record {
-  whole = c.requires.whole;
   profile = refl;
   bits = refl;
   place = omega arith;
@@ -27,7 +26,6 @@ each-preserved c =
     ∙ ap (λ (t : List ℕ). kept_after bits c.each.engine.kept t) c.as_slice.ensures
     ∙ ap (λ (b : ReadBlock). kept_after bits c.each.engine.kept b.bytes) c.block.view_is in
     record {
-      whole = c.in_ok-offer.ensures.broken;
       profile = c.in_ok-offer.ensures.profile ∙ c.each.invariant.profile;
       bits = c.offer.ensures.bits ∙ c.each.invariant.bits;
       place = omega (arith, c.each-test.true);

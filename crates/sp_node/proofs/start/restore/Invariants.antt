@@ -1,10 +1,9 @@
-use Rattle.std.proofs.Common.{◌≡◌, ◌-◌, ◌≤◌, false, length}
+use Rattle.std.proofs.Common.{◌≡◌, ◌-◌, ◌≤◌, length}
 use Rattle.sp_node.proofs.Restarted.{AreRestored}
 use Rattle.sp_node.proofs.start.restore.Given as goal
 
 abbrev pub invariant-each : goal.invariant-each
 invariant-each l = record {
-  whole : l.engine.broken ≡ false;
   profile : l.engine.profile ≡ l.fn.engine.profile;
   bits : l.engine.bits ≡ l.fn.engine.bits;
   place : l.i ≤ length l.blocks;

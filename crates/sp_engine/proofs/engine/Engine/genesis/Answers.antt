@@ -6,12 +6,10 @@ use Rattle.sp_engine.proofs.engine.Engine.genesis.Goals as goal
 
 pub unreachable-requires : goal.unreachable-requires
 unreachable-requires c =
-    let whole = ap (λ l. l.broken) c.self.view_is ∙ c.requires in
-    let e = (c.self.invariant whole).0 in
+    let e = c.self.invariant.0 in
     is_first c.self.inside.pool c.self.inside.genesis e.first (sym c.block.ensures ∙ ap option_copied c.in-None.is)
 
 pub returns : goal.returns
 returns c =
-    let whole = ap (λ l. l.broken) c.self.view_is ∙ c.requires in
-    let e = (c.self.invariant whole).0 in
+    let e = c.self.invariant.0 in
     ap (λ l. slice_get l.kept 0) (sym c.self.view_is) ∙ sym (found_first c.self.inside.pool c.self.inside.genesis e.first) ∙ sym c.block.ensures ∙ ap option_copied c.in-Some.is

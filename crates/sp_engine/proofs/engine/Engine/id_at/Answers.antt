@@ -4,5 +4,5 @@ use Rattle.sp_engine.proofs.engine.Engine.id_at.Goals as goal
 
 pub id-requires : goal.id-requires
 id-requires c =
-    let e = engine_of c.self.view_is c.self.invariant c.requires.whole in
+    let e = engine_of c.self.view_is c.self.invariant in
     omega (arith, present_count e, c.requires.within)

@@ -46,9 +46,6 @@ returns-in-Full-clause-one c = λ id kept. full_is_no_growth id kept
 pub returns-in-Fresh-clause-bits : goal.returns-in-Fresh-clause-bits
 returns-in-Fresh-clause-bits c = c.take.ensures.bits
 
-pub returns-in-Fresh-clause-broken : goal.returns-in-Fresh-clause-broken
-returns-in-Fresh-clause-broken c = c.take.ensures.broken
-
 pub returns-in-Fresh-clause-idle : goal.returns-in-Fresh-clause-idle
 returns-in-Fresh-clause-idle c = c.take.ensures.idle
 

@@ -6,36 +6,30 @@ use Rattle.sp_engine.proofs.engine.Engine.offer.Goals as goal
 
 pub returns-in-Err-clause-answer : goal.returns-in-Err-clause-answer
 returns-in-Err-clause-answer c =
-    refused c.args.self.now.bits c.args.self.now.kept c.args.bytes.now c.in-Err.refusal (ap (λ (l : Ledger). valid_in l.bits c.args.bytes.now) (sym c.self.view_is) ∙ sym c.in-Ok.ensures.found ∙ c.in-Err.is)
+    refused c.args.self.now.bits c.args.self.now.kept c.args.bytes.now c.in-Err.refusal (ap (λ (l : Ledger). valid_in l.bits c.args.bytes.now) (sym c.self.view_is) ∙ sym c.in_ok-block.ensures.found ∙ c.in-Err.is)
 
 pub returns-in-Err-clause-kept : goal.returns-in-Err-clause-kept
 returns-in-Err-clause-kept c =
-    kept_refused c.args.self.now.bits c.args.self.now.kept c.args.bytes.now c.in-Err.refusal (ap (λ (l : Ledger). valid_in l.bits c.args.bytes.now) (sym c.self.view_is) ∙ sym c.in-Ok.ensures.found ∙ c.in-Err.is)
+    kept_refused c.args.self.now.bits c.args.self.now.kept c.args.bytes.now c.in-Err.refusal (ap (λ (l : Ledger). valid_in l.bits c.args.bytes.now) (sym c.self.view_is) ∙ sym c.in_ok-block.ensures.found ∙ c.in-Err.is)
 
-pub returns-in-Ok-found-clause-answer : goal.returns-in-Ok-found-clause-answer
-returns-in-Ok-found-clause-answer c =
-    let valid = ap (λ (l : Ledger). valid_in l.bits c.args.bytes.now) (sym c.self.view_is) ∙ sym c.in-Ok.ensures.found ∙ c.in-Ok-found.is in
-    if_ok c.keep.result _ _ (answer_valid c.args.self.now.bits c.args.self.now.kept c.args.bytes.now c.in-Ok-found.block valid) c.keep.ensures.answer
+pub returns-in-Ok-clause-answer : goal.returns-in-Ok-clause-answer
+returns-in-Ok-clause-answer c =
+    let valid = ap (λ (l : Ledger). valid_in l.bits c.args.bytes.now) (sym c.self.view_is) ∙ sym c.in_ok-block.ensures.found ∙ c.in-Ok.is in
+    if_ok c.keep.result _ _ (answer_valid c.args.self.now.bits c.args.self.now.kept c.args.bytes.now c.in-Ok.block valid) c.keep.ensures.answer
 
-pub returns-in-Ok-found-clause-kept : goal.returns-in-Ok-found-clause-kept
-returns-in-Ok-found-clause-kept c =
-    let valid = ap (λ (l : Ledger). valid_in l.bits c.args.bytes.now) (sym c.self.view_is) ∙ sym c.in-Ok.ensures.found ∙ c.in-Ok-found.is in
-    on_ok c.keep.result _ _ _ (kept_valid c.args.self.now.bits c.args.self.now.kept c.args.bytes.now c.in-Ok-found.block valid) c.keep.ensures.kept
+pub returns-in-Ok-clause-kept : goal.returns-in-Ok-clause-kept
+returns-in-Ok-clause-kept c =
+    let valid = ap (λ (l : Ledger). valid_in l.bits c.args.bytes.now) (sym c.self.view_is) ∙ sym c.in_ok-block.ensures.found ∙ c.in-Ok.is in
+    on_ok c.keep.result _ _ _ (kept_valid c.args.self.now.bits c.args.self.now.kept c.args.bytes.now c.in-Ok.block valid) c.keep.ensures.kept
 
-pub returns-in_default-clause-bits : goal.returns-in_default-clause-bits
-returns-in_default-clause-bits c = ap (λ (l : Ledger). l.bits) c.self.view_is
+pub returns-in-Ok-clause-bits : goal.returns-in-Ok-clause-bits
+returns-in-Ok-clause-bits c = c.keep.ensures.bits
 
-pub returns-in-Ok-found-clause-bits : goal.returns-in-Ok-found-clause-bits
-returns-in-Ok-found-clause-bits c = c.keep.ensures.bits
+pub returns-in-Ok-clause-idle : goal.returns-in-Ok-clause-idle
+returns-in-Ok-clause-idle c = c.keep.ensures.idle
 
-pub returns-in-Ok-found-clause-broken : goal.returns-in-Ok-found-clause-broken
-returns-in-Ok-found-clause-broken c = c.keep.ensures.broken
-
-pub returns-in-Ok-found-clause-idle : goal.returns-in-Ok-found-clause-idle
-returns-in-Ok-found-clause-idle c = c.keep.ensures.idle
-
-pub returns-in-Ok-found-clause-one : goal.returns-in-Ok-found-clause-one
-returns-in-Ok-found-clause-one c = c.keep.ensures.one
+pub returns-in-Ok-clause-one : goal.returns-in-Ok-clause-one
+returns-in-Ok-clause-one c = c.keep.ensures.one
 
 pub returns-in-Err-clause-idle : goal.returns-in-Err-clause-idle
 returns-in-Err-clause-idle c = λ _. (refl, refl)

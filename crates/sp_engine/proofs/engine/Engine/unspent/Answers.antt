@@ -19,9 +19,9 @@ use Rattle.sp_engine.proofs.engine.Engine.unspent.Goals as goal
 
 pub returns-clause-names : goal.returns-clause-names
 returns-clause-names c =
-    let e = engine_of c.self.view_is c.self.invariant c.requires in
-    let h = accepting_of c.self.view_is c.self.invariant c.requires in
-    let p = paying_of c.self.view_is c.self.invariant c.requires in
+    let e = engine_of c.self.view_is c.self.invariant in
+    let h = accepting_of c.self.view_is c.self.invariant in
+    let p = paying_of c.self.view_is c.self.invariant in
     let profile = c.self.inside.dag.profile in
     let kept = c.args.self.now.kept in
     let txs = c.self.inside.carriers.txs in
@@ -36,7 +36,7 @@ returns-clause-names c =
 
 pub returns-clause-own : goal.returns-clause-own
 returns-clause-own c plain =
-    let e = engine_of c.self.view_is c.self.invariant c.requires in
+    let e = engine_of c.self.view_is c.self.invariant in
     let profile = c.args.self.now.profile in
     let kept = c.args.self.now.kept in
     IfOk-weaker c.unspent.result _ _

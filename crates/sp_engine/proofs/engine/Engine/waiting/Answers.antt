@@ -1,15 +1,14 @@
-use Rattle.std.proofs.Common.{◌∙◌, ap, arith, length}
+use Rattle.std.proofs.Common.{ap, arith, length}
 use Rattle.sp_engine.proofs.Facts.{engine_of, few_present, present_count}
 use Rattle.sp_engine.proofs.engine.Engine.waiting.Goals as goal
 
 pub overflow_sub-result : goal.overflow_sub-result
 overflow_sub-result c =
-    let whole = ap (λ l. l.broken) c.self.view_is ∙ c.requires in
-    omega (arith, few_present (c.self.invariant whole).0, c.len.ensures.value, c.kept.ensures.count)
+    omega (arith, few_present c.self.invariant.0, c.len.ensures.value, c.kept.ensures.count)
 
 pub returns-clause-count : goal.returns-clause-count
 returns-clause-count c =
-    let e = engine_of c.self.view_is c.self.invariant c.requires in
+    let e = engine_of c.self.view_is c.self.invariant in
     let same = ap (λ l. length l.kept) c.self.view_is in
     omega (arith, few_present e, present_count e, same, c.len.ensures.value, c.kept.ensures.count)
 

@@ -5,7 +5,7 @@ use Rattle.sp_feed.specs.Messages.{said_by}
 use Rattle.sp_node.specs.Answers.{IsQuestion, IsTextOf}
 use Rattle.sp_node.specs.Journalled.{IsKeptOn}
 use Rattle.sp_node.specs.Node.{State}
-use Rattle.sp_node.proofs.Questions.{if_question, is_question, on_ok, question_cause, question_keeps, question_leaves}
+use Rattle.sp_node.proofs.Questions.{as_before, if_question, is_question, on_ok, question_cause, question_keeps, question_leaves}
 use Rattle.sp_node.proofs.node.Node.message.Goals as goal
 
 pub answer-requires-clause-question : goal.answer-requires-clause-question
@@ -41,6 +41,7 @@ returns-in-Block g c =
       balance = λ lock other fault. cc (is, other);
       later = done.later;
       stopped = done.stopped;
+      refused = done.refused;
     }
 
 pub returns-in_default : goal.returns-in_default
@@ -79,4 +80,5 @@ returns-in_default g c =
       balance = λ lock is fault. subst IsTextOf is (done.memory fault).0;
       later = done.later;
       stopped = ap (λ (s : State). s.stopped) done.state;
+      refused = as_before before c.answer.new.self result c.requires.live done.state;
     }

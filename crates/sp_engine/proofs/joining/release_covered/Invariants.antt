@@ -2,13 +2,13 @@ use Rattle.std.proofs.Common.{◌≡◌, ◌<◌, ◌≤◌, ◌+◌, ◌-◌, �
 use Rattle.std.specs.Prelude.{filter, vec_len}
 use Rattle.sp_dag.specs.Numbered.{Numbered}
 use Rattle.sp_view.specs.Stored.{count_of, row_of}
-use Rattle.sp_engine.specs.Votes.{held_by, is_beyond, AreViews}
-use Rattle.sp_engine.proofs.joining.release_within.Given as goal
+use Rattle.sp_engine.specs.Votes.{held_by, is_uncovered, AreViews}
+use Rattle.sp_engine.proofs.joining.release_covered.Given as goal
 
 abbrev pub invariant-views : goal.invariant-views
 invariant-views l = record {
   place : l.i ≤ vec_len l.views;
-  rest : filter (is_beyond l.past) l.fn.views.items ≡ take l.i l.views.items ++ filter (is_beyond l.past) (drop l.i l.views.items);
+  rest : filter (is_uncovered l.dag) l.fn.views.items ≡ take l.i l.views.items ++ filter (is_uncovered l.dag) (drop l.i l.views.items);
   views : (table : Numbered) (n : ℕ) → AreViews table l.fn.rows n l.fn.views.items → AreViews table l.rows n l.views.items;
   counts : (row : ℕ) → count_of l.rows row + held_by l.fn.views.items row ≡ count_of l.fn.rows row + held_by l.views.items row;
   rows : (row : ℕ) → 0 < count_of l.rows row → row_of l.rows row ≡ row_of l.fn.rows row;

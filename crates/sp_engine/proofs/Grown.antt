@@ -1,0 +1,122 @@
+-- One block has joined the votes, and the views of its parents are let go: the votes grew by it.
+use Rattle.std.proofs.Common.{◌≡◌, ℕ, ◌+◌, ◌-◌, ◌<◌, ◌≤◌, Bool, true, false, cond, List, [], ◌∷◌, ◌++◌, length, map, take, get_or, Some, sym, ap, subst, ◌∙◌, inl, inr, arith, length-append}
+use Rattle.std.specs.Prelude.{filter, not, slice_get}
+use Rattle.std.specs.List.{list_any, range_with_len}
+use Rattle.std.proofs.lemmas.Bool.{cases_lt, false≢true, false_from_ne_true}
+use Rattle.std.proofs.lemmas.List.{append_assoc}
+use Rattle.std.proofs.lemmas.List.Elements.{filter-append}
+use Rattle.std.proofs.lemmas.Option.{slice_get_within}
+use Rattle.sp_bits.specs.Places.{IsGreatest}
+use Rattle.sp_dag.specs.Numbered.{AreInOrder, Numbered}
+use Rattle.sp_model.specs.Graph.{has}
+use Rattle.sp_view.specs.Views.{AreKeptIds, Viewed}
+use Rattle.sp_engine.specs.Votes.{bar_row, Grew, HaveJoined, is_tip, is_top_tip, is_uncovered, IsDerived, IsOfAll, IsOfTip, JoinedAlone, Tallied}
+use Rattle.sp_engine.proofs.Bars.{any_at, one_top, top_of_bar}
+use Rattle.sp_engine.proofs.Covering.{all_is, behind, in_front, of_tip, passed, passes}
+use Rattle.sp_engine.proofs.Settled.{all_stays, bar_stays, last_tip}
+use Rattle.sp_engine.proofs.TopTips.{any_place}
+
+-- a tip that the next block hasn't as a parent is one still
+tip_still : (table : Numbered) (n t : ℕ) → n + 1 ≡ length table.parents → is_tip (take n table.parents) t ≡ true → has (get_or table.parents n []) t ≡ false → is_tip table.parents t ≡ true
+tip_still table n t last tip none =
+    ap not (false_from_ne_true (list_any (λ ps. has ps t) table.parents) (λ h.
+    let child = any_place (λ ps. has ps t) table.parents h in
+    elim (cases_lt child.0 n) [
+      | inl less ↦ absurd (false≢true (sym (ap not (any_at (λ ps. has ps t) table.parents n child.0 less child.1 child.2)) ∙ tip))
+      | inr more ↦
+          let same : child.0 ≡ n = omega (arith, more, child.1, last) in
+          absurd (false≢true (sym none ∙ ap (λ (k : ℕ). has (get_or table.parents k []) t) (sym same) ∙ child.2))
+    ]))
+
+first_of : (x y : List ℕ) → x ∷ [] ≡ y ∷ [] → x ≡ y
+first_of x y e = cc
+
+module _ (table : Numbered) (order : AreInOrder table.parents) (small : length table.parents ≤ 512) (n : ℕ) (last : n + 1 ≡ length table.parents)
+    (old v new : Tallied) (was : Viewed) (h : HaveJoined table n old v was) (rest : new.views ≡ filter (is_uncovered table) v.views) where
+  joined : (tip : Viewed) × (h.joining.joined ≡ tip ∷ []) × JoinedAlone table n old.views was tip h.joining.all
+  joined = h.one (omega (arith, h.every, last))
+
+  abbrev tip : Viewed
+  tip = joined.0
+
+  abbrev olds : List Viewed
+  olds = h.joining.olds
+
+  abbrev all : Viewed
+  all = h.joining.all
+
+  abbrev left : List Viewed
+  left = filter (is_uncovered table) olds
+
+  own : tip.members ≡ bar_row table n
+  own = first_of tip.members (bar_row table n) (
+      ap (map (λ (view : Viewed). view.members)) (sym joined.1) ∙ h.each
+      ∙ ap (λ (k : ℕ). map (bar_row table) (range_with_len n k)) (let one : length table.parents - n ≡ 1 = omega (arith, last) in one)
+      )
+
+  new_is : new.views ≡ left ++ tip ∷ all ∷ []
+  new_is =
+      let stays : is_uncovered table tip ≡ true = ap (is_top_tip table) own ∙ bar_stays table order small n (omega (arith, last)) ∙ last_tip table order small n last in
+      let stays_all : is_uncovered table all ≡ true = ap (is_top_tip table) h.members ∙ all_stays table order small n last in
+      rest ∙ ap (filter (is_uncovered table)) (h.joining.is ∙ ap (λ (l : List Viewed). olds ++ (l ++ all ∷ [])) joined.1)
+      ∙ filter-append (is_uncovered table) olds (tip ∷ all ∷ [])
+      ∙ ap (λ (c : Bool). left ++ cond c (tip ∷ cond (is_uncovered table all) (all ∷ []) []) (cond (is_uncovered table all) (all ∷ []) [])) stays
+      ∙ ap (λ (c : Bool). left ++ tip ∷ cond c (all ∷ []) []) stays_all
+
+  long : length new.views ≡ length left + 2
+  long = omega (arith, ap length new_is, length-append left (tip ∷ all ∷ []))
+
+  old_long : length old.views ≡ length olds + 1
+  old_long = omega (arith, ap length h.joining.old_is, length-append h.joining.olds (was ∷ []))
+
+  -- an old view before the last one is that of a tip
+  old_tip : (i : ℕ) (view : Viewed) → slice_get old.views i ≡ Some view → i < length olds → (t : ℕ) × (t < n) × (is_tip (take n table.parents) t ≡ true) × (view.members ≡ bar_row table t)
+  old_tip i view at lt = of_tip table n old.views i view h.joining.tips (omega (arith, last)) at (omega (arith, lt, old_long))
+
+  was_all : (view : Viewed) → IsOfAll old view → view ≡ was
+  was_all view at = all_is old h.joining.olds was view h.joining.old_is at
+
+  is_all : (view : Viewed) → IsOfAll new view → view ≡ all
+  is_all view at = all_is new (left ++ tip ∷ []) all view (new_is ∙ sym (append_assoc left (tip ∷ []) (all ∷ []))) at
+
+  is_new_tip : (view : Viewed) → IsOfTip table new n view → view ≡ tip
+  is_new_tip view at =
+      let here : slice_get (left ++ tip ∷ all ∷ []) at.0 ≡ Some view = ap (λ (l : List Viewed). slice_get l at.0) (sym new_is) ∙ at.1 in
+      elim (cases_lt at.0 (length left)) [
+        | inl less ↦
+            let found = passed (is_uncovered table) olds at.0 view (sym (in_front left (tip ∷ all ∷ []) at.0 less) ∙ here) in
+            let within : found.0 < length olds = slice_get_within olds found.0 view found.1 in
+            let there : slice_get old.views found.0 ≡ Some view = ap (λ (l : List Viewed). slice_get l found.0) h.joining.old_is ∙ in_front olds (was ∷ []) found.0 within ∙ found.1 in
+            let one = old_tip found.0 view there within in
+            let same : n ≡ one.0 = one_top table order small view.members one.0 n (omega (arith, one.1, last)) one.3 (subst (λ (l : List ℕ). IsGreatest l n) (sym at.3) (top_of_bar table order small n (omega (arith, last)))) in
+            absurd (omega (arith, same, one.1))
+        | inr more ↦
+            let there : slice_get (tip ∷ all ∷ []) 0 ≡ Some view = sym (behind left (tip ∷ all ∷ []) at.0 0 (omega (arith, more, at.2, long))) ∙ here in
+            let e : tip ≡ view = cc in sym e
+      ]
+
+  other_stays : (k : ℕ) (view : Viewed) → k < n → IsOfTip table old k view → has (get_or table.parents n []) k ≡ false → IsOfTip table new k view
+  other_stays k view lt at none =
+      let within : at.0 < length olds = omega (arith, at.2, old_long) in
+      let one = old_tip at.0 view at.1 within in
+      let same : k ≡ one.0 = one_top table order small view.members one.0 k (omega (arith, one.1, last)) one.3 (subst (λ (l : List ℕ). IsGreatest l k) (sym at.3) (top_of_bar table order small k (omega (arith, lt, last)))) in
+      let stays : is_uncovered table view ≡ true =
+      ap (is_top_tip table) at.3 ∙ bar_stays table order small k (omega (arith, lt, last))
+      ∙ tip_still table n k last (ap (is_tip (take n table.parents)) same ∙ one.2) none in
+      let in_it : slice_get olds at.0 ≡ Some view = sym (in_front olds (was ∷ []) at.0 within) ∙ ap (λ (l : List Viewed). slice_get l at.0) (sym h.joining.old_is) ∙ at.1 in
+      let found = passes (is_uncovered table) olds at.0 view in_it stays in
+      let place : found.0 < length left = slice_get_within left found.0 view found.1 in (
+        found.0,
+        ap (λ (l : List Viewed). slice_get l found.0) new_is ∙ in_front left (tip ∷ all ∷ []) found.0 place ∙ found.1,
+        omega (arith, place, long),
+        at.3,
+      )
+
+  pub grew : Grew table n old new
+  grew = record {
+    all = λ view view' at at'.
+        subst (λ (x : Viewed). AreKeptIds table x.members view'.members x.entries view'.entries) (sym (was_all view at))
+        (subst (λ (x : Viewed). AreKeptIds table was.members x.members was.entries x.entries) (sym (is_all view' at')) joined.2.kept);
+    tip = λ i base view best at. subst (λ (x : Viewed). IsDerived table n old.views x) (sym (is_new_tip view at)) joined.2.derived i base best;
+    others = other_stays;
+  }

@@ -1,0 +1,17 @@
+use Rattle.std.proofs.Common.{◌≡◌, ◌<◌, ◌+◌, ◌++◌, ◌∷◌, [], ℕ, List, length}
+use Rattle.std.specs.Prelude.{vec_len}
+use Rattle.sp_view.specs.Stored.{count_of, row_of}
+use Rattle.sp_view.specs.Views.{Viewed}
+use Rattle.sp_engine.specs.Votes.{held_by}
+use Rattle.sp_engine.proofs.joining.release_joined.Given as goal
+
+abbrev pub invariant-views : goal.invariant-views
+invariant-views l = record {
+  place : l.place < vec_len l.views;
+  rest : (front joined : List Viewed) (last : Viewed) → l.place ≡ length front → l.fn.views.items ≡ front ++ (joined ++ last ∷ []) → (left : List Viewed) × (l.views.items ≡ front ++ (left ++ last ∷ []));
+  counts : (row : ℕ) → count_of l.rows row + held_by l.fn.views.items row ≡ count_of l.fn.rows row + held_by l.views.items row;
+  rows : (row : ℕ) → 0 < count_of l.rows row → row_of l.rows row ≡ row_of l.fn.rows row;
+}
+
+abbrev pub decreases-views : goal.decreases-views
+decreases-views l = vec_len l.views
