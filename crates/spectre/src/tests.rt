@@ -17,6 +17,7 @@ mod feed_bytes;
 mod feeds;
 mod fresh;
 mod halves;
+mod hostile;
 mod journals;
 mod judging;
 mod large;

@@ -80,6 +80,15 @@ const FLOWS: &[Flow] = &[
         growth: &[(91, 80), (148, 160), (217, 299)],
     },
     Flow {
+        name: "a block that waits, and one with a byte behind it",
+        messages: b"W\nW+\n",
+        tail: END,
+        reads: 154,
+        status: Status::Done,
+        output: b"kept W waiting\nrefused trailing\n",
+        growth: &[(91, 78), (149, 95)],
+    },
+    Flow {
         name: "no end",
         messages: b"A\n",
         tail: b"",
