@@ -1,9 +1,16 @@
 #!/usr/bin/env python3
-"""Plays a scenario of 40 blocks with each allocation of the program refused in turn: each run has to
-end with the code of Memory, and to write a front of what it writes with memory. A list that grows asks
-for twice its room and, where that is refused, once more for what it needs; where that is granted, the
-run has to end with 0 and to write all. It needs gcc, and runs from anywhere; SPECTRE names another
-program than the one that bin/spectre has built."""
+"""Refuses the program its memory: each allocation of a run in turn, once, and each with all that follow.
+
+    python3 examples/refused.py
+
+A run has to end with the code of Memory then, and to write a front of what it writes with memory. A list
+that grows asks for twice its room and, where that is refused once, again for what it needs; where that is
+granted, the run has to end as it does with memory, and to write all. Of `node`, `show` then finds a journal
+with at least the blocks whose lines were written, or none where no line was.
+
+The runs: a scenario of 40 blocks with a list of all pairs and a report, one in which payments turn, a feed
+of 60 blocks with payments, and a node that is sent two blocks. It needs gcc, and runs from anywhere;
+SPECTRE names another program than the one that bin/spectre has built."""
 
 import os
 import subprocess
@@ -15,7 +22,7 @@ SPECTRE = os.environ.get("SPECTRE", os.path.join(TOP, "crates", "spectre", "out"
 MEMORY = 9
 QUESTIONS = b"vote b1 b40\npairs\nreport\n"
 
-# Counts the calls that take memory, and refuses one of them.
+# Counts the calls that take memory, and refuses one of them, or all from it on.
 SHIM = r"""
 #define _GNU_SOURCE
 #include <dlfcn.h>
@@ -24,7 +31,7 @@ SHIM = r"""
 #include <stdlib.h>
 #include <string.h>
 #include <unistd.h>
-static long count = 0, at = -2;
+static long count = 0, at = -2, all = 0;
 static void *(*real_malloc)(size_t);
 static void *(*real_realloc)(void *, size_t);
 static void *(*real_aligned)(size_t, size_t);
@@ -33,12 +40,14 @@ static int is_refused(void) {
     if (at == -2) {
         const char *given = getenv("REFUSED");
         at = given ? atol(given) : -1;
+        all = getenv("ALL") != 0;
         real_malloc = dlsym(RTLD_NEXT, "malloc");
         real_realloc = dlsym(RTLD_NEXT, "realloc");
         real_aligned = dlsym(RTLD_NEXT, "aligned_alloc");
         real_memalign = dlsym(RTLD_NEXT, "posix_memalign");
     }
-    if (count++ != at) return 0;
+    long now = count++;
+    if (at < 0 || (all ? now < at : now != at)) return 0;
     errno = ENOMEM;
     return 1;
 }
@@ -54,32 +63,96 @@ __attribute__((destructor)) static void tell(void) {
 """
 
 
+# Payments that turn as blocks come.
+TURNS = b"""grant g 100 to alice
+tx p spends g.0 pays 100 to bob
+tx q spends g.0 pays 100 to carol
+block A on G carries p
+block B on G carries q
+tx r spends p.0 pays 100 to dave
+block C on A carries r
+balance dave
+block D on B
+block E on B
+state q
+state p
+state r
+balance carol
+balance dave
+"""
+
+
+def made(*words, given=b""):
+    return subprocess.run([SPECTRE, *words], input=given, capture_output=True, check=True).stdout
+
+
+class Trials:
+    """Runs of one command on one input, each from nothing."""
+
+    def __init__(self, folder, shim, name, words, given):
+        self.name, self.words, self.given = name, words, given
+        self.env = dict(os.environ, LD_PRELOAD=shim)
+        self.file = os.path.join(folder, "journal") if "node" in words else None
+        self.counted = os.path.join(folder, "counted")
+        self.whole = self.run(COUNTED=self.counted)
+        if self.whole.returncode != 0:
+            sys.exit(f"{name}: it failed with memory")
+
+    def run(self, **more):
+        if self.file and os.path.exists(self.file):
+            os.remove(self.file)
+        words = [SPECTRE, *self.words, *([self.file] if self.file else [])]
+        return subprocess.run(words, input=self.given, env=dict(self.env, **more), capture_output=True)
+
+    def count(self):
+        with open(self.counted, "rb") as file:
+            return int.from_bytes(file.read(), sys.byteorder)
+
+    def keeps(self, run):
+        """Whether the journal has at least the blocks whose lines were written."""
+        if not self.file:
+            return True
+        told = run.stdout.count(b"kept ")
+        shown = subprocess.run([SPECTRE, "show", self.file], capture_output=True)
+        if not shown.stdout.startswith(b"recovered "):
+            return told == 0
+        return int(shown.stdout.split()[1]) >= told
+
+    def judge(self, number, spared, **more):
+        run = self.run(REFUSED=str(number), **more)
+        if not self.keeps(run):
+            sys.exit(f"{self.name}: allocation {number}: a block was lost")
+        if spared is not None and run.returncode == 0 and run.stdout == self.whole.stdout:
+            return spared + 1
+        if run.returncode != MEMORY or not self.whole.stdout.startswith(run.stdout):
+            sys.exit(f"{self.name}: allocation {number}: it ended with {run.returncode}")
+        return spared
+
+    def all(self):
+        spared, count = 0, self.count()
+        for number in range(count):
+            spared = self.judge(number, spared)
+            self.judge(number, None, ALL="1")
+        print(f"{self.name}: {count} allocations, each refused once, and each with all that follow: Memory, and a front")
+        print(f"of the output; but for {spared} refused once, where less was asked for, and all was written")
+
+
 def main():
-    text = subprocess.run([SPECTRE, "make", "40", "1", "4"], capture_output=True, check=True).stdout
+    drawn = made("make", "40", "1", "4")
+    feed = made("build", given=made("make", "60", "7", "3") + b"report\n")
+    two = made("build", given=b"block A on G\nblock B on G\n")
     with tempfile.TemporaryDirectory() as folder:
-        shim, counted = os.path.join(folder, "shim.so"), os.path.join(folder, "counted")
+        shim = os.path.join(folder, "shim.so")
         build = ["gcc", "-shared", "-fPIC", "-x", "c", "-o", shim, "-", "-ldl"]
         subprocess.run(build, input=SHIM.encode(), check=True)
-
-        def play(**more):
-            env = dict(os.environ, LD_PRELOAD=shim, **more)
-            return subprocess.run([SPECTRE, "play"], input=text + QUESTIONS, env=env, capture_output=True)
-
-        whole = play(COUNTED=counted)
-        with open(counted, "rb") as file:
-            count = int.from_bytes(file.read(), sys.byteorder)
-        if whole.returncode != 0:
-            sys.exit("it failed with memory")
-        spared = 0
-        for number in range(count):
-            run = play(REFUSED=str(number))
-            if run.returncode == 0 and run.stdout == whole.stdout:
-                spared += 1
-                continue
-            if run.returncode != MEMORY or not whole.stdout.startswith(run.stdout):
-                sys.exit(f"allocation {number}: it ended with {run.returncode}")
-        print(f"{count} allocations, each refused once: Memory, and a front of the output;")
-        print(f"but for {spared}, where less was asked for, and all was written")
+        runs = [
+            ("a scenario of 40 blocks", ["play"], drawn + QUESTIONS),
+            ("payments that turn", ["play"], TURNS),
+            ("a feed of 60 blocks", ["replay"], feed),
+            ("a node", ["node"], two),
+        ]
+        for name, words, given in runs:
+            Trials(folder, shim, name, words, given).all()
 
 
 if __name__ == "__main__":
