@@ -1,7 +1,7 @@
 //! Memory that is refused to an arrival: the engine is as it was, takes the block when it comes again, and
-//! answers in the end as one that was never refused. `rt try --test --fail-alloc 1..` refuses each
-//! allocation in turn, and tells where what is written differs from a run without refusals: nothing is
-//! written where the scene or the engine couldn't be made.
+//! answers in the end as one that was never refused. The gate runs this with memory;
+//! `rt try --test --fail-alloc N` refuses the Nth allocation. What is written has to be the same as
+//! without a refusal, but that nothing is written where the scene or the engine couldn't be made.
 
 use sp_engine::Engine;
 use sp_feed::{FeedHead, Message};
