@@ -1,5 +1,5 @@
 -- The votes of no blocks, and those of genesis alone.
-use Rattle.std.proofs.Common.{◌≡◌, ℕ, ◌≤◌, ◌-◌, length, map, take, ap, ◌∙◌, sym, subst, arith, List, [], ◌∷◌, ◌++◌, refl}
+use Rattle.std.proofs.Common.{◌≡◌, ℕ, ◌≤◌, length, map, take, ap, ◌∙◌, sym, subst, arith, List, [], ◌∷◌, ◌++◌, ◌+◌, refl, length-append}
 use Rattle.std.specs.List.{range_with_len}
 use Rattle.std.proofs.lemmas.Bool.{false≢true}
 use Rattle.sp_dag.specs.Numbered.{Numbered, AreInOrder}
@@ -8,7 +8,7 @@ use Rattle.sp_rows.specs.Pool.{Counted, Pool}
 use Rattle.sp_view.specs.Stored.{count_of}
 use Rattle.sp_view.specs.Views.{IsView, Viewed}
 use Rattle.sp_view.proofs.Starting.{view_nothing}
-use Rattle.sp_engine.specs.Votes.{AreVoted, bar_row, empty_view, HaveJoined, HaveJoinedBut, Tallied, tips_of}
+use Rattle.sp_engine.specs.Votes.{AreVoted, bar_row, empty_view, HaveJoined, HaveJoinedBut, Tallied, tips_from, tips_of}
 
 -- those of no blocks, where genesis joins next
 pub joined_none : (table : Numbered) → AreInOrder table.parents → length table.parents ≡ 1 → (frozen : FrozenRows) (rows : Pool) (views : List Viewed)
@@ -59,6 +59,10 @@ joined_none table order single frozen rows views f r v =
     none : (row : ℕ) → count_of rows row ≡ 0
     none row = subst (λ (l : List Counted). count_of (record { rows = l; spare = rows.spare }) row ≡ 0) (sym r) refl
 
+-- they have one view
+pub one_view : (table : Numbered) (old v : Tallied) → HaveJoinedBut table 0 old v empty_view → 0 + 1 ≡ length old.views
+one_view table old v h = omega (arith, h.joining.few, ap length h.joining.old_is, length-append h.joining.olds (empty_view ∷ []))
+
 -- those of genesis, which has joined those of no blocks
 pub voted_alone : (table : Numbered) (old v : Tallied) → table.parents ≡ [] ∷ [] → HaveJoined table 0 old v empty_view → AreVoted table v
 voted_alone table old v alone h = record {
@@ -71,7 +75,7 @@ voted_alone table old v alone h = record {
       all = h.joining.all;
       is = h.joining.is ∙ ap (λ (l : List Viewed). l ++ (h.joining.joined ++ h.joining.all ∷ [])) (no_items h.joining.olds h.joining.few);
       each =
-          h.each ∙ ap (λ (p : List (List ℕ)). map (bar_row table) (range_with_len 0 (length p - 0))) alone
+          h.each ∙ ap (λ (p : List (List ℕ)). map (bar_row table) (tips_from p 0)) alone
           ∙ sym (ap (λ (p : List (List ℕ)). map (bar_row table) (tips_of (take 1 p))) alone)
           ∙ ap (λ (k : ℕ). map (bar_row table) (tips_of (take k table.parents))) (let e : 1 ≡ v.frozen.blocks = omega (arith, h.every, ap length alone) in e);
       members = h.members ∙ ap (range_with_len 0) (sym h.every);

@@ -1,6 +1,7 @@
 -- One of some views is let go.
 use Rattle.std.proofs.Common.{◌≡◌, ℕ, zero, suc, ◌+◌, ◌<◌, ◌≤◌, Bool, true, false, cond, List, [], ◌∷◌, ◌++◌, length, get_or, take, drop, refl, sym, ap, subst, ◌∙◌, arith}
 use Rattle.std.specs.Prelude.{filter}
+use Rattle.std.proofs.Math.Seq.{drop-append_seam, take-append_seam}
 use Rattle.sp_dag.specs.Numbered.{Numbered}
 use Rattle.sp_rows.specs.Pool.{Pool}
 use Rattle.sp_view.specs.Stored.{count_of, row_of}
@@ -50,20 +51,27 @@ module _ (test : Viewed → Bool) where
   next_fails (v ∷ vs) zero d lt e = ap (λ (b : Bool). cond b (v ∷ filter test vs) (filter test vs)) e
   next_fails (v ∷ vs) (suc i) d lt e = ap (λ (l : List Viewed). v ∷ l) (next_fails vs i d (omega (arith, lt)) e)
 
-  pub goes_on : (all xs : List Viewed) (i : ℕ) (d : Viewed) → i < length xs → test (get_or xs i d) ≡ true → filter test all ≡ take i xs ++ filter test (drop i xs)
-      → filter test all ≡ take (i + 1) xs ++ filter test (drop (i + 1) xs)
-  goes_on all xs i d lt e h = h ∙ next_passes xs i d lt e ∙ ap (λ (k : ℕ). take k xs ++ filter test (drop k xs)) (let s : suc i ≡ i + 1 = omega arith in s)
+  pub goes_on : (left xs : List Viewed) (i : ℕ) (d : Viewed) → i < length xs → test (get_or xs i d) ≡ true → left ≡ take i xs ++ filter test (drop i xs)
+      → left ≡ take (i + 1) xs ++ filter test (drop (i + 1) xs)
+  goes_on left xs i d lt e h = h ∙ next_passes xs i d lt e ∙ ap (λ (k : ℕ). take k xs ++ filter test (drop k xs)) (let s : suc i ≡ i + 1 = omega arith in s)
 
-  pub without_it : (all xs new : List Viewed) (i : ℕ) (d : Viewed) → new ≡ take i xs ++ drop (i + 1) xs → i < length xs → test (get_or xs i d) ≡ false
-      → filter test all ≡ take i xs ++ filter test (drop i xs) → filter test all ≡ take i new ++ filter test (drop i new)
-  without_it all xs new i d is lt e h =
+  pub without_it : (left xs new : List Viewed) (i : ℕ) (d : Viewed) → new ≡ take i xs ++ drop (i + 1) xs → i < length xs → test (get_or xs i d) ≡ false
+      → left ≡ take i xs ++ filter test (drop i xs) → left ≡ take i new ++ filter test (drop i new)
+  without_it left xs new i d is lt e h =
       h ∙ next_fails xs i d lt e ∙ ap (λ (l : List Viewed). take i l ++ filter test (drop i l)) (sym (one_more xs i new is))
 
-  pub at_end : (all xs : List Viewed) (i : ℕ) → length xs ≤ i → filter test all ≡ take i xs ++ filter test (drop i xs) → xs ≡ filter test all
-  at_end all xs i le h = sym (h ∙ ended xs i le)
+  pub at_end : (left xs : List Viewed) (i : ℕ) → length xs ≤ i → left ≡ take i xs ++ filter test (drop i xs) → xs ≡ left
+  at_end left xs i le h = sym (h ∙ ended xs i le)
     where
       ended : (xs : List Viewed) (i : ℕ) → length xs ≤ i → take i xs ++ filter test (drop i xs) ≡ xs
       ended [] zero le = refl
       ended [] (suc i) le = refl
       ended (v ∷ vs) zero le = absurd (omega (arith, le))
       ended (v ∷ vs) (suc i) le = ap (λ (l : List Viewed). v ∷ l) (ended vs i (omega (arith, le)))
+
+  -- at first none behind a front was looked at
+  pub at_first : (front back xs : List Viewed) (i : ℕ) → i ≡ length front → xs ≡ front ++ back → front ++ filter test back ≡ take i xs ++ filter test (drop i xs)
+  at_first front back xs i at is =
+      sym (ap (λ (l : List Viewed). take i l ++ filter test (drop i l)) is ∙ ap (λ (k : ℕ). take k (front ++ back) ++ filter test (drop k (front ++ back))) at
+      ∙ ap (λ (l : List Viewed). l ++ filter test (drop (length front) (front ++ back))) (take-append_seam front back)
+      ∙ ap (λ (l : List Viewed). front ++ filter test l) (drop-append_seam front back))

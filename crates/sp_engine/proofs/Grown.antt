@@ -13,7 +13,7 @@ use Rattle.sp_view.specs.Views.{AreKeptIds, Viewed}
 use Rattle.sp_engine.specs.Votes.{bar_row, Grew, HaveJoined, is_tip, is_top_tip, is_uncovered, IsDerived, IsOfAll, IsOfTip, JoinedAlone, Tallied}
 use Rattle.sp_engine.proofs.Bars.{any_at, one_top, top_of_bar}
 use Rattle.sp_engine.proofs.Covering.{all_is, behind, in_front, of_tip, passed, passes}
-use Rattle.sp_engine.proofs.Settled.{all_stays, bar_stays, last_tip}
+use Rattle.sp_engine.proofs.StillTips.{all_stays, bar_stays, last_tip}
 use Rattle.sp_engine.proofs.TopTips.{any_place}
 
 -- a tip that the next block hasn't as a parent is one still
@@ -51,7 +51,8 @@ module _ (table : Numbered) (order : AreInOrder table.parents) (small : length t
   own : tip.members ≡ bar_row table n
   own = first_of tip.members (bar_row table n) (
       ap (map (λ (view : Viewed). view.members)) (sym joined.1) ∙ h.each
-      ∙ ap (λ (k : ℕ). map (bar_row table) (range_with_len n k)) (let one : length table.parents - n ≡ 1 = omega (arith, last) in one)
+      ∙ ap (λ (k : ℕ). map (bar_row table) (filter (is_tip table.parents) (range_with_len n k))) (let one : length table.parents - n ≡ 1 = omega (arith, last) in one)
+      ∙ ap (λ (c : Bool). map (bar_row table) (cond c (n ∷ []) [])) (last_tip table order small n last)
       )
 
   new_is : new.views ≡ left ++ tip ∷ all ∷ []

@@ -1,26 +1,23 @@
 -- A block joins the votes, behind those of the arrival that did.
-use Rattle.std.proofs.Common.{◌≡◌, ℕ, zero, suc, ◌+◌, ◌-◌, ◌<◌, ◌≤◌, List, [], ◌∷◌, ◌++◌, length, map, take, refl, sym, ap, subst, ◌∙◌, inl, inr, true, arith, length-append}
+use Rattle.std.proofs.Common.{◌≡◌, ℕ, ◌+◌, ◌<◌, ◌≤◌, Bool, true, cond, List, [], ◌∷◌, ◌++◌, length, map, take, refl, sym, ap, subst, ◌∙◌, arith, length-append}
+use Rattle.std.specs.Prelude.{filter}
 use Rattle.std.specs.List.{range_with_len}
-use Rattle.std.proofs.lemmas.Bool.{cases_lt, false≢true}
 use Rattle.std.proofs.lemmas.List.{append_assoc, length-map, map-append}
+use Rattle.std.proofs.lemmas.List.Elements.{filter-append}
+use Rattle.std.proofs.Math.Seq.{take-append_seam}
 use Rattle.sp_dag.specs.Numbered.{AreInOrder, cut_to, IsNumbered, number_of, Numbered, with_block, with_next}
-use Rattle.sp_dag.proofs.NewPairs.{range_more}
 use Rattle.sp_frozen.proofs.Growth.{frozen_stays}
-use Rattle.sp_model.specs.Graph.{has}
 use Rattle.sp_frozen.specs.Voters.{HoldsFrozen}
+use Rattle.sp_rows.specs.Pool.{Pool}
 use Rattle.sp_view.specs.Stored.{count_of, row_of}
 use Rattle.sp_view.specs.Views.{AreKeptIds, held, Viewed}
-use Rattle.sp_engine.specs.Votes.{AreJoining, AreShared, AreViews, bar_row, HaveJoined, HaveJoinedBut, held_by, IsDerived, IsLast, IsPut, JoinedAlone, Tallied}
+use Rattle.sp_engine.specs.Votes.{AreJoining, AreShared, AreViews, bar_row, HaveJoined, HaveJoinedBut, held_by, is_tip, is_top_tip, is_uncovered, IsDerived, IsLast, IsPut, JoinedAlone, Tallied, tips_from}
 use Rattle.sp_engine.proofs.Bars.{bar_old, map_same}
 use Rattle.sp_engine.proofs.Beside.{shared_stays}
-use Rattle.sp_engine.proofs.Covering.{snoc}
+use Rattle.sp_engine.proofs.Covering.{filter_map, filter_rows, snoc}
 use Rattle.sp_engine.proofs.Onward.{take_more, tips_stay}
-use Rattle.sp_engine.proofs.Ranges.{past_range}
 use Rattle.sp_engine.proofs.Sharing.{held_more, views_move, views_stay, views_up}
-
-length-range : (a n : ℕ) → length (range_with_len a n) ≡ n
-length-range a zero = refl
-length-range a (suc n) = (let rest = length-range (a + 1) n in omega (arith, rest))
+use Rattle.sp_engine.proofs.StillTips.{all_stays, bar_stays, last_tip, tips_below, tips_few, tips_more, tips_within}
 
 no_items : (xs : List Viewed) → length xs ≡ 0 → xs ≡ []
 no_items [] e = refl
@@ -83,8 +80,8 @@ module _ (table : Numbered) (n : ℕ) (old v : Tallied) (was : Viewed) where
           length-append h.joining.joined (h.joining.all ∷ []),
           length-map h.joining.joined (λ (view : Viewed). view.members),
           ap length h.each,
-          length-map (range_with_len n (v.frozen.blocks - n)) (bar_row table),
-          length-range n (v.frozen.blocks - n),
+          length-map (tips_from (take v.frozen.blocks table.parents) n) (bar_row table),
+          tips_few table.parents n v.frozen.blocks (omega (arith, h.last)),
         )
 
     pub last_is : (b : ℕ) → b + 1 ≡ length table.parents → IsLast b v.views
@@ -102,8 +99,8 @@ module _ (table : Numbered) (n : ℕ) (old v : Tallied) (was : Viewed) where
       at,
       length-map h.joining.joined (λ (view : Viewed). view.members),
       ap length h.each,
-      length-map (range_with_len n (v.frozen.blocks - n)) (bar_row table),
-      length-range n (v.frozen.blocks - n),
+      length-map (tips_from (take v.frozen.blocks table.parents) n) (bar_row table),
+      tips_few table.parents n v.frozen.blocks (omega (arith, h.last)),
     ))
 
     joined_alone : (tip all : Viewed) → IsDerived table v.frozen.blocks v.views tip → v.frozen.blocks ≡ n → AreKeptIds table h.joining.all.members all.members h.joining.all.entries all.entries → JoinedAlone table n old.views was tip all
@@ -116,52 +113,121 @@ module _ (table : Numbered) (n : ℕ) (old v : Tallied) (was : Viewed) where
           ) (subst (λ (k : ℕ). IsDerived table k v.views tip) at kept);
     }
 
-    pub joined_one : (w : Tallied) (tip : Viewed) → HoldsFrozen table w.frozen → w.frozen.blocks ≡ v.frozen.blocks + 1 → AreViews table w.rows w.frozen.blocks w.views → AreShared table w.rows w.frozen.blocks w.views (was ∷ [])
-        → IsPut table v.frozen.blocks v.views tip w.views → tip.members ≡ bar_row table v.frozen.blocks → IsDerived table v.frozen.blocks v.views tip
-        → ((r : ℕ) (front : List Viewed) (all : Viewed) → v.views ≡ front ++ all ∷ [] → held all.entries r < count_of v.rows r → 0 < count_of w.rows r → row_of w.rows r ≡ row_of v.rows r)
-        → HaveJoined table n old w was
-    joined_one w tip frozen blocks views shared put own kept rows =
-        let j = h.joining in
-        let parts = snoc put.front (j.olds ++ j.joined) put.all j.all (sym put.old_is ∙ j.is ∙ sym (append_assoc j.olds j.joined (j.all ∷ []))) in
-        record {
+    -- the view of block b stands behind those that were there
+    module _ (w : Tallied) (tip : Viewed) (put : IsPut table v.frozen.blocks v.views tip w.views) where
+      parts : (put.front ≡ h.joining.olds ++ h.joining.joined) × (put.all ≡ h.joining.all)
+      parts = snoc put.front (h.joining.olds ++ h.joining.joined) put.all h.joining.all (sym put.old_is ∙ h.joining.is ∙ sym (append_assoc h.joining.olds h.joining.joined (h.joining.all ∷ [])))
+
+      pub put_views : w.views ≡ h.joining.olds ++ ((h.joining.joined ++ tip ∷ []) ++ put.more ∷ [])
+      put_views =
+          put.new_is ∙ ap (λ (l : List Viewed). l ++ tip ∷ put.more ∷ []) parts.0 ∙ append_assoc h.joining.olds h.joining.joined (tip ∷ put.more ∷ [])
+          ∙ ap (λ (l : List Viewed). h.joining.olds ++ l) (sym (append_assoc h.joining.joined (tip ∷ []) (put.more ∷ [])))
+
+    module _ (w : Tallied) (tip : Viewed) (frozen : HoldsFrozen table w.frozen) (blocks : w.frozen.blocks ≡ v.frozen.blocks + 1)
+        (shared : AreShared table w.rows w.frozen.blocks w.views (was ∷ [])) (put : IsPut table v.frozen.blocks v.views tip w.views)
+        (places : (r : ℕ) (front : List Viewed) (all : Viewed) → v.views ≡ front ++ all ∷ [] → held all.entries r < count_of v.rows r → 0 < count_of w.rows r → row_of w.rows r ≡ row_of v.rows r) where
+      ends : (put.front ≡ h.joining.olds ++ h.joining.joined) × (put.all ≡ h.joining.all)
+      ends = parts w tip put
+
+      put_places : (r : ℕ) → 0 < held_by old.views r → row_of w.rows r ≡ row_of old.rows r
+      put_places r some =
+          (let beside : 0 < held_by (was ∷ []) r + held_by put.front r =
+          omega (
+            arith,
+            some,
+            ap (λ (l : List Viewed). held_by l r) h.joining.old_is,
+            held_more h.joining.olds (was ∷ []) r,
+            ap (λ (l : List Viewed). held_by l r) ends.0,
+            held_more h.joining.olds h.joining.joined r,
+          ) in
+          places r put.front put.all put.old_is
+          (omega (arith, beside, h.joining.shared.counts r, ap (λ (l : List Viewed). held_by l r) put.old_is, held_more put.front (put.all ∷ []) r))
+          (omega (arith, beside, shared.counts r, ap (λ (l : List Viewed). held_by l r) put.new_is, held_more put.front (tip ∷ put.more ∷ []) r)))
+          ∙ h.joining.places r some
+
+      -- and those of the blocks that it covers are let go
+      module _ (order : AreInOrder table.parents) (small : length table.parents ≤ 512) (own : tip.members ≡ bar_row table v.frozen.blocks) (kept : IsDerived table v.frozen.blocks v.views tip)
+          (pool : Pool) (left : List Viewed) (left_is : left ≡ h.joining.olds ++ filter (is_uncovered table) ((h.joining.joined ++ tip ∷ []) ++ put.more ∷ []))
+          (left_views : AreViews table pool w.frozen.blocks left) (counts : (r : ℕ) → count_of pool r + held_by w.views r ≡ count_of w.rows r + held_by left r)
+          (rows : (r : ℕ) → 0 < count_of pool r → row_of pool r ≡ row_of w.rows r) where
+        abbrev rest : List Viewed
+        rest = filter (is_uncovered table) h.joining.joined
+
+        stay : filter (is_uncovered table) ((h.joining.joined ++ tip ∷ []) ++ put.more ∷ []) ≡ (rest ++ tip ∷ []) ++ put.more ∷ []
+        stay =
+            let last : is_uncovered table tip ≡ true =
+            ap (is_top_tip table) own ∙ bar_stays table order small v.frozen.blocks (omega (arith, h.last)) ∙ last_tip table order small v.frozen.blocks h.last in
+            let all : is_uncovered table put.more ≡ true =
+            ap (is_top_tip table) (put.members ∙ ap (range_with_len 0) h.last) ∙ all_stays table order small v.frozen.blocks h.last in
+            filter-append (is_uncovered table) (h.joining.joined ++ tip ∷ []) (put.more ∷ [])
+            ∙ ap (λ (c : Bool). filter (is_uncovered table) (h.joining.joined ++ tip ∷ []) ++ cond c (put.more ∷ []) []) all
+            ∙ ap (λ (l : List Viewed). l ++ put.more ∷ []) (
+            filter-append (is_uncovered table) h.joining.joined (tip ∷ []) ∙ ap (λ (c : Bool). rest ++ cond c (tip ∷ []) []) last
+            )
+
+        left_parts : left ≡ h.joining.olds ++ ((rest ++ tip ∷ []) ++ put.more ∷ [])
+        left_parts = left_is ∙ ap (λ (l : List Viewed). h.joining.olds ++ l) stay
+
+        members : map (λ (view : Viewed). view.members) (rest ++ tip ∷ []) ≡ map (bar_row table) (tips_from table.parents n)
+        members =
+            let before : List ℕ = tips_from (take v.frozen.blocks table.parents) n in
+            map-append (λ (view : Viewed). view.members) rest (tip ∷ [])
+            ∙ ap (λ (l : List (List ℕ)). l ++ tip.members ∷ []) (
+            filter_map (is_top_tip table) h.joining.joined ∙ ap (filter (is_top_tip table)) h.each
+            ∙ filter_rows (is_top_tip table) (bar_row table) (is_tip table.parents) before
+            (λ k there. bar_stays table order small k (tips_within table.parents n v.frozen.blocks k h.joining.later (omega (arith, h.last)) there))
+            )
+            ∙ ap (λ (row : List ℕ). map (bar_row table) (filter (is_tip table.parents) before) ++ row ∷ []) own
+            ∙ sym (map-append (bar_row table) (filter (is_tip table.parents) before) (v.frozen.blocks ∷ []))
+            ∙ ap (map (bar_row table)) (tips_more table order small n v.frozen.blocks h.joining.later h.last)
+
+        held_left : (r : ℕ) → count_of pool r ≡ held_by (was ∷ []) r + held_by left r
+        held_left r = omega (arith, counts r, shared.counts r)
+
+        pub joined_one : HaveJoined table n old (record { frozen = w.frozen; rows = pool; views = left }) was
+        joined_one = record {
           joining = record {
             frozen = frozen;
-            before = j.before;
-            rows = j.rows;
-            count = j.count;
-            held = j.held;
-            tips = j.tips;
-            later = omega (arith, j.later, blocks);
-            views = views;
-            shared = shared;
-            olds = j.olds;
-            few = j.few;
-            old_is = j.old_is;
-            joined = j.joined ++ tip ∷ [];
+            before = h.joining.before;
+            rows = h.joining.rows;
+            count = h.joining.count;
+            held = h.joining.held;
+            tips = h.joining.tips;
+            later = omega (arith, h.joining.later, blocks);
+            views = left_views;
+            shared = record {
+              few = shared.few;
+              sound = views_move table w.rows w.frozen.blocks pool (was ∷ []) (λ r. omega (arith, held_left r)) (λ r some. rows r (omega (arith, some, held_left r))) shared.sound;
+              counts = held_left;
+            };
+            olds = h.joining.olds;
+            few = h.joining.few;
+            old_is = h.joining.old_is;
+            joined = rest ++ tip ∷ [];
             all = put.more;
-            is = put.new_is ∙ ap (λ (l : List Viewed). l ++ tip ∷ put.more ∷ []) parts.0 ∙ append_assoc j.olds j.joined (tip ∷ put.more ∷ [])
-                ∙ ap (λ (l : List Viewed). j.olds ++ l) (sym (append_assoc j.joined (tip ∷ []) (put.more ∷ [])));
+            is = left_parts;
             places = λ r some.
-                (let beside : 0 < held_by (was ∷ []) r + held_by put.front r =
-                omega (arith, some, ap (λ (l : List Viewed). held_by l r) j.old_is, held_more j.olds (was ∷ []) r, ap (λ (l : List Viewed). held_by l r) parts.0, held_more j.olds j.joined r) in
-                rows r put.front put.all put.old_is
-                (omega (arith, beside, j.shared.counts r, ap (λ (l : List Viewed). held_by l r) put.old_is, held_more put.front (put.all ∷ []) r))
-                (omega (arith, beside, shared.counts r, ap (λ (l : List Viewed). held_by l r) put.new_is, held_more put.front (tip ∷ put.more ∷ []) r)))
-                ∙ j.places r some;
+                rows r (omega (
+                  arith,
+                  some,
+                  held_left r,
+                  ap (λ (l : List Viewed). held_by l r) h.joining.old_is,
+                  held_more h.joining.olds (was ∷ []) r,
+                  ap (λ (l : List Viewed). held_by l r) left_parts,
+                  held_more h.joining.olds ((rest ++ tip ∷ []) ++ put.more ∷ []) r,
+                ))
+                ∙ put_places r some;
           };
           every = omega (arith, blocks, h.last);
-          each =
-              map-append (λ (view : Viewed). view.members) j.joined (tip ∷ [])
-              ∙ ap (λ (l : List (List ℕ)). l ++ tip.members ∷ []) h.each
-              ∙ ap (λ (row : List ℕ). map (bar_row table) (range_with_len n (v.frozen.blocks - n)) ++ row ∷ []) own
-              ∙ sym (map-append (bar_row table) (range_with_len n (v.frozen.blocks - n)) (v.frozen.blocks ∷ []))
-              ∙ ap (map (bar_row table)) (sym (range_more n (v.frozen.blocks - n) v.frozen.blocks (omega (arith, j.later))))
-              ∙ ap (λ (k : ℕ). map (bar_row table) (range_with_len n k)) (let e : suc (v.frozen.blocks - n) ≡ length table.parents - n = omega (arith, j.later, h.last) in e);
+          each = members;
           members = put.members ∙ ap (range_with_len 0) h.last;
-          none = λ is. absurd (omega (arith, is, blocks, j.later));
+          none = λ is. absurd (omega (arith, is, blocks, h.joining.later));
           one = λ is.
-              let at : v.frozen.blocks ≡ n = omega (arith, is, blocks) in
-              (tip, ap (λ (l : List Viewed). l ++ tip ∷ []) (none_joined at), joined_alone tip put.more kept at (subst (λ (x : Viewed). AreKeptIds table x.members put.more.members x.entries put.more.entries) parts.1 put.kept));
+              let at : v.frozen.blocks ≡ n = omega (arith, is, blocks) in (
+                tip,
+                ap (λ (l : List Viewed). filter (is_uncovered table) l ++ tip ∷ []) (none_joined at),
+                joined_alone tip put.more kept at (subst (λ (x : Viewed). AreKeptIds table x.members put.more.members x.entries put.more.entries) ends.1 put.kept),
+              );
         }
 
 -- where a block is added to the graph, all but that one have joined
@@ -190,18 +256,15 @@ joined_stays table more id salt ps n old v was is numbered order' h =
       };
       last = omega (arith, h.every, length-append table.parents (ps ∷ []));
       each =
-          h.each ∙ ap (λ (k : ℕ). map (bar_row table) (range_with_len n k)) (let e : length table.parents - n ≡ v.frozen.blocks - n = omega (arith, h.every) in e)
-          ∙ map_same (bar_row table) (bar_row (with_next table id salt ps)) (range_with_len n (v.frozen.blocks - n))
-          (λ k there. (let less : k < length table.parents = below k there in sym (bar_old table id salt ps k numbered.order less)));
+          h.each
+          ∙ map_same (bar_row table) (bar_row (with_next table id salt ps)) (tips_from table.parents n)
+          (λ k there. sym (bar_old table id salt ps k numbered.order (tips_below table.parents n k (omega (arith, h.joining.later, h.every)) there)))
+          ∙ ap (λ (t : List (List ℕ)). map (bar_row (with_next table id salt ps)) (tips_from t n)) (
+          sym (take-append_seam table.parents (ps ∷ [])) ∙ ap (λ (k : ℕ). take k (table.parents ++ ps ∷ [])) (sym h.every)
+          );
       members = h.members ∙ ap (range_with_len 0) (sym h.every);
       none = h.none;
     })
-  where
-    below : (k : ℕ) → has (range_with_len n (v.frozen.blocks - n)) k ≡ true → k < length table.parents
-    below k there = elim (cases_lt k (length table.parents)) [
-      | inl less ↦ less
-      | inr over ↦ absurd (false≢true (sym (past_range n (v.frozen.blocks - n) k (omega (arith, over, h.every, h.joining.later))) ∙ there))
-    ]
 
 -- what stands in front of the new block stays
 pub first_stays : (d : Numbered) (id salt : ℕ) (ps : List ℕ) (n : ℕ) → length d.ids ≡ length d.parents → length d.salts ≡ length d.parents → n ≤ length d.parents → cut_to (with_block d id salt ps) n ≡ cut_to d n

@@ -26,6 +26,7 @@ pub mod Facts
 pub mod Released
 pub mod Replacing
 pub mod Retreat
+pub mod StillTips
 pub mod Settled
 pub mod Grown
 pub mod TakenBack

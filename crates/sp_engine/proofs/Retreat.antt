@@ -1,7 +1,7 @@
 -- A fork of the view of all blocks is held while blocks join, and the blocks that joined are taken back.
 use Rattle.std.proofs.Common.{◌≡◌, ℕ, ◌+◌, ◌<◌, ◌≤◌, ◌-◌, List, [], ◌∷◌, ◌++◌, length, map, refl, sym, ap, subst, ◌∙◌, true, Some, arith, length-append}
 use Rattle.std.proofs.lemmas.List.{append_assoc}
-use Rattle.std.specs.Prelude.{slice_get}
+use Rattle.std.specs.Prelude.{filter, slice_get}
 use Rattle.std.specs.List.{range_with_len}
 use Rattle.sp_dag.specs.Numbered.{Numbered}
 use Rattle.sp_model.specs.Graph.{has}
@@ -13,7 +13,7 @@ use Rattle.sp_engine.proofs.Covering.{all_is, few_views}
 use Rattle.sp_engine.proofs.Ending.{EndsWith}
 use Rattle.sp_engine.proofs.Forked.{forked, with_pool}
 use Rattle.sp_engine.proofs.Sharing.{held_more, view_of, views_parts}
-use Rattle.sp_engine.specs.Votes.{AreJoining, AreOfTips, AreSameRows, AreViews, AreVoted, AreVotedBeside, AreWhole, bar_row, HaveJoined, held_by, IsOfAll, Tallied}
+use Rattle.sp_engine.specs.Votes.{AreJoining, AreOfTips, AreSameRows, AreViews, AreVoted, AreVotedBeside, AreWhole, bar_row, HaveJoined, held_by, is_tip, IsOfAll, Tallied}
 
 module _ (table : Numbered) (n : ℕ) (old v : Tallied) (was : Viewed) (j : AreJoining table n old v was) where
   -- what stands before the view of all blocks
@@ -90,7 +90,7 @@ began table v view fork pool voted sound ends counts rows same =
         places = λ r some. rows r;
       };
       every = voted.every;
-      each = ap (λ (k : ℕ). map (bar_row table) (range_with_len (length table.parents) k)) (let e : 0 ≡ length table.parents - length table.parents = omega arith in e);
+      each = ap (λ (k : ℕ). map (bar_row table) (filter (is_tip table.parents) (range_with_len (length table.parents) k))) (let e : 0 ≡ length table.parents - length table.parents = omega arith in e);
       members = ends.members ∙ ap (range_with_len 0) voted.every;
       none = λ _. refl;
       one = λ more. absurd (omega (arith, more, voted.every));

@@ -14,6 +14,7 @@ use Rattle.sp_carry.proofs.Fronts.{used-all}
 use Rattle.sp_accept.specs.Acceptance.{Acceptance}
 use Rattle.sp_money.specs.Accepted.{is_set}
 use Rattle.sp_money.specs.Held.{Held, IsOf}
+use Rattle.sp_money.specs.Locks.{locks_of}
 use Rattle.sp_engine.specs.Engine.{IsPaying, IsWider}
 use Rattle.sp_engine.proofs.Onward.{take_more}
 use Rattle.sp_engine.proofs.Paying.{front_of, goes_nowhere, off_all}
@@ -71,9 +72,16 @@ module _ (k : Carried) (a : Acceptance) (p mid : Held) (txs : ℕ) (at : txs ≡
       ap (λ (l : List Bool). get_or l tx false) wider.flags ∙ get_or-append_right p.accepted (replicate wider.more false) tx false (omega (arith, flags_long, le))
       ∙ off_all wider.more _
 
+  -- the first transactions are those that there were, and have their locks
+  first_txs : take txs wider.list ≡ k.txs
+  first_txs = ap (λ (t : ℕ). take t wider.list) at ∙ front_of k.txs wider.list wider.front
+
+  pub locks_back : (locks : ℕ) → locks ≡ length p.locks → locks ≡ length (locks_of (take txs wider.list))
+  locks_back locks is = is ∙ ap length (paying.of.locks ∙ ap locks_of (sym first_txs))
+
   pub paying_back : (new : Held) → ((list : List Transaction) → IsOf list mid → IsOf (take txs list) new) → new.accepted ≡ take txs mid.accepted → IsPaying k a new
   paying_back new of flags = record {
-    of = subst (λ (l : List Transaction). IsOf l new) (ap (λ (t : ℕ). take t wider.list) at ∙ front_of k.txs wider.list wider.front) (of wider.list wider.of);
+    of = subst (λ (l : List Transaction). IsOf l new) first_txs (of wider.list wider.of);
     same = λ tx lt.
         ap (λ (l : List Bool). get_or l tx false) (
         flags ∙ ap (take txs) wider.flags ∙ take_more p.accepted (replicate wider.more false) txs (omega (arith, flags_long))

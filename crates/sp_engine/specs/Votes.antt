@@ -38,6 +38,10 @@ is_tip table n = not (list_any (λ parents. has parents n) table)
 abbrev pub tips_of : List (List ℕ) → List ℕ
 tips_of table = filter (is_tip table) (range_with_len 0 (length table))
 
+-- the tips from a number on, ascending
+abbrev pub tips_from : List (List ℕ) → ℕ → List ℕ
+tips_from table n = filter (is_tip table) (range_with_len n (length table - n))
+
 -- views of the first n blocks: for each tip, ascending, that of the tip and its past, and behind them that of all these blocks
 pub record AreOfTips (table : Numbered) (n : ℕ) (views : List Viewed) : Type 0 where
   pub tips : List Viewed
@@ -138,7 +142,7 @@ pub record JoinedAlone (table : Numbered) (n : ℕ) (old : List Viewed) (was tip
   pub derived : IsDerived table n old tip
 
 -- Blocks from number n on have joined the votes of the first n blocks. The views of the old tips stand first, all of them,
--- then those of the blocks that joined, and last that of all blocks; what that was is held beside. The rows that the old
+-- then those of blocks that joined, and last that of all blocks; what that was is held beside. The rows that the old
 -- views hold have their places.
 pub record AreJoining (table : Numbered) (n : ℕ) (old v : Tallied) (was : Viewed) : Type 0 where
   pub frozen : HoldsFrozen table v.frozen
@@ -158,11 +162,11 @@ pub record AreJoining (table : Numbered) (n : ℕ) (old v : Tallied) (was : View
   pub is : v.views ≡ olds ++ (joined ++ all ∷ [])
   pub places : (r : ℕ) → 0 < held_by old.views r → row_of v.rows r ≡ row_of old.rows r
 
--- so they stand where each block that joined has its view, and that of all blocks has them all
+-- so they stand where each block that joined has its view, but for those that another one covers, and that of all blocks has them all
 pub record HaveJoined (table : Numbered) (n : ℕ) (old v : Tallied) (was : Viewed) : Type 0 where
   pub joining : AreJoining table n old v was
   pub every : v.frozen.blocks ≡ length table.parents
-  pub each : map (λ (view : Viewed). view.members) joining.joined ≡ map (bar_row table) (range_with_len n (length table.parents - n))
+  pub each : map (λ (view : Viewed). view.members) joining.joined ≡ map (bar_row table) (tips_from table.parents n)
   pub members : joining.all.members ≡ range_with_len 0 (length table.parents)
   pub none : v.frozen.blocks ≡ n → joining.all ≡ was
   pub one : v.frozen.blocks ≡ n + 1 → (tip : Viewed) × (joining.joined ≡ tip ∷ []) × JoinedAlone table n old.views was tip joining.all
@@ -171,7 +175,7 @@ pub record HaveJoined (table : Numbered) (n : ℕ) (old v : Tallied) (was : View
 pub record HaveJoinedBut (table : Numbered) (n : ℕ) (old v : Tallied) (was : Viewed) : Type 0 where
   pub joining : AreJoining table n old v was
   pub last : v.frozen.blocks + 1 ≡ length table.parents
-  pub each : map (λ (view : Viewed). view.members) joining.joined ≡ map (bar_row table) (range_with_len n (v.frozen.blocks - n))
+  pub each : map (λ (view : Viewed). view.members) joining.joined ≡ map (bar_row table) (tips_from (take v.frozen.blocks table.parents) n)
   pub members : joining.all.members ≡ range_with_len 0 v.frozen.blocks
   pub none : v.frozen.blocks ≡ n → joining.all ≡ was
 

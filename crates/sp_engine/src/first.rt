@@ -160,7 +160,8 @@ fn first_votes(alloc: Global, dag: &Dag) -> Result<Votes, Memory>
     // Tells the proof what numbered blocks are.
     let _blocks = dag.len();
     let mut votes = Votes::new(alloc)?;
-    votes.add(dag)?;
+    // There are no tips from before.
+    votes.add(dag, 0)?;
     Ok(votes)
 }
 

@@ -7,6 +7,7 @@ ghost use Rattle.sp_pool.specs.Kept.{Releases};
 ghost use Rattle.sp_dag.specs.Numbered.{IsNumbered};
 ghost use Rattle.sp_money.specs.Accepted.{is_set};
 ghost use Rattle.sp_money.specs.Held.{IsOf};
+ghost use Rattle.sp_money.specs.Locks.{locks_of};
 ghost use Rattle.sp_accept.specs.Acceptance.{first_blocks};
 ghost use Rattle.sp_accept.specs.Flips.{flips_of};
 ghost use Rattle.sp_engine.specs.Engine.{AreNumbered, first_carried, first_numbered, GoesOn, IsAccepting, IsPaying, IsWider};
@@ -40,8 +41,8 @@ fn decide(
     before: &Before,
 ) -> Result<Vec<Flip>, Memory>
     requires numbered { AreNumbered pool.now dag.old }
-    requires joined { (old : Tallied) ×
-        HaveJoined dag.old before.now.blocks old votes.old before.now.all }
+    requires joined { (old : Tallied) × HaveJoined dag.old before.now.blocks old votes.old before.now.all
+        × (before.now.tips + 1 ≡ length old.views) }
     requires blocks { before.now.blocks ≡ length dag.old.parents }
     requires members { before.now.all.members ≡ first_blocks (length dag.old.parents) }
     requires accepting { IsAccepting pool.now dag.old carriers.old accepted.old }
@@ -53,10 +54,10 @@ fn decide(
     ensures ids { OnOk result (dag.new.ids ≡ dag.old.ids ++ ids.now) }
     ensures joined { OnOk result ((old : Tallied) →
         HaveJoined dag.old before.now.blocks old votes.old before.now.all →
-        HaveJoined dag.new before.now.blocks old votes.new before.now.all) }
+        before.now.tips + 1 ≡ length old.views → HaveJoined dag.new before.now.blocks old votes.new before.now.all) }
     ensures err { OnErr result ((old : Tallied) →
         HaveJoined dag.old before.now.blocks old votes.old before.now.all →
-        AreJoining dag.new before.now.blocks old votes.new before.now.all) }
+        before.now.tips + 1 ≡ length old.views → AreJoining dag.new before.now.blocks old votes.new before.now.all) }
     ensures front { (n : ℕ) → n ≤ length dag.old.parents →
         first_numbered dag.new n ≡ first_numbered dag.old n }
     ensures first { (n : ℕ) → n ≤ carriers.old.blocks →
@@ -75,7 +76,7 @@ fn decide(
     // Tells the proof what numbered blocks are.
     let _before = dag.len();
     let from = carriers.carrier_count();
-    add_all(pool, dag, votes, carriers, ids)?;
+    add_all(pool, dag, votes, carriers, before.tips, ids)?;
     // Tells the proof what numbered blocks are.
     let _blocks = dag.len();
     let changed = votes.changes(dag, before)?;
@@ -84,13 +85,15 @@ fn decide(
     update(dag, votes, carriers, changed, from, accepted)
 }
 
-/// Takes the blocks back that joined, with their votes and carriers, and what the purse has of them.
+/// Takes the blocks back that joined, with their votes and carriers, and what the purse has of them:
+/// the first transactions and locks, so many of each, stay.
 fn take_back(
     dag: &mut Dag,
     votes: &mut Votes,
     carriers: &mut Carriers,
     purse: &mut Purse,
     txs: u32,
+    locks: u32,
     before: Before,
 )
     requires some { 1 ≤ before.blocks }
@@ -100,7 +103,8 @@ fn take_back(
         × (before.tips + 1 ≡ length old.views) }
     requires accepted { txs ≤ length purse.old.accepted }
     requires none { (tx : ℕ) → txs ≤ tx → is_set purse.old.accepted tx ≡ false }
-    requires of { (list : List Transaction) × IsOf list purse.old }
+    requires of { (list : List Transaction) × IsOf list purse.old
+        × (locks ≡ length (locks_of (take txs list))) }
     ensures dag { dag.new ≡ first_numbered dag.old before.blocks }
     ensures carriers { carriers.new ≡ first_carried carriers.old before.blocks }
     ensures votes { (old : Tallied) → AreJoining dag.old before.blocks old votes.old before.all →
@@ -109,7 +113,7 @@ fn take_back(
     ensures accepted { purse.new.accepted ≡ take txs purse.old.accepted }
 {
     let blocks = before.blocks;
-    purse.cut(txs);
+    purse.cut(txs, locks);
     carriers.cut(blocks);
     votes.take_back(dag, before);
     dag.cut(blocks);
@@ -155,6 +159,7 @@ pub(crate) fn grow(
     // Tells the proof what numbered blocks are.
     let _blocks = dag.len();
     let txs = carriers.tx_count();
+    let locks = purse.lock_count();
     let before = votes.before(dag)?;
     match decide(pool, dag, votes, carriers, accepted, purse, ids, &before) {
         Ok(flips) => {
@@ -163,7 +168,7 @@ pub(crate) fn grow(
             Ok(())
         }
         Err(refused) => {
-            take_back(dag, votes, carriers, purse, txs, before);
+            take_back(dag, votes, carriers, purse, txs, locks, before);
             Err(refused)
         }
     }

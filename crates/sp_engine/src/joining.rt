@@ -180,12 +180,14 @@ pub(crate) fn put_tip(
     }
 }
 
-/// Lets the views go of blocks that another one covers, by their highest members. The view of all
-/// blocks has the last one, which none covers.
-pub(crate) fn release_covered(views: &mut Vec<View>, rows: &mut RowPool, dag: &Dag)
+/// Lets the views go from a place on of blocks that another one covers, by their highest members. The
+/// view of all blocks has the last one, which none covers.
+pub(crate) fn release_covered(views: &mut Vec<View>, rows: &mut RowPool, dag: &Dag, place: usize)
+    requires within { place ≤ vec_len views.old }
     requires counts { (row : ℕ) → held_by views.old.items row ≤ count_of rows.old row }
     requires views { (n : ℕ) × AreViews dag.now rows.old n views.old.items }
-    ensures rest { views.new.items ≡ filter (is_uncovered dag.now) views.old.items }
+    ensures rest { (front back : List Viewed) → place ≡ length front → views.old.items ≡ front ++ back →
+        views.new.items ≡ front ++ filter (is_uncovered dag.now) back }
     ensures views { (table : Numbered) (n : ℕ) → AreViews table rows.old n views.old.items →
         AreViews table rows.new n views.new.items }
     ensures counts { (row : ℕ) → count_of rows.new row + held_by views.old.items row
@@ -193,7 +195,7 @@ pub(crate) fn release_covered(views: &mut Vec<View>, rows: &mut RowPool, dag: &D
     ensures rows { (row : ℕ) → 0 < count_of rows.new row →
         row_of rows.new row ≡ row_of rows.old row }
 {
-    let mut i = 0;
+    let mut i = place;
     'views: while i < views.len() {
         if is_covered(dag, views[i].members()) {
             views.remove(i).release(rows);

@@ -15,16 +15,18 @@ use sp_ids::{BlockId, Memory};
 use sp_pool::Pool;
 
 /// Adds the kept block of this id, which is the earliest one that is ready, its votes and its
-/// carriers.
+/// carriers. The views of so many tips from before stay.
 fn add_one(
     pool: &Pool,
     dag: &mut Dag,
     votes: &mut Votes,
     carriers: &mut Carriers,
+    tips: usize,
     id: &BlockId,
 ) -> Result<(), Memory>
     requires numbered { AreNumbered pool.now dag.old }
-    requires joined { (n : ℕ) × (old : Tallied) × (was : Viewed) × HaveJoined dag.old n old votes.old was }
+    requires joined { (n : ℕ) × (old : Tallied) × (was : Viewed) × HaveJoined dag.old n old votes.old was
+        × (tips + 1 ≡ length old.views) }
     requires carried { AreCarried pool.now dag.old carriers.old }
     requires next { IsNext pool.now dag.old.ids id.now }
     ensures numbered { OnOk result (AreNumbered pool.now dag.new) }
@@ -32,9 +34,11 @@ fn add_one(
     ensures ids { OnOk result (dag.new.ids ≡ dag.old.ids ++ id.now ∷ []) }
     ensures long { OnOk result (length dag.new.parents ≡ length dag.old.parents + 1) }
     ensures joined { OnOk result ((n : ℕ) (old : Tallied) (was : Viewed) →
-        HaveJoined dag.old n old votes.old was → HaveJoined dag.new n old votes.new was) }
+        HaveJoined dag.old n old votes.old was → tips + 1 ≡ length old.views →
+        HaveJoined dag.new n old votes.new was) }
     ensures err { OnErr result ((n : ℕ) (old : Tallied) (was : Viewed) →
-        HaveJoined dag.old n old votes.old was → AreJoining dag.new n old votes.new was) }
+        HaveJoined dag.old n old votes.old was → tips + 1 ≡ length old.views →
+        AreJoining dag.new n old votes.new was) }
     ensures front { (n : ℕ) → n ≤ length dag.old.parents →
         first_numbered dag.new n ≡ first_numbered dag.old n }
     ensures first { (n : ℕ) → n ≤ carriers.old.blocks →
@@ -55,7 +59,7 @@ fn add_one(
             let number = dag.add(*id, block.salt, block.parents.as_slice())?;
             // Tells the proof what numbered blocks are.
             let _more = dag.len();
-            votes.add(dag)?;
+            votes.add(dag, tips)?;
             carriers.add(dag, number, &block.txs)?;
             // Tells the proof what carriers are.
             let _added = carriers.block_count();
@@ -66,7 +70,7 @@ fn add_one(
 }
 
 /// Adds the kept blocks of these ids, which become present one after another, their votes and their
-/// carriers.
+/// carriers. The views of so many tips from before stay.
 ///
 /// # Errors
 ///
@@ -76,19 +80,23 @@ pub(crate) fn add_all(
     dag: &mut Dag,
     votes: &mut Votes,
     carriers: &mut Carriers,
+    tips: usize,
     ids: &[BlockId],
 ) -> Result<(), Memory>
     requires numbered { AreNumbered pool.now dag.old }
-    requires joined { (n : ℕ) × (old : Tallied) × (was : Viewed) × HaveJoined dag.old n old votes.old was }
+    requires joined { (n : ℕ) × (old : Tallied) × (was : Viewed) × HaveJoined dag.old n old votes.old was
+        × (tips + 1 ≡ length old.views) }
     requires carried { AreCarried pool.now dag.old carriers.old }
     requires order { Releases pool.now dag.old.ids ids.now }
     ensures numbered { OnOk result (AreNumbered pool.now dag.new) }
     ensures profile { OnOk result (dag.new.profile ≡ dag.old.profile) }
     ensures ids { OnOk result (dag.new.ids ≡ dag.old.ids ++ ids.now) }
     ensures joined { OnOk result ((n : ℕ) (old : Tallied) (was : Viewed) →
-        HaveJoined dag.old n old votes.old was → HaveJoined dag.new n old votes.new was) }
+        HaveJoined dag.old n old votes.old was → tips + 1 ≡ length old.views →
+        HaveJoined dag.new n old votes.new was) }
     ensures err { OnErr result ((n : ℕ) (old : Tallied) (was : Viewed) →
-        HaveJoined dag.old n old votes.old was → AreJoining dag.new n old votes.new was) }
+        HaveJoined dag.old n old votes.old was → tips + 1 ≡ length old.views →
+        AreJoining dag.new n old votes.new was) }
     ensures front { (n : ℕ) → n ≤ length dag.old.parents →
         first_numbered dag.new n ≡ first_numbered dag.old n }
     ensures first { (n : ℕ) → n ≤ carriers.old.blocks →
@@ -102,7 +110,7 @@ pub(crate) fn add_all(
         carriers_below carriers.new.rows n ≡ carriers_below carriers.old.rows n) }
 {
     for id in ids {
-        add_one(pool, dag, votes, carriers, id)?;
+        add_one(pool, dag, votes, carriers, tips, id)?;
     }
     Ok(())
 }

@@ -95,17 +95,19 @@ impl Votes {
     }
 
     /// Adds the last block of a graph, whose other blocks were added. The view of the block and its
-    /// past stands behind those that were there, which stay.
+    /// past stands behind those that were there. The first of these, which are of tips from before the
+    /// arrival and so many, stay; of the others those go that the block covers.
     ///
     /// # Errors
     ///
     /// Memory was refused; the frozen votes may have the block.
-    pub(crate) fn add(&mut self, dag: &Dag) -> Result<(), Memory>
+    pub(crate) fn add(&mut self, dag: &Dag, tips: usize) -> Result<(), Memory>
         requires joining { (n : ℕ) × (old : Tallied) × (was : Viewed) ×
-            HaveJoinedBut dag.now n old self.old was }
+            HaveJoinedBut dag.now n old self.old was × (tips + 1 ≡ length old.views) }
         requires next { length dag.now.parents ≡ self.old.frozen.blocks + 1 }
         ensures joined { OnOk result ((n : ℕ) (old : Tallied) (was : Viewed) →
-            HaveJoinedBut dag.now n old self.old was → HaveJoined dag.now n old self.new was) }
+            HaveJoinedBut dag.now n old self.old was → tips + 1 ≡ length old.views →
+            HaveJoined dag.now n old self.new was) }
         ensures err { OnErr result ((n : ℕ) (old : Tallied) (was : Viewed) →
             HaveJoinedBut dag.now n old self.old was → AreJoining dag.now n old self.new was) }
     {
@@ -115,6 +117,7 @@ impl Votes {
         let views = self.views.as_slice();
         let tip = new_tip(self.alloc, views, dag, &mut self.frozen, &mut self.rows)?;
         put_tip(&mut self.views, dag, &self.frozen, &mut self.rows, tip)?;
+        release_covered(&mut self.views, &mut self.rows, dag, tips);
         Ok(())
     }
 
@@ -163,7 +166,7 @@ impl Votes {
         )
     }
 
-    /// Keeps the blocks that joined: the views of covered blocks are let go, and what was before.
+    /// Keeps the blocks that joined: the views of covered tips are let go, and what was before.
     pub(crate) fn settle(&mut self, dag: &Dag, before: Before)
         requires { (old : Tallied) × HaveJoined dag.now before.blocks old self.old before.all }
         ensures voted { AreVoted dag.now self.new }
@@ -178,7 +181,7 @@ impl Votes {
             all,
         } = before;
         all.release(&mut self.rows);
-        release_covered(&mut self.views, &mut self.rows, dag);
+        release_covered(&mut self.views, &mut self.rows, dag, 0);
     }
 
     /// Takes the blocks back that joined, for a graph that is cut to those from before after this

@@ -19,10 +19,10 @@ use Rattle.sp_money.specs.Accepted.{accepted_in, is_set}
 use Rattle.sp_money.specs.Growth.{with_tx, IsFront}
 use Rattle.sp_money.specs.Held.{coins_of, Held, lives, spender_count, starts_from, IsOf}
 use Rattle.sp_money.specs.Kept.{AreKept, BeginEarly, coin_of, held_by, held_of, IsEarly, IsKept}
-use Rattle.sp_money.specs.Locks.{all_locks, each_once, locks_in, AreNumbered}
+use Rattle.sp_money.specs.Locks.{all_locks, each_once, locks_in, locks_of, AreNumbered}
 use Rattle.sp_money.specs.Totals.{left, share, total_of}
 use Rattle.sp_money.proofs.Growing.{coin_locks}
-use Rattle.sp_money.proofs.LockNumbers.{AreFirst}
+use Rattle.sp_money.proofs.LockNumbers.{AreFirst, first_slots}
 use Rattle.sp_money.proofs.Standing.{length-coins, length-starts}
 
 -- ---- of the first transactions
@@ -143,19 +143,27 @@ same-coins locks count (s ∷ slots) all =
     ap (λ (n : ℕ). let c : Coin = record { name = s.name; amount = s.amount; lock = n } in c ∷ map (coin_of (take count locks)) slots) lock
     ∙ ap (λ (l : List Coin). coin_of locks s ∷ l) (same-coins locks count slots (All-tail (λ (s : Slot). s.lock < count) s slots all))
 
+-- the first slots are the outputs of the first transactions
+module _ (txs : List Transaction) (slots : List Slot) (starts locks : List ℕ) (accepted : List Bool) (n m : ℕ) (of : IsOf txs (held_by slots starts locks accepted)) (is : m ≡ length (coins_of (take n txs))) where
+  front-coins : map (coin_of locks) (take m slots) ≡ coins_of (take n txs)
+  front-coins =
+      sym (take-map (coin_of locks) m slots) ∙ ap (take m) of.coins ∙ ap (λ (k : ℕ). take k (coins_of txs)) is ∙ coins-take n txs
+
+  front-locks : each_once (locks_in locks (take m slots)) ≡ locks_of (take n txs)
+  front-locks =
+      ap each_once (sym (slot-locks locks (take m slots)) ∙ ap (map (λ (c : Coin). c.lock)) front-coins ∙ coins-locks (take n txs))
+
 -- what is left is of the first transactions
 pub IsOf-take : (txs : List Transaction) (slots : List Slot) (starts locks : List ℕ) (accepted : List Bool) (n m count : ℕ) → IsOf txs (held_by slots starts locks accepted)
     → n ≤ length accepted → m ≡ length (coins_of (take n txs)) → NoneFrom n accepted → AreFirst locks (take m slots) count
     → IsOf (take n txs) (held_by (take m slots) (take n starts) (take count locks) (take n accepted))
 IsOf-take txs slots starts locks accepted n m count of le is none first =
     let front = take n txs in
-    let own : map (coin_of locks) (take m slots) ≡ coins_of front =
-    sym (take-map (coin_of locks) m slots) ∙ ap (take m) of.coins ∙ ap (λ (k : ℕ). take k (coins_of txs)) is ∙ coins-take n txs in
     let flags : length (take n accepted) ≡ length front =
     length-take-le n accepted le ∙ sym (length-take-le n txs (omega (arith, le, of.flags))) in
     record {
       flags = flags;
-      coins = same-coins locks count (take m slots) first.known ∙ own;
+      coins = same-coins locks count (take m slots) first.known ∙ front-coins txs slots starts locks accepted n m of is;
       live =
           sym (take-map (λ (s : Slot). s.live) m slots) ∙ ap (take m) (of.live ∙ lives-split n txs accepted)
           ∙ ap (λ (k : ℕ). take k (lives front (take n accepted) ++ lives (drop n txs) (drop n accepted))) (is ∙ sym (lives-long front (take n accepted) flags))
@@ -165,7 +173,7 @@ IsOf-take txs slots starts locks accepted n m count of le is none first =
           ∙ ap (map (spender_count (accepted_in txs accepted))) (ap (λ (k : ℕ). take k (coins_of txs)) is ∙ coins-take n txs)
           ∙ ap (λ (l : List Payment). map (spender_count l) (coins_of front)) (accepted-take n txs accepted none);
       starts = ap (take n) of.starts ∙ starts-take 0 n txs;
-      locks = first.are ∙ ap each_once (sym (slot-locks locks (take m slots)) ∙ ap (map (λ (c : Coin). c.lock)) own ∙ coins-locks front);
+      locks = first.are ∙ front-locks txs slots starts locks accepted n m of is;
     }
 
 -- ---- the totals
@@ -266,18 +274,17 @@ early_push old new t txs kept h is =
 
 -- ---- the tables
 
--- the first slots of all, and how many locks they have
-pub first_of : (s : Store) (list : List Transaction) (m count : ℕ) (seen : List Slot) → IsOf list (held_of s) → AreDistinct s.locks → IsKept s → seen ≡ take m s.slots.items
-    → count ≤ length seen
-    → ((locks : List ℕ) (more : List Slot) → AreNumbered locks (seen ++ more) → All (λ (s : Slot). s.lock < count) seen)
-    → ((locks : List ℕ) (more : List Slot) → AreNumbered locks (seen ++ more) → take count locks ≡ each_once (locks_in locks seen))
-    → ((locks : List ℕ) (more : List Slot) → AreNumbered locks (seen ++ more) → count ≤ length locks) → AreFirst s.locks (take m s.slots.items) count
-first_of s list m count seen of once kept is few known locks within =
-    let numbered : AreNumbered s.locks (seen ++ drop m s.slots.items) =
-    subst (λ (l : List Slot). AreNumbered s.locks l) (sym (take-append-drop m s.slots.items) ∙ ap (λ (l : List Slot). l ++ drop m s.slots.items) (sym is))
-    (are_numbered list s.slots.items s.totals.items s.starts.items s.locks s.accepted.items of once kept) in
-    subst (λ (l : List Slot). AreFirst s.locks l count) is
-    (record { few = few; within = within s.locks (drop m s.slots.items) numbered; known = known s.locks (drop m s.slots.items) numbered; are = locks s.locks (drop m s.slots.items) numbered })
+-- the first slots of all have the locks of the first transactions
+pub first_of : (s : Store) (list : List Transaction) (n m count : ℕ) → IsOf list (held_of s) → AreDistinct s.locks → IsKept s
+    → m ≡ length (coins_of (take n list)) → count ≡ length (locks_of (take n list)) → AreFirst s.locks (take m s.slots.items) count
+first_of s list n m count of once kept is locks =
+    let numbered : AreNumbered s.locks s.slots.items =
+    are_numbered list s.slots.items s.totals.items s.starts.items s.locks s.accepted.items of once kept in
+    let found = first_slots s.locks s.slots.items m numbered in
+    let long : found.0 ≡ count =
+    sym (length-take-le found.0 s.locks found.1.within)
+    ∙ ap length (found.1.are ∙ front-locks list s.slots.items s.starts.items s.locks s.accepted.items n m of is) ∙ sym locks in
+    subst (λ (k : ℕ). AreFirst s.locks (take m s.slots.items) k) long found.1
 
 pub kept_cut : (old new : Store) (list : List Transaction) (n m count : ℕ) → IsOf list (held_of old) → IsKept old → IsEarly old → n ≤ length old.accepted.items
     → m ≡ length (coins_of (take n list)) → ((tx : ℕ) → n ≤ tx → is_set old.accepted.items tx ≡ false) → AreFirst old.locks (take m old.slots.items) count → IsFront old m n count new

@@ -1,8 +1,8 @@
 -- Locks that have the numbers of their first places: those of the first slots are the first ones.
-use Rattle.std.proofs.Common.{◌≡◌, ℕ, zero, suc, ◌+◌, ◌<◌, ◌≤◌, ◌⊎◌, Bool, true, false, cond, ◌||◌, List, [], ◌∷◌, ◌++◌, length, take, drop, get_or, eqb, refl, sym, ap, ◌∙◌, inl, inr, arith, subst, append_assoc, append-nil, length-append}
+use Rattle.std.proofs.Common.{◌≡◌, ℕ, zero, suc, ◌+◌, ◌<◌, ◌≤◌, Bool, true, false, cond, ◌||◌, List, [], ◌∷◌, ◌++◌, length, take, drop, get_or, eqb, refl, sym, ap, ◌∙◌, inl, inr, arith, subst, append_assoc, append-nil, length-append}
 use Rattle.std.specs.Prelude.{All, fold, slice_index}
-use Rattle.std.proofs.lemmas.Bool.{cases_lt, eq-eqb, eqb-true, false≢true, false_from_ne_true, or_left, or_right}
-use Rattle.std.proofs.lemmas.List.{get_or-take, length-take-le, take_more, take-append-drop, drop_more, map-append}
+use Rattle.std.proofs.lemmas.Bool.{cases_eq, cases_lt, eq-eqb, eqb-true, false≢true, false_from_ne_true, or_left, or_right}
+use Rattle.std.proofs.lemmas.List.{get_or-take, length-take-le, take_more, take-append-drop, map-append}
 use Rattle.std.proofs.lemmas.List.Elements.{All-push}
 use Rattle.std.proofs.lemmas.List.Sums.{fold-append}
 use Rattle.std.proofs.Math.ListN.{get_or-append}
@@ -131,21 +131,23 @@ module _ (locks : List ℕ) (front more : List Slot) (s : Slot) (count : ℕ) (h
                 absurd (apart locks count s.lock h.once (elim (cases_lt count s.lock) [ inl less ↦ less | inr ge ↦ absurd (other (omega (arith, ge, le))) ]) known at))
           ]
 
--- so it goes on with each slot
-pub AreFirst-next : (slots : List Slot) (i count next : ℕ) (s : Slot) → i < length slots → s ≡ get_or slots i s
-    → ((locks : List ℕ) (more : List Slot) → AreNumbered locks (slots ++ more) → AreFirst locks (take i slots) count)
-    → ((s.lock ≡ count) × (next ≡ count + 1)) ⊎ ((s.lock ≡ count → ⊥) × (next ≡ count))
-    → (locks : List ℕ) (more : List Slot) → AreNumbered locks (slots ++ more) → AreFirst locks (take (i + 1) slots) next
-AreFirst-next slots i count next s lt is before step locks more h =
-    let whole : slots ≡ take i slots ++ get_or slots i s ∷ drop (i + 1) slots =
-    sym (take-append-drop i slots) ∙ ap (λ (l : List Slot). take i slots ++ l) (drop_more slots i s lt) in
-    let split : slots ++ more ≡ take i slots ++ s ∷ (drop (i + 1) slots ++ more) =
-    ap (λ (l : List Slot). l ++ more) (whole ∙ ap (λ (x : Slot). take i slots ++ x ∷ drop (i + 1) slots) (sym is)) ∙ append_assoc (take i slots) (s ∷ drop (i + 1) slots) more in
-    let h' : AreNumbered locks (take i slots ++ s ∷ (drop (i + 1) slots ++ more)) = subst (λ (l : List Slot). AreNumbered locks l) split h in
-    let was = before locks more h in
-    let now : take (i + 1) slots ≡ take i slots ++ s ∷ [] = take_more slots i s lt ∙ ap (λ (x : Slot). take i slots ++ x ∷ []) (sym is) in
-    subst (λ (l : List Slot). AreFirst locks l next) (sym now)
-    (elim step [
-      | inl new ↦ subst (λ (k : ℕ). AreFirst locks (take i slots ++ s ∷ []) k) (sym new.1) (first_new locks (take i slots) (drop (i + 1) slots ++ more) s count h' was new.0)
-      | inr old ↦ subst (λ (k : ℕ). AreFirst locks (take i slots ++ s ∷ []) k) (sym old.1) (first_known locks (take i slots) (drop (i + 1) slots ++ more) s count h' was old.0)
-    ])
+  pub first_more : (next : ℕ) × AreFirst locks (front ++ s ∷ []) next
+  first_more =
+      elim (cases_eq s.lock count) [
+        | inl same ↦ (count + 1, first_new same)
+        | inr other ↦ (count, first_known other)
+      ]
+
+-- so it goes on with more slots
+more_first : (locks : List ℕ) (front more rest : List Slot) (count : ℕ) → AreNumbered locks (front ++ (more ++ rest)) → AreFirst locks front count
+    → (next : ℕ) × AreFirst locks (front ++ more) next
+more_first locks front [] rest count h first = (count, subst (λ (l : List Slot). AreFirst locks l count) (sym (append-nil front)) first)
+more_first locks front (s ∷ more) rest count h first =
+    let one = first_more locks front (more ++ rest) s count h first in
+    let all = more_first locks (front ++ s ∷ []) more rest one.0 (subst (λ (l : List Slot). AreNumbered locks l) (sym (append_assoc front (s ∷ []) (more ++ rest))) h) one.1 in
+    (all.0, subst (λ (l : List Slot). AreFirst locks l all.0) (append_assoc front (s ∷ []) more) all.1)
+
+-- of the first of some slots
+pub first_slots : (locks : List ℕ) (slots : List Slot) (n : ℕ) → AreNumbered locks slots → (count : ℕ) × AreFirst locks (take n slots) count
+first_slots locks slots n h =
+    more_first locks [] (take n slots) (drop n slots) 0 (subst (λ (l : List Slot). AreNumbered locks l) (sym (take-append-drop n slots)) h) (AreFirst-none locks)

@@ -1,34 +1,13 @@
 //! What is left of a purse where the last transactions are taken back.
 
-ghost use Rattle.std.specs.Prelude.{◌≡◌, ◌≤◌, ◌<◌, ◌++◌, ℕ, All, false, List, length, take};
+ghost use Rattle.std.specs.Prelude.{◌≡◌, ◌≤◌, ℕ, false, List, length, take};
 ghost use Rattle.sp_tx.specs.Parts.{Transaction};
-ghost use Rattle.sp_money.specs.declared.slot.Slot.{Slot};
 ghost use Rattle.sp_money.specs.Accepted.{is_set};
 ghost use Rattle.sp_money.specs.Held.{coins_of, IsOf};
 ghost use Rattle.sp_money.specs.Kept.{held_of, IsEarly, IsKept};
-ghost use Rattle.sp_money.specs.Locks.{each_once, locks_in, AreNumbered};
+ghost use Rattle.sp_money.specs.Locks.{locks_of};
 
-use crate::slot::Slot;
 use crate::store::Store;
-
-// How many locks these slots have, where they are the first ones of all.
-fn lock_count(slots: &[Slot]) -> usize
-    ensures few { result ≤ length slots.now }
-    ensures within { (locks : List ℕ) (more : List Slot) → AreNumbered locks (slots.now ++ more) →
-        result ≤ length locks }
-    ensures known { (locks : List ℕ) (more : List Slot) → AreNumbered locks (slots.now ++ more) →
-        All (λ (s : Slot). s.lock < result) slots.now }
-    ensures locks { (locks : List ℕ) (more : List Slot) → AreNumbered locks (slots.now ++ more) →
-        take result locks ≡ each_once (locks_in locks slots.now) }
-{
-    let mut count = 0;
-    'slots: for slot in slots {
-        if slot.lock as usize == count {
-            count += 1;
-        }
-    }
-    count
-}
 
 impl Store {
     // How many slots the first transactions have.
@@ -45,13 +24,15 @@ impl Store {
         }
     }
 
-    // Leaves the first transactions, of which none behind them is accepted.
-    pub(crate) fn cut(&mut self, txs: usize)
+    // Leaves the first transactions, of which none behind them is accepted, and the first locks, which
+    // are as many as their outputs have.
+    pub(crate) fn cut(&mut self, txs: usize, locks: usize)
         requires kept { IsKept self.old }
         requires early { IsEarly self.old }
         requires within { txs ≤ length self.old.accepted.items }
         requires none { (tx : ℕ) → txs ≤ tx → is_set self.old.accepted.items tx ≡ false }
-        requires of { (list : List Transaction) × IsOf list (held_of self.old) }
+        requires of { (list : List Transaction) × IsOf list (held_of self.old)
+            × (locks ≡ length (locks_of (take txs list))) }
         ensures kept { IsKept self.new }
         ensures early { IsEarly self.new }
         ensures of { (list : List Transaction) → IsOf list (held_of self.old) →
@@ -61,7 +42,6 @@ impl Store {
         // Tells the proof that no lock stands twice.
         let _locks = self.locks.len();
         let slots = self.slot_count(txs);
-        let locks = lock_count(&self.slots[..slots]);
         self.take_back(slots, txs, locks);
     }
 }

@@ -8,6 +8,7 @@ ghost use Rattle.sp_carry.specs.Money.{balance_of};
 ghost use Rattle.sp_carry.specs.declared.carrier.Flip.{Flip};
 ghost use Rattle.sp_money.specs.Accepted.{accepted_in, is_set, turned};
 ghost use Rattle.sp_money.specs.Held.{nothing, IsOf};
+ghost use Rattle.sp_money.specs.Locks.{locks_of};
 ghost use Rattle.sp_money.specs.Names.{names_under};
 
 use crate::store::Store;
@@ -81,18 +82,19 @@ impl Purse {
         }
     }
 
-    /// Leaves the first transactions, their outputs and the locks of these. None of the others is
-    /// accepted.
+    /// Leaves the first transactions, their outputs and the locks of these, of which there are as many
+    /// as `lock_count` answered when they were all. None of the others is accepted.
     ///
-    /// The time is one step for each output that is left, and for each entry that goes.
-    pub fn cut(&mut self, txs: u32)
+    /// The time is that of a look-up for each lock that goes, and of one step for each output.
+    pub fn cut(&mut self, txs: u32, locks: u32)
         requires within { txs ≤ length self.old.accepted }
         requires none { (tx : ℕ) → txs ≤ tx → is_set self.old.accepted tx ≡ false }
-        requires of { (list : List Transaction) × IsOf list self.old }
+        requires of { (list : List Transaction) × IsOf list self.old
+            × (locks ≡ length (locks_of (take txs list))) }
         ensures of { (list : List Transaction) → IsOf list self.old → IsOf (take txs list) self.new }
         ensures accepted { self.new.accepted ≡ take txs self.old.accepted }
     {
-        self.store.cut(txs as usize);
+        self.store.cut(txs as usize, locks as usize);
     }
 
     /// Sets the flags of transactions, one after another, and keeps what is unspent up with them. A

@@ -1,13 +1,15 @@
 use Rattle.std.proofs.Common.{ap, length}
 use Rattle.sp_engine.specs.Votes.{empty_view}
-use Rattle.sp_engine.proofs.Beginning.{voted_alone}
+use Rattle.sp_engine.proofs.Beginning.{one_view, voted_alone}
 use Rattle.sp_engine.proofs.first.first_votes.Goals as goal
 
 pub add-requires-clause-joining : goal.add-requires-clause-joining
 add-requires-clause-joining c =
-    (0, c.in_ok-votes.votes, empty_view, c.in_ok-votes.ensures.joining c.args.dag.now c.len-blocks.ensures.numbered.order (ap length c.requires))
+    let h = c.in_ok-votes.ensures.joining c.args.dag.now c.len-blocks.ensures.numbered.order (ap length c.requires) in
+    (0, c.in_ok-votes.votes, empty_view, h, one_view c.args.dag.now c.in_ok-votes.votes c.in_ok-votes.votes h)
 
 pub returns : goal.returns
 returns c =
+    let h = c.in_ok-votes.ensures.joining c.args.dag.now c.len-blocks.ensures.numbered.order (ap length c.requires) in
     voted_alone c.args.dag.now c.in_ok-votes.votes c.add.new.self c.requires
-    (c.in_ok-add.ensures.joined 0 c.in_ok-votes.votes empty_view (c.in_ok-votes.ensures.joining c.args.dag.now c.len-blocks.ensures.numbered.order (ap length c.requires)))
+    (c.in_ok-add.ensures.joined 0 c.in_ok-votes.votes empty_view h (one_view c.args.dag.now c.in_ok-votes.votes c.in_ok-votes.votes h))

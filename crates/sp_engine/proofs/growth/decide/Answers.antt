@@ -9,7 +9,7 @@ use Rattle.sp_engine.proofs.TakenBack.{no_wider}
 use Rattle.sp_engine.proofs.growth.decide.Goals as goal
 
 pub add_all-requires-clause-joined : goal.add_all-requires-clause-joined
-add_all-requires-clause-joined c = (c.args.before.now.blocks, c.requires.joined.0, c.args.before.now.all, c.requires.joined.1)
+add_all-requires-clause-joined c = (c.args.before.now.blocks, c.requires.joined.0, c.args.before.now.all, c.requires.joined.1, c.requires.joined.2)
 
 pub add_all-requires-clause-carried : goal.add_all-requires-clause-carried
 add_all-requires-clause-carried c = c.requires.accepting.carriers
@@ -26,12 +26,12 @@ update-requires-clause-first c =
     c.requires.accepting.carriers.carried c.in_ok-add_all.ensures.below
 
 pub changes-requires : goal.changes-requires
-changes-requires c = (c.requires.joined.0, c.in_ok-add_all.ensures.joined c.args.before.now.blocks c.requires.joined.0 c.args.before.now.all c.requires.joined.1)
+changes-requires c = (c.requires.joined.0, c.in_ok-add_all.ensures.joined c.args.before.now.blocks c.requires.joined.0 c.args.before.now.all c.requires.joined.1 c.requires.joined.2)
 
 pub update-requires-clause-whole : goal.update-requires-clause-whole
 update-requires-clause-whole c =
     whole_joined c.add_all.new.dag c.args.before.now.blocks c.requires.joined.0 c.add_all.new.votes c.args.before.now.all
-    (c.in_ok-add_all.ensures.joined c.args.before.now.blocks c.requires.joined.0 c.args.before.now.all c.requires.joined.1)
+    (c.in_ok-add_all.ensures.joined c.args.before.now.blocks c.requires.joined.0 c.args.before.now.all c.requires.joined.1 c.requires.joined.2)
 
 pub update-requires-clause-told : goal.update-requires-clause-told
 update-requires-clause-told c =
@@ -44,16 +44,16 @@ on_ok (Ok x) h = h
 on_ok (Err e) h = tt
 
 pub returns-clause-joined : goal.returns-clause-joined
-returns-clause-joined c = on_ok c.update.result (λ old h. c.in_ok-add_all.ensures.joined c.args.before.now.blocks old c.args.before.now.all h)
+returns-clause-joined c = on_ok c.update.result (λ old h tips. c.in_ok-add_all.ensures.joined c.args.before.now.blocks old c.args.before.now.all h tips)
 
 pub returns-in_err-changed-clause-err : goal.returns-in_err-changed-clause-err
-returns-in_err-changed-clause-err c = on_err c.from_residual-in_err-changed.result (λ old h. (c.in_ok-add_all.ensures.joined c.args.before.now.blocks old c.args.before.now.all h).joining)
+returns-in_err-changed-clause-err c = on_err c.from_residual-in_err-changed.result (λ old h tips. (c.in_ok-add_all.ensures.joined c.args.before.now.blocks old c.args.before.now.all h tips).joining)
 
 pub returns-in_err-prepare-clause-err : goal.returns-in_err-prepare-clause-err
-returns-in_err-prepare-clause-err c = on_err c.from_residual-in_err-prepare.result (λ old h. (c.in_ok-add_all.ensures.joined c.args.before.now.blocks old c.args.before.now.all h).joining)
+returns-in_err-prepare-clause-err c = on_err c.from_residual-in_err-prepare.result (λ old h tips. (c.in_ok-add_all.ensures.joined c.args.before.now.blocks old c.args.before.now.all h tips).joining)
 
 pub returns-clause-err : goal.returns-clause-err
-returns-clause-err c = on_err c.update.result (λ old h. (c.in_ok-add_all.ensures.joined c.args.before.now.blocks old c.args.before.now.all h).joining)
+returns-clause-err c = on_err c.update.result (λ old h tips. (c.in_ok-add_all.ensures.joined c.args.before.now.blocks old c.args.before.now.all h tips).joining)
 
 pub returns-in_err-add_all-clause-wider : goal.returns-in_err-add_all-clause-wider
 returns-in_err-add_all-clause-wider c = no_wider c.args.carriers.now c.args.accepted.now c.args.purse.now c.args.purse.now c.requires.paying refl

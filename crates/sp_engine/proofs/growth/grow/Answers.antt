@@ -5,7 +5,7 @@ use Rattle.sp_view.specs.Views.{Viewed}
 use Rattle.sp_engine.specs.Votes.{Grew, HaveJoined, Tallied}
 use Rattle.sp_engine.proofs.CarriedBlocks.{carried_count}
 use Rattle.sp_engine.proofs.Paying.{now_paying, off_all, was_paying}
-use Rattle.sp_engine.proofs.TakenBack.{carried_back, flags_within, none_set, numbered_back, paying_back}
+use Rattle.sp_engine.proofs.TakenBack.{carried_back, flags_within, locks_back, none_set, numbered_back, paying_back}
 use Rattle.sp_engine.proofs.growth.grow.Goals as goal
 
 joined_at : (table : Numbered) (n k : ℕ) (old v : Tallied) (was : Viewed) → k ≡ n → HaveJoined table n old v was → HaveJoined table k old v was
@@ -14,7 +14,7 @@ joined_at table n k old v was at h = subst (λ (m : ℕ). HaveJoined table m old
 pub settle-requires : goal.settle-requires
 settle-requires c = (
   c.args.votes.now,
-  c.in-Ok.ensures.joined c.args.votes.now (joined_at c.args.dag.now (length c.args.dag.now.parents) c.in_ok-before.before.blocks c.args.votes.now c.before-2.new.self c.in_ok-before.before.all c.in_ok-before.ensures.blocks c.in_ok-before.ensures.joined),
+  c.in-Ok.ensures.joined c.args.votes.now (joined_at c.args.dag.now (length c.args.dag.now.parents) c.in_ok-before.before.blocks c.args.votes.now c.before-2.new.self c.in_ok-before.before.all c.in_ok-before.ensures.blocks c.in_ok-before.ensures.joined) c.in_ok-before.ensures.tips,
 )
 
 pub returns-in-Ok-clause-in_order : goal.returns-in-Ok-clause-in_order
@@ -29,7 +29,7 @@ returns-in-Ok-clause-one c = λ one.
     let h = joined_at old (length old.parents) c.in_ok-before.before.blocks c.args.votes.now c.before-2.new.self c.in_ok-before.before.all c.in_ok-before.ensures.blocks c.in_ok-before.ensures.joined in (
       long,
       subst (λ (n : ℕ). Grew new n c.args.votes.now c.settle.new.self) c.in_ok-before.ensures.blocks
-          (c.settle.ensures.grew c.args.votes.now (c.in-Ok.ensures.joined c.args.votes.now h) (omega (arith, long, c.in_ok-before.ensures.blocks))),
+          (c.settle.ensures.grew c.args.votes.now (c.in-Ok.ensures.joined c.args.votes.now h c.in_ok-before.ensures.tips) (omega (arith, long, c.in_ok-before.ensures.blocks))),
     )
 
 pub returns-in-Ok-clause-paying : goal.returns-in-Ok-clause-paying
@@ -49,7 +49,7 @@ take_back-requires-clause-carried c =
 pub take_back-requires-clause-joining : goal.take_back-requires-clause-joining
 take_back-requires-clause-joining c = (
   c.args.votes.now,
-  c.in-Err.ensures.err c.args.votes.now (joined_at c.args.dag.now (length c.args.dag.now.parents) c.in_ok-before.before.blocks c.args.votes.now c.before-2.new.self c.in_ok-before.before.all c.in_ok-before.ensures.blocks c.in_ok-before.ensures.joined),
+  c.in-Err.ensures.err c.args.votes.now (joined_at c.args.dag.now (length c.args.dag.now.parents) c.in_ok-before.before.blocks c.args.votes.now c.before-2.new.self c.in_ok-before.before.all c.in_ok-before.ensures.blocks c.in_ok-before.ensures.joined) c.in_ok-before.ensures.tips,
   c.in_ok-before.ensures.tips,
 )
 
@@ -62,7 +62,12 @@ take_back-requires-clause-none c =
     none_set c.args.carriers.now c.args.accepted.now c.args.purse.now c.decide.new.purse c.tx_count-txs.result c.tx_count-txs.ensures.value c.requires.paying c.in-Err.ensures.wider
 
 pub take_back-requires-clause-of : goal.take_back-requires-clause-of
-take_back-requires-clause-of c = (c.in-Err.ensures.wider.list, c.in-Err.ensures.wider.of)
+take_back-requires-clause-of c = (
+  c.in-Err.ensures.wider.list,
+  c.in-Err.ensures.wider.of,
+  locks_back c.args.carriers.now c.args.accepted.now c.args.purse.now c.decide.new.purse c.tx_count-txs.result c.tx_count-txs.ensures.value c.requires.paying c.in-Err.ensures.wider
+      c.lock_count-locks.result c.lock_count-locks.ensures.value,
+)
 
 pub returns-in-Err-clause-dag : goal.returns-in-Err-clause-dag
 returns-in-Err-clause-dag c =
@@ -80,7 +85,7 @@ returns-in-Err-clause-carriers c =
 pub returns-in-Err-clause-votes : goal.returns-in-Err-clause-votes
 returns-in-Err-clause-votes c =
     let h = joined_at c.args.dag.now (length c.args.dag.now.parents) c.in_ok-before.before.blocks c.args.votes.now c.before-2.new.self c.in_ok-before.before.all c.in_ok-before.ensures.blocks c.in_ok-before.ensures.joined in
-    c.take_back.ensures.votes c.args.votes.now (c.in-Err.ensures.err c.args.votes.now h) c.in_ok-before.ensures.tips
+    c.take_back.ensures.votes c.args.votes.now (c.in-Err.ensures.err c.args.votes.now h c.in_ok-before.ensures.tips) c.in_ok-before.ensures.tips
 
 pub returns-in-Err-clause-purse : goal.returns-in-Err-clause-purse
 returns-in-Err-clause-purse c =

@@ -1,4 +1,5 @@
-use Rattle.std.proofs.Common.{◌≡◌, ◌<◌, ◌∙◌, ℕ, List, false, ap, sym, arith, length, get_or}
+use Rattle.std.proofs.Common.{◌≡◌, ◌<◌, ◌∙◌, ◌++◌, ℕ, List, false, ap, sym, arith, length, get_or}
+use Rattle.std.specs.Prelude.{filter}
 use Rattle.sp_model.specs.Graph.{has}
 use Rattle.sp_view.specs.Views.{Viewed, held}
 use Rattle.sp_engine.specs.Votes.{is_top_tip, is_uncovered}
@@ -29,7 +30,9 @@ views-preserved-then-is_covered c =
     ∙ not_covered (is_top_tip c.args.dag.now c.members.result.now) (sym c.is_covered.ensures ∙ c.if-is_covered.true) in
     record {
       place = omega (arith, c.views-test.true, c.len.ensures, c.remove.ensures.len);
-      rest = without_it (is_uncovered c.args.dag.now) c.args.views.now.items xs c.remove.new.self.items c.views.i c.index.result.now c.remove.ensures.by_index.2 lt within c.views.invariant.rest;
+      rest = λ front back at is.
+          without_it (is_uncovered c.args.dag.now) (front ++ filter (is_uncovered c.args.dag.now) back) xs c.remove.new.self.items c.views.i c.index.result.now c.remove.ensures.by_index.2 lt within
+          (c.views.invariant.rest front back at is);
       views = λ table n are. views_without xs c.remove.new.self.items c.views.i c.remove.result c.remove.ensures.by_index.2 lt table c.views.rows c.release.new.pool n
           (λ r. omega (arith, c.requires.counts r, same r, counts r, c.views.invariant.counts r, c.release.ensures.counts r))
           (λ r some. c.release.ensures.rows r (omega (arith, some, c.requires.counts r, same r, counts r, c.views.invariant.counts r, c.release.ensures.counts r))) (c.views.invariant.views table n are);

@@ -77,13 +77,14 @@ add-requires-in-Some-clause-joining c = (
   c.requires.joined.2,
   joined_stays c.args.dag.now c.add.new.self c.args.id.now c.block-in-Some.inside.salt (map (number_of c.args.dag.now.ids) c.as_slice.result.now) c.requires.joined.0 c.requires.joined.1 c.args.votes.now c.requires.joined.2
       c.in_ok-number-in-Some.ensures.ok c.len-blocks.ensures.numbered c.len-more.ensures.numbered.order c.requires.joined.3,
+  c.requires.joined.4,
 )
 
 pub returns-clause-joined : goal.returns-clause-joined
-returns-clause-joined c = λ n old was joined.
+returns-clause-joined c = λ n old was joined tips.
     c.in_ok-add-in-Some.ensures.joined n old was
     (joined_stays c.args.dag.now c.add.new.self c.args.id.now c.block-in-Some.inside.salt (map (number_of c.args.dag.now.ids) c.as_slice.result.now) n old c.args.votes.now was
-    c.in_ok-number-in-Some.ensures.ok c.len-blocks.ensures.numbered c.len-more.ensures.numbered.order joined)
+    c.in_ok-number-in-Some.ensures.ok c.len-blocks.ensures.numbered c.len-more.ensures.numbered.order joined) tips
 
 pub returns-clause-right : goal.returns-clause-right
 returns-clause-right c = λ a right.
@@ -104,16 +105,16 @@ returns-clause-below c = λ n le.
     (c.in_ok-add-in-Some-2.ensures.ok ∙ ap (λ (b : ReadBlock). with_block c.add.new.self c.args.carriers.now b.txs) c.block-in-Some.view_is) le
 
 pub returns-in_err-add-in-Some-clause-err : goal.returns-in_err-add-in-Some-clause-err
-returns-in_err-add-in-Some-clause-err c = on_err c.from_residual-in_err-add-in-Some.result (λ n old was joined.
+returns-in_err-add-in-Some-clause-err c = on_err c.from_residual-in_err-add-in-Some.result (λ n old was joined _.
     c.in_err-add-in-Some.ensures.err n old was
     (joined_stays c.args.dag.now c.add.new.self c.args.id.now c.block-in-Some.inside.salt (map (number_of c.args.dag.now.ids) c.as_slice.result.now) n old c.args.votes.now was
     c.in_ok-number-in-Some.ensures.ok c.len-blocks.ensures.numbered c.len-more.ensures.numbered.order joined))
 
 pub returns-in_err-add-in-Some-2-clause-err : goal.returns-in_err-add-in-Some-2-clause-err
-returns-in_err-add-in-Some-2-clause-err c = on_err c.from_residual-in_err-add-in-Some-2.result (λ n old was joined.
+returns-in_err-add-in-Some-2-clause-err c = on_err c.from_residual-in_err-add-in-Some-2.result (λ n old was joined tips.
     (c.in_ok-add-in-Some.ensures.joined n old was
     (joined_stays c.args.dag.now c.add.new.self c.args.id.now c.block-in-Some.inside.salt (map (number_of c.args.dag.now.ids) c.as_slice.result.now) n old c.args.votes.now was
-    c.in_ok-number-in-Some.ensures.ok c.len-blocks.ensures.numbered c.len-more.ensures.numbered.order joined)).joining)
+    c.in_ok-number-in-Some.ensures.ok c.len-blocks.ensures.numbered c.len-more.ensures.numbered.order joined) tips).joining)
 
 pub returns-in_err-add-in-Some-clause-front : goal.returns-in_err-add-in-Some-clause-front
 returns-in_err-add-in-Some-clause-front c = λ n le.

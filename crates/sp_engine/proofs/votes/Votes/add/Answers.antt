@@ -1,4 +1,4 @@
-use Rattle.std.proofs.Common.{◌≡◌, ◌∙◌, ◌∷◌, [], ℕ, List, ap, sym, arith, subst, length}
+use Rattle.std.proofs.Common.{◌≡◌, ◌∙◌, ◌∷◌, ◌++◌, [], ℕ, List, ap, sym, arith, subst, length, length-append}
 use Rattle.sp_dag.specs.Numbered.{graph_of, Numbered}
 use Rattle.sp_model.specs.Graph.{past}
 use Rattle.sp_rows.proofs.Keeps.{on_err}
@@ -6,7 +6,7 @@ use Rattle.sp_view.specs.Views.{IsBest, Viewed}
 use Rattle.sp_view.specs.Stored.{count_of}
 use Rattle.sp_engine.specs.Votes.{HaveJoinedBut, held_by, IsLast, IsPut, Tallied}
 use Rattle.sp_engine.proofs.Beside.{shared_lent, shared_tip}
-use Rattle.sp_engine.proofs.Joined.{few_joined, joined_one, joining_moves, last_is}
+use Rattle.sp_engine.proofs.Joined.{few_joined, joined_one, joining_moves, last_is, put_views}
 use Rattle.sp_engine.proofs.votes.Votes.add.Goals as goal
 
 pub new_tip-requires-clause-few : goal.new_tip-requires-clause-few
@@ -70,8 +70,40 @@ returns-in_err-put_tip-clause-err c = on_err c.from_residual-in_err-put_tip.resu
     (λ r some. c.in_err-put_tip.ensures.err_rows r (omega (arith, some, counts r)) ∙ c.in_ok-tip.ensures.places r some)
     c.in_ok-tip.ensures.frozen (omega (arith, c.in_ok-tip.ensures.blocks)))
 
+pub release_covered-requires-clause-within : goal.release_covered-requires-clause-within
+release_covered-requires-clause-within c =
+    let table : Numbered = c.args.dag.now in
+    let v : Tallied = record { frozen = c.self.inside.frozen; rows = c.self.inside.rows; views = c.self.inside.views.items } in
+    let h = subst (λ (w : Tallied). HaveJoinedBut table c.requires.joining.0 c.requires.joining.1 w c.requires.joining.2) (sym c.self.view_is) c.requires.joining.3 in
+    let tip = shared_tip table v c.args.self.now c.new_tip.new.rows c.new_tip.new.frozen.blocks c.in_ok-tip.tip c.as_slice-views.result.now c.reserve.new.self.items (c.requires.joining.2 ∷ [])
+    c.self.view_is c.as_slice-views.ensures.value c.in_ok-reserve.ensures.items (c.in_ok-tip.ensures.shared (c.requires.joining.2 ∷ [])) c.requires.joining.3.joining.shared in
+    let put : IsPut table v.frozen.blocks v.views c.in_ok-tip.tip c.put_tip.new.views.items =
+    subst (λ (l : List Viewed). IsPut table v.frozen.blocks l c.in_ok-tip.tip c.put_tip.new.views.items) c.in_ok-reserve.ensures.items (c.in_ok-put_tip.ensures.put v.frozen.blocks h.last) in
+    let w : Tallied = record { frozen = c.new_tip.new.frozen; rows = c.put_tip.new.rows; views = c.put_tip.new.views.items } in
+    omega (
+      arith,
+      c.requires.joining.4,
+      ap length h.joining.old_is,
+      length-append h.joining.olds (c.requires.joining.2 ∷ []),
+      ap length (put_views table c.requires.joining.0 c.requires.joining.1 v c.requires.joining.2 h w c.in_ok-tip.tip put),
+      length-append h.joining.olds ((h.joining.joined ++ c.in_ok-tip.tip ∷ []) ++ put.more ∷ []),
+      c.put_tip.new.views.ok.0,
+    )
+
+pub release_covered-requires-clause-counts : goal.release_covered-requires-clause-counts
+release_covered-requires-clause-counts c = λ r.
+    let table : Numbered = c.args.dag.now in
+    let v : Tallied = record { frozen = c.self.inside.frozen; rows = c.self.inside.rows; views = c.self.inside.views.items } in
+    let h = subst (λ (w : Tallied). HaveJoinedBut table c.requires.joining.0 c.requires.joining.1 w c.requires.joining.2) (sym c.self.view_is) c.requires.joining.3 in
+    let tip = shared_tip table v c.args.self.now c.new_tip.new.rows c.new_tip.new.frozen.blocks c.in_ok-tip.tip c.as_slice-views.result.now c.reserve.new.self.items (c.requires.joining.2 ∷ [])
+    c.self.view_is c.as_slice-views.ensures.value c.in_ok-reserve.ensures.items (c.in_ok-tip.ensures.shared (c.requires.joining.2 ∷ [])) c.requires.joining.3.joining.shared in
+    omega (arith, (c.in_ok-put_tip.ensures.shared (c.requires.joining.2 ∷ []) tip).counts r)
+
+pub release_covered-requires-clause-views : goal.release_covered-requires-clause-views
+release_covered-requires-clause-views c = (c.new_tip.new.frozen.blocks, c.in_ok-put_tip.ensures.views)
+
 pub returns-clause-joined : goal.returns-clause-joined
-returns-clause-joined c = λ n old was joined.
+returns-clause-joined c = λ n old was joined tips.
     let table : Numbered = c.args.dag.now in
     let v : Tallied = record { frozen = c.self.inside.frozen; rows = c.self.inside.rows; views = c.self.inside.views.items } in
     let h = subst (λ (w : Tallied). HaveJoinedBut table n old w was) (sym c.self.view_is) joined in
@@ -79,10 +111,15 @@ returns-clause-joined c = λ n old was joined.
     c.self.view_is c.as_slice-views.ensures.value c.in_ok-reserve.ensures.items (c.in_ok-tip.ensures.shared (was ∷ [])) joined.joining.shared in
     let put : IsPut table v.frozen.blocks v.views c.in_ok-tip.tip c.put_tip.new.views.items =
     subst (λ (l : List Viewed). IsPut table v.frozen.blocks l c.in_ok-tip.tip c.put_tip.new.views.items) c.in_ok-reserve.ensures.items (c.in_ok-put_tip.ensures.put v.frozen.blocks h.last) in
-    joined_one table n old v was h (record { frozen = c.new_tip.new.frozen; rows = c.put_tip.new.rows; views = c.put_tip.new.views.items }) c.in_ok-tip.tip
-    c.in_ok-tip.ensures.frozen c.in_ok-tip.ensures.blocks c.in_ok-put_tip.ensures.views (c.in_ok-put_tip.ensures.shared (was ∷ []) tip) put c.in_ok-tip.ensures.members
-    (λ i base best. c.in_ok-tip.ensures.kept i base (subst (λ (l : List Viewed). IsBest l (past (graph_of table) v.frozen.blocks) i base) (sym (c.as_slice-views.ensures.value ∙ c.in_ok-reserve.ensures.items)) best))
+    let w : Tallied = record { frozen = c.new_tip.new.frozen; rows = c.put_tip.new.rows; views = c.put_tip.new.views.items } in
+    let front : c.args.tips ≡ length h.joining.olds = omega (arith, tips, ap length h.joining.old_is, length-append h.joining.olds (was ∷ [])) in
+    joined_one table n old v was h w c.in_ok-tip.tip c.in_ok-tip.ensures.frozen c.in_ok-tip.ensures.blocks (c.in_ok-put_tip.ensures.shared (was ∷ []) tip) put
     (λ r front all is more some.
     c.in_ok-put_tip.ensures.places r front all (c.in_ok-reserve.ensures.items ∙ is)
     (omega (arith, more, tip.counts r, h.joining.shared.counts r, ap (λ (l : List Viewed). held_by l r) c.in_ok-reserve.ensures.items)) some
     ∙ c.in_ok-tip.ensures.places r (omega (arith, more)))
+    c.len-blocks.ensures.numbered.order c.len-blocks.ensures.numbered.small c.in_ok-tip.ensures.members
+    (λ i base best. c.in_ok-tip.ensures.kept i base (subst (λ (l : List Viewed). IsBest l (past (graph_of table) v.frozen.blocks) i base) (sym (c.as_slice-views.ensures.value ∙ c.in_ok-reserve.ensures.items)) best))
+    c.release_covered.new.rows c.release_covered.new.views.items
+    (c.release_covered.ensures.rest h.joining.olds ((h.joining.joined ++ c.in_ok-tip.tip ∷ []) ++ put.more ∷ []) front (put_views table n old v was h w c.in_ok-tip.tip put))
+    (c.release_covered.ensures.views table w.frozen.blocks c.in_ok-put_tip.ensures.views) c.release_covered.ensures.counts c.release_covered.ensures.rows

@@ -1,4 +1,4 @@
-use Rattle.std.proofs.Common.{◌≡◌, ◌+◌, ℕ, length, sym, subst, arith}
+use Rattle.std.proofs.Common.{◌≡◌, ◌+◌, [], ℕ, length, refl, sym, subst, arith}
 use Rattle.sp_dag.specs.Numbered.{Numbered}
 use Rattle.sp_engine.specs.Votes.{HaveJoined, Tallied}
 use Rattle.sp_engine.proofs.Grown.{grew}
@@ -21,7 +21,7 @@ returns-clause-voted c =
     let h = subst (λ (w : Tallied). HaveJoined table c.args.before.blocks c.requires.0 w c.args.before.all) (sym c.self.view_is) c.requires.1 in
     let mid = views_mid table c.len-blocks.ensures.numbered.order c.len-blocks.ensures.numbered.small c.len-blocks.ensures.numbered.some c.args.before.blocks c.requires.0 v c.args.before.all h c.release.new.pool c.release.ensures.counts c.release.ensures.rows in
     settled table c.len-blocks.ensures.numbered.order c.len-blocks.ensures.numbered.small c.len-blocks.ensures.numbered.some c.args.before.blocks c.requires.0 v c.args.before.all h c.release.new.pool c.release_covered.new.rows
-    c.release_covered.new.views.items c.release_covered.ensures.rest c.release.ensures.counts c.release_covered.ensures.counts (c.release_covered.ensures.views table v.frozen.blocks mid)
+    c.release_covered.new.views.items (c.release_covered.ensures.rest [] v.views refl refl) c.release.ensures.counts c.release_covered.ensures.counts (c.release_covered.ensures.views table v.frozen.blocks mid)
 
 pub returns-clause-grew : goal.returns-clause-grew
 returns-clause-grew c = λ old joined one.
@@ -30,4 +30,4 @@ returns-clause-grew c = λ old joined one.
     let v : Tallied = record { frozen = c.self.inside.frozen; rows = c.self.inside.rows; views = c.self.inside.views.items } in
     let new : Tallied = record { frozen = c.self.inside.frozen; rows = c.release_covered.new.rows; views = c.release_covered.new.views.items } in
     let h = subst (λ (w : Tallied). HaveJoined table n old w c.args.before.all) (sym c.self.view_is) joined in
-    grew table c.len-blocks.ensures.numbered.order c.len-blocks.ensures.numbered.small n (let e : n + 1 ≡ length table.parents = omega (arith, one) in e) old v new c.args.before.all h c.release_covered.ensures.rest
+    grew table c.len-blocks.ensures.numbered.order c.len-blocks.ensures.numbered.small n (let e : n + 1 ≡ length table.parents = omega (arith, one) in e) old v new c.args.before.all h (c.release_covered.ensures.rest [] v.views refl refl)
