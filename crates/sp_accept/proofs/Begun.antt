@@ -1,32 +1,28 @@
 -- Which flags need no look again where blocks joined the set: all but those of the noted carriers.
-use Rattle.std.proofs.Common.{◌≡◌, ◌≢◌, ◌<◌, ◌≤◌, ◌-◌, ◌∙◌, ◌||◌, ◌&&◌, not, ℕ, zero, suc, Bool, true, false, List, [], ◌∷◌, inl, inr, arith, refl, sym, ap, subst, length, eqb, Some}
+use Rattle.std.proofs.Common.{◌≡◌, ◌≢◌, ◌<◌, ◌≤◌, ◌∙◌, ◌||◌, ◌&&◌, not, ℕ, zero, suc, Bool, true, false, List, [], ◌∷◌, inl, inr, arith, refl, sym, ap, subst, length, eqb, Some}
 use Rattle.std.specs.Prelude.{nat_lt, nat_le, Contains, neg_ℤ}
-use Rattle.std.specs.List.{list_any, range_with_len}
+use Rattle.std.specs.List.{list_all, list_any}
 use Rattle.std.specs.Ordering.{int_eq}
-use Rattle.std.proofs.lemmas.Bool.{and_from, and_parts, cases_lt, eq-eqb, eqb-true, eqb-false, false≢true, le-leb, le-ltb, lt-ltb, ltb-true, or_left, or_right}
+use Rattle.std.proofs.lemmas.Bool.{and_from, cases_lt, false_from_ne_true, eqb-true, eqb-false, false≢true, le-leb, le-ltb, lt-ltb, ltb-true}
 use Rattle.std.proofs.lemmas.Bool.Decides.{Decides-int_eq}
 use Rattle.std.proofs.lemmas.Option.{slice_get-get_or}
-use Rattle.sp_tx.specs.declared.parts.Input.{Input}
-use Rattle.sp_model.specs.Graph.{in_past, keys, related, IsDownset}
+use Rattle.sp_model.specs.Graph.{has, in_past, keys, related, IsDownset}
 use Rattle.sp_model.specs.Votes.{virt}
 use Rattle.sp_model.proofs.Exchange.{virt_neg}
-use Rattle.sp_dag.specs.Numbered.{Numbered, graph_of}
-use Rattle.sp_dag.proofs.Ranked.{keys_are_numbers}
+use Rattle.sp_dag.specs.Numbered.{AreInOrder, Numbered, graph_of}
+use Rattle.sp_dag.proofs.Ranked.{ancestors_lower, keys_are_numbers}
 use Rattle.sp_carry.specs.declared.carrier.Carrier.{Carrier}
-use Rattle.sp_carry.specs.Carried.{Carried, IsCarried, carriers_in}
-use Rattle.sp_carry.specs.Lookups.{spenders_in}
-use Rattle.sp_carry.specs.Rivals.{has_number, Set}
-use Rattle.sp_carry.proofs.Members.{IsIn, any_of_member, member_of_any}
+use Rattle.sp_carry.specs.Carried.{Carried, IsCarried, ledger_of}
+use Rattle.sp_carry.specs.Ledger.{accepts}
 use Rattle.sp_accept.specs.Acceptance.{Acceptance, first_blocks, is_set, IsRight}
 use Rattle.sp_accept.specs.Changes.{carriers_below, TellsChanges}
-use Rattle.sp_accept.specs.Pass.{inputs_at}
-use Rattle.sp_accept.specs.Pending.{are_rivals, AreNoted, AreSettledBut, is_by_new, is_from, is_of_new, is_of_other, is_of_rival, is_of_spender, is_of_tx}
-use Rattle.sp_accept.specs.Rows.{row_at, AreOf}
-use Rattle.sp_accept.proofs.Beside.{in_range_from}
+use Rattle.sp_accept.specs.Pass.{has_source, inputs_at, is_lost, is_next}
+use Rattle.sp_accept.specs.Todo.{AreDue, AreSettledBut, is_due}
+use Rattle.sp_accept.specs.Rows.{payment_at, row_at, AreOf}
+use Rattle.sp_accept.specs.Standing.{is_before, is_below}
 use Rattle.sp_accept.proofs.Carriers.{AreRows, rows_are}
-use Rattle.sp_accept.proofs.Numbers.{of_carrier}
 use Rattle.sp_accept.proofs.StillRight.{first_downset}
-use Rattle.sp_accept.proofs.Unmoved.{rivals_turned, unmoved}
+use Rattle.sp_accept.proofs.Unmoved.{unmoved}
 
 -- ---- the carriers of the first blocks come first
 
@@ -72,67 +68,40 @@ below_few (r ∷ rows) n = at (below_few rows n) (nat_lt r.block n) refl
     at rest true e = (let long : carriers_below (r ∷ rows) n ≡ suc (carriers_below rows n) = rw e refl in omega (arith, long, rest))
     at rest false e = (let long : carriers_below (r ∷ rows) n ≡ carriers_below rows n = rw e refl in omega (arith, long, rest))
 
--- ---- all other carriers stand still
+-- the carriers of later blocks are those from a number on
+pub from_later : (k : Carried) → AreRows k → (n from : ℕ) → from ≡ carriers_below k.rows n → (c : ℕ) → c < length k.rows → n ≤ (row_at k.rows c).block → from ≤ c
+from_later k kept n from at c lc ge =
+    elim (cases_lt c from) [
+      | inl less ↦ absurd (let early : (row_at k.rows c).block < n = (below_is k.rows n kept.in_order c lc).0 (omega (arith, less, at)) in omega (arith, early, ge))
+      | inr le ↦ le
+    ]
+
+-- a block that isn't below a later one is unrelated to it
+pub unrelated_older : (table : Numbered) → AreInOrder table.parents → (z w : ℕ) → z < w → w < length table.parents → is_below table z w ≡ false
+    → (eqb z w || related (graph_of table) z w) ≡ false
+unrelated_older table order z w less within apart = at (eqb z w) (is_below table z w) (is_below table w z) refl apart up
+  where
+    up : is_below table w z ≡ false
+    up = false_from_ne_true (is_below table w z) (λ h. let lower : w < z = ancestors_lower table w z order (omega (arith, less, within)) h in absurd (omega (arith, less, lower)))
+
+    at : (same under over : Bool) → eqb z w ≡ same → under ≡ false → over ≡ false → (same || (not same && (under || over))) ≡ false
+    at true under over e _ _ = absurd (let same : z ≡ w = eqb-true z w e in omega (arith, less, same))
+    at false true over e h _ = absurd (false≢true (sym h))
+    at false false true e _ h = absurd (false≢true (sym h))
+    at false false false e _ _ = refl
+
+-- ---- the carriers of all other blocks stand still
 
 module _ (table : Numbered) (k : Carried) (carried : IsCarried k) (of : AreOf table k) (a : Acceptance) (right : IsRight table k a)
-    (changed : List (ℕ × ℕ)) (told : TellsChanges table a.blocks changed) (set : Set)
-    (news : (d : ℕ) → is_of_new k (carriers_below k.rows a.blocks) (length k.rows - carriers_below k.rows a.blocks) d ≡ true → has_number set d ≡ true)
-    (noted : AreNoted k a.blocks changed (length changed) set) where
+    (changed : List (ℕ × ℕ)) (told : TellsChanges table a.blocks changed) (todo : List ℕ) (due : AreDue table k a.blocks changed todo) where
   abbrev n : ℕ
   n = a.blocks
-
-  abbrev from : ℕ
-  from = carriers_below k.rows a.blocks
 
   abbrev block_of : ℕ → ℕ
   block_of c = (row_at k.rows c).block
 
-  abbrev tx_of : ℕ → ℕ
-  tx_of c = (row_at k.rows c).tx
-
   kept : AreRows k
   kept = rows_are k carried
-
-  placed : (c : ℕ) → c < length k.rows → (c < from → block_of c < n) × (from ≤ c → n ≤ block_of c)
-  placed c lc = below_is k.rows n kept.in_order c lc
-
-  -- a new carrier notes what it should
-  by_new : (c d : ℕ) → c < length k.rows → n ≤ block_of c → is_by_new k c d ≡ true → has_number set d ≡ true
-  by_new c d lc ge h =
-      let later : from ≤ c = elim (cases_lt c from) [ inl less ↦ absurd (let b : block_of c < n = (placed c lc).0 less in omega (arith, b, ge)) | inr le ↦ le ] in
-      news d (any_of_member (λ c. is_by_new k c d) (range_with_len from (length k.rows - from)) c (in_range_from from (length k.rows - from) c later (omega (arith, lc, later))) h)
-
-  old : (d : ℕ) → d < length k.rows → has_number set d ≡ false → block_of d < n
-  old d ld off =
-      elim (cases_lt (block_of d) n) [
-        | inl less ↦ less
-        | inr ge ↦ absurd (false≢true (sym off ∙ by_new d d ld ge (or_left (eqb d d) _ (eq-eqb d d refl))))
-      ]
-
-  no_new : (d : ℕ) → d < length k.rows → has_number set d ≡ false → (e : ℕ) → e < length k.rows → n ≤ block_of e → (row_at k.rows e).sound ≡ true
-      → are_rivals k d e ≡ true → ⊥
-  no_new d ld off e le ge valid rival =
-      let turned : are_rivals k e d ≡ true = rivals_turned table k kept of.long of.order of.sound d e ld le rival in
-      let i : (i : Input) × IsIn (inputs_at k (tx_of e)) i × (list_any (λ tx. not (eqb tx (tx_of e)) && eqb tx (tx_of d)) (spenders_in k.txs i.from) ≡ true) =
-      member_of_any (λ (i : Input). list_any (λ tx. not (eqb tx (tx_of e)) && eqb tx (tx_of d)) (spenders_in k.txs i.from)) (inputs_at k (tx_of e)) turned in
-      let t : (t : ℕ) × IsIn (spenders_in k.txs i.0.from) t × ((not (eqb t (tx_of e)) && eqb t (tx_of d)) ≡ true) =
-      member_of_any (λ tx. not (eqb tx (tx_of e)) && eqb tx (tx_of d)) (spenders_in k.txs i.0.from) i.2 in
-      let p : (not (eqb t.0 (tx_of e)) ≡ true) × (eqb t.0 (tx_of d) ≡ true) = and_parts (not (eqb t.0 (tx_of e))) (eqb t.0 (tx_of d)) t.2 in
-      let one : is_of_rival k 0 (tx_of e) (inputs_at k (tx_of e)) d ≡ true =
-      any_of_member (λ (i : Input). is_of_spender k 0 (tx_of e) i.from d) (inputs_at k (tx_of e)) i.0 i.1
-      (any_of_member (λ tx. is_of_other k.rows 0 (tx_of e) tx d) (spenders_in k.txs i.0.from) t.0 t.1
-      (and_from (not (eqb t.0 (tx_of e))) (is_of_tx k.rows 0 t.0 d) p.0
-      (any_of_member (λ c. is_from 0 c d) (carriers_in k.rows t.0) d (of_carrier k.rows t.0 d ld (sym (eqb-true t.0 (tx_of d) p.1)))
-      (and_from (nat_le 0 d) (eqb d d) (le-leb 0 d (omega arith)) (eq-eqb d d refl))))) in
-      false≢true (sym off ∙ by_new e d le ge (or_right (eqb e d) _ (and_from (row_at k.rows e).sound _ valid one)))
-
-  -- a pair on which the vote turned is noted
-  pair_noted : (x y : ℕ) → x < y → y < n → related (graph_of table) x y ≡ false
-      → virt (graph_of table) (first_blocks n) x y ≢ virt (graph_of table) (keys (graph_of table)) x y → (c e : ℕ) → c < length k.rows → e < length k.rows
-      → block_of c ≡ y → block_of e ≡ x → are_rivals k c e ≡ true → (has_number set c ≡ true) × (has_number set e ≡ true)
-  pair_noted x y less under apart turned c e lc le bc be rival =
-      let there : Contains changed (x, y) = told x y less under apart turned in
-      noted there.0 x y c e there.1 (slice_get-get_or changed there.0 (x, y) there.1 ∙ ap (λ (p : ℕ × ℕ). Some p) there.2) less under lc le bc be rival
 
   all_downset : IsDownset (graph_of table) (keys (graph_of table))
   all_downset = subst (IsDownset (graph_of table)) (sym (keys_are_numbers table)) (first_downset table (length table.parents) of.order (omega arith))
@@ -140,30 +109,44 @@ module _ (table : Numbered) (k : Carried) (carried : IsCarried k) (of : AreOf ta
   first : IsDownset (graph_of table) (first_blocks n)
   first = first_downset table n of.order (let few : n ≤ k.blocks = right.few in omega (arith, few, of.long))
 
-  unrelated_turned : (w z : ℕ) → eqb w z ≡ false → related (graph_of table) w z ≡ false → related (graph_of table) z w ≡ false
-  unrelated_turned w z apart h = at (eqb w z) (eqb z w) (in_past (graph_of table) w z) (in_past (graph_of table) z w) apart h
+  unrelated_parts : (w z : ℕ) → eqb w z ≡ false → related (graph_of table) w z ≡ false → (related (graph_of table) z w ≡ false) × (in_past (graph_of table) z w ≡ false)
+  unrelated_parts w z apart h = at (eqb w z) (eqb z w) (in_past (graph_of table) w z) (in_past (graph_of table) z w) apart h
     where
-      at : (same turned a b : Bool) → same ≡ false → (not same && (a || b)) ≡ false → (not turned && (b || a)) ≡ false
+      at : (same turned a b : Bool) → same ≡ false → (not same && (a || b)) ≡ false → ((not turned && (b || a)) ≡ false) × (b ≡ false)
       at true turned a b e h = absurd (false≢true (sym e))
-      at false true a b e h = refl
-      at false false true b e h = absurd (false≢true (sym h))
+      at false true true true e h = absurd (false≢true (sym h))
+      at false true true false e h = absurd (false≢true (sym h))
+      at false true false true e h = absurd (false≢true (sym h))
+      at false true false false e h = (refl, refl)
+      at false false true true e h = absurd (false≢true (sym h))
+      at false false true false e h = absurd (false≢true (sym h))
       at false false false true e h = absurd (false≢true (sym h))
-      at false false false false e h = refl
+      at false false false false e h = (refl, refl)
 
-  stays : (d : ℕ) → d < length k.rows → has_number set d ≡ false → (e : ℕ) → e < length k.rows → block_of e < n → are_rivals k d e ≡ true
+  -- no later carrier stands in the way of one whose block isn't noted
+  no_new : (d : ℕ) → d < length k.rows → has todo (block_of d) ≡ false → block_of d < n → (e : ℕ) → e < length k.rows → n ≤ block_of e → (row_at k.rows e).sound ≡ true
+      → related (graph_of table) (block_of e) (block_of d) ≡ false → eqb (block_of e) (block_of d) ≡ false → is_before table (block_of d) (block_of e) ≡ false → ⊥
+  no_new d ld off old e le ge valid apart other behind =
+      false≢true (sym off ∙ due.beside (block_of d) e old le ge valid (unrelated_parts (block_of e) (block_of d) other apart).1 behind)
+
+  -- a pair on which the vote turned is noted
+  pair_noted : (x y : ℕ) → x < y → y < n → related (graph_of table) x y ≡ false
+      → virt (graph_of table) (first_blocks n) x y ≢ virt (graph_of table) (keys (graph_of table)) x y → (has todo x ≡ true) × (has todo y ≡ true)
+  pair_noted x y less under apart turned =
+      let there : Contains changed (x, y) = told x y less under apart turned in
+      due.pairs there.0 x y (slice_get-get_or changed there.0 (x, y) there.1 ∙ ap (λ (p : ℕ × ℕ). Some p) there.2) less under
+
+  stays : (d : ℕ) → d < length k.rows → has todo (block_of d) ≡ false → block_of d < n → (e : ℕ) → e < length k.rows → block_of e < n
       → related (graph_of table) (block_of e) (block_of d) ≡ false → eqb (block_of e) (block_of d) ≡ false
       → virt (graph_of table) (first_blocks n) (block_of d) (block_of e) ≡ virt (graph_of table) (keys (graph_of table)) (block_of d) (block_of e)
-  stays d ld off e le under rival apart other =
+  stays d ld off old e le under apart other =
       elim (cases_lt (block_of d) (block_of e)) [
         | inl less ↦ same (block_of d) (block_of e)
-            (λ turned. false≢true (sym off
-            ∙ (pair_noted (block_of d) (block_of e) less under (unrelated_turned (block_of e) (block_of d) other apart) turned e d le ld refl refl
-            (rivals_turned table k kept of.long of.order of.sound d e ld le rival)).1))
+            (λ turned. false≢true (sym off ∙ (pair_noted (block_of d) (block_of e) less under (unrelated_parts (block_of e) (block_of d) other apart).0 turned).0))
         | inr ge ↦ (let ne : block_of e ≢ block_of d = eqb-false (block_of e) (block_of d) other in
             let less : block_of e < block_of d = below (block_of e) (block_of d) ge ne in
             let even : virt (graph_of table) (first_blocks n) (block_of e) (block_of d) ≡ virt (graph_of table) (keys (graph_of table)) (block_of e) (block_of d) =
-            same (block_of e) (block_of d)
-            (λ turned. false≢true (sym off ∙ (pair_noted (block_of e) (block_of d) less (old d ld off) apart turned d e ld le refl refl rival).0)) in
+            same (block_of e) (block_of d) (λ turned. false≢true (sym off ∙ (pair_noted (block_of e) (block_of d) less old apart turned).1)) in
             virt_neg (graph_of table) (first_blocks n) (block_of d) (block_of e) first (λ f. ne (sym f))
             ∙ ap neg_ℤ even
             ∙ sym (virt_neg (graph_of table) (keys (graph_of table)) (block_of d) (block_of e) all_downset (λ f. ne (sym f))))
@@ -181,6 +164,21 @@ module _ (table : Numbered) (k : Carried) (carried : IsCarried k) (of : AreOf ta
           at true e = (Decides-int_eq _ _).0 e
           at false e = absurd (not_other (λ even. false≢true (sym e ∙ (Decides-int_eq _ _).1 even)))
 
-  pub begun : (flags : List Bool) → ((c : ℕ) → is_set flags c ≡ is_set a.carriers c) → AreSettledBut table k flags (has_number set)
-  begun flags same d ld off =
-      unmoved table k kept of.long of.order of.sound n right.few d ld (old d ld off) (no_new d ld off) (stays d ld off) flags (λ e le. same e ∙ right.carriers e le)
+  -- a later carrier that isn't sound is never accepted
+  new_unset : (flags : List Bool) → ((c : ℕ) → is_set flags c ≡ is_set a.carriers c) → (d : ℕ) → d < length k.rows → n ≤ block_of d → (row_at k.rows d).sound ≡ false
+      → is_set flags d ≡ is_next table k flags d
+  new_unset flags same d ld ge unsound =
+      same d ∙ right.carriers d ld
+      ∙ ap (λ (b : Bool). b && accepts (ledger_of table k) (first_blocks n) (block_of d) (payment_at k (row_at k.rows d).tx)) (le-ltb (block_of d) n ge)
+      ∙ sym (ap (λ (b : Bool). b && (list_all (has_source table k flags (block_of d)) (inputs_at k (row_at k.rows d).tx)
+      && not (list_any (is_lost table k flags (row_at k.rows d)) (inputs_at k (row_at k.rows d).tx)))) unsound)
+
+  pub begun : (flags : List Bool) → ((c : ℕ) → is_set flags c ≡ is_set a.carriers c) → AreSettledBut table k flags (is_due k.rows todo 0)
+  begun flags same d ld free =
+      elim (cases_lt (block_of d) n) [
+        | inl old ↦ unmoved table k kept of.long of.order of.sound n right.few d ld old (no_new d ld off old) (stays d ld off old) flags (λ e le. same e ∙ right.carriers e le)
+        | inr ge ↦ new_unset flags same d ld ge (false_from_ne_true (row_at k.rows d).sound (λ valid. false≢true (sym off ∙ due.news d ld ge valid)))
+      ]
+    where
+      off : has todo (block_of d) ≡ false
+      off = false_from_ne_true (has todo (block_of d)) (λ there. false≢true (sym free ∙ and_from (has todo (block_of d)) (nat_le 0 (block_of d)) there (le-leb 0 (block_of d) (omega arith))))

@@ -1,5 +1,6 @@
 pub mod Numbers
 pub mod Places
+pub mod Ranges
 pub mod Carriers
 pub mod Decided
 pub mod Passed
@@ -8,16 +9,12 @@ pub mod Renamed
 pub mod States
 pub mod Grown
 pub mod StillRight
-pub mod Listed
-pub mod Runs
-pub mod Beside
 pub mod Behind
 pub mod Unmoved
 pub mod Begun
 pub mod Toggled
 pub mod Settled
-pub mod Popped
+pub mod Due
 pub mod Reached
-pub mod Gathered
 pub mod Updated
 pub mod Outcome

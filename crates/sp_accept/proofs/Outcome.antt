@@ -10,7 +10,7 @@ use Rattle.sp_carry.proofs.Members.{any_agrees}
 use Rattle.sp_accept.specs.Acceptance.{Acceptance, is_set, IsRight}
 use Rattle.sp_accept.specs.Flips.{flips_among, flips_of, with_flips}
 use Rattle.sp_accept.specs.Pass.{is_carried_flag}
-use Rattle.sp_accept.specs.Pending.{grown, AreSettledBut, AreTurned}
+use Rattle.sp_accept.specs.Todo.{grown, AreSettledBut, AreTurned}
 use Rattle.sp_accept.specs.Rows.{row_at, AreOf}
 use Rattle.sp_accept.proofs.Updated.{flips_are, flips_between, flips_long, flips_set, grown_long, grown_same, untouched, updated}
 

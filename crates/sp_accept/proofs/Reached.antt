@@ -19,7 +19,7 @@ use Rattle.sp_carry.proofs.Noting.{is_eq-nat_cmp}
 use Rattle.sp_carry.proofs.Rivalry.{equal_is_same, range_sorted}
 use Rattle.sp_accept.specs.Flips.{with_flips}
 use Rattle.sp_accept.specs.Rows.{row_at}
-use Rattle.sp_accept.proofs.Beside.{in_range_from}
+use Rattle.sp_accept.proofs.Ranges.{in_range_from}
 use Rattle.sp_accept.proofs.Carriers.{rows_are}
 use Rattle.sp_accept.proofs.Places.{in_place}
 

@@ -6,7 +6,7 @@ use Rattle.std.proofs.lemmas.List.{set-get_or}
 use Rattle.sp_carry.proofs.Members.{IsIn, in_append_right, member_meets}
 use Rattle.std.proofs.lemmas.List.Elements.{All-push}
 use Rattle.sp_accept.specs.Acceptance.{is_set}
-use Rattle.sp_accept.specs.Pending.{all_turned, AreTurned, turned_at}
+use Rattle.sp_accept.specs.Todo.{all_turned, AreTurned, turned_at}
 
 not_not : (b : Bool) → not (not b) ≡ b
 not_not true = refl

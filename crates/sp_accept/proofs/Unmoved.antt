@@ -1,30 +1,25 @@
--- Carriers on which the blocks that joined the set can't bear: what the old flags say of them is what the flags below them give.
-use Rattle.std.proofs.Common.{◌≡◌, ◌<◌, ◌≤◌, ◌∙◌, ◌&&◌, not, ℕ, Bool, true, false, List, [], inl, inr, arith, refl, sym, ap, subst, length, eqb}
+-- Carriers on which the blocks that joined the set don't bear: what the old flags say of them is what the flags below them give.
+use Rattle.std.proofs.Common.{◌≡◌, ◌<◌, ◌≤◌, ◌∙◌, ◌&&◌, not, ℕ, Bool, true, false, List, inl, inr, arith, sym, ap, length, eqb}
 use Rattle.std.specs.Prelude.{negsuc, ℤ}
-use Rattle.std.specs.List.{list_any}
 use Rattle.std.specs.Ordering.{int_eq}
-use Rattle.std.proofs.lemmas.Bool.{and_from, and_parts, cases_lt, eq-eqb, eqb-true, lt-ltb, not_from_false, not-true}
-use Rattle.sp_tx.specs.Parts.{of_parts}
+use Rattle.std.proofs.lemmas.Bool.{and_from, and_parts, cases_lt, lt-ltb, not-true}
 use Rattle.sp_tx.specs.declared.parts.Input.{Input}
 use Rattle.sp_model.specs.Graph.{anticone, has, keys, related}
 use Rattle.sp_model.specs.Votes.{virt}
 use Rattle.sp_model.proofs.Sets.{has-filter, has-filter_from, same_truth}
 use Rattle.sp_dag.specs.Numbered.{Numbered, AreInOrder, graph_of}
 use Rattle.sp_dag.proofs.Ranked.{key_in, ancestors_lower}
-use Rattle.sp_carry.specs.Payment.{Payment, is_same_outpoint}
+use Rattle.sp_carry.specs.Payment.{Payment}
 use Rattle.sp_carry.specs.Ledger.{accepts, has_sources, is_alone, is_first, is_rival, is_sound, some_carrier}
 use Rattle.sp_carry.specs.Carried.{AreSound, Carried, ledger_of}
-use Rattle.sp_carry.specs.Lookups.{spenders_in}
 use Rattle.sp_carry.proofs.Acceptance.{accepts_is, carrier_found, found_carrier}
-use Rattle.sp_carry.proofs.Members.{IsIn, any_of_member, member_of_any}
+use Rattle.sp_carry.proofs.Members.{IsIn}
 use Rattle.sp_accept.specs.Acceptance.{first_blocks, is_accepted_carrier, is_set}
-use Rattle.sp_accept.specs.Pass.{inputs_at, is_next}
-use Rattle.sp_accept.specs.Pending.{are_rivals}
+use Rattle.sp_accept.specs.Pass.{is_next}
 use Rattle.sp_accept.specs.Rows.{payment_at, row_at}
-use Rattle.sp_accept.specs.Standing.{is_below}
-use Rattle.sp_accept.proofs.Carriers.{AreRows, carried_at, carries, same_turned}
+use Rattle.sp_accept.specs.Standing.{is_before, is_below}
+use Rattle.sp_accept.proofs.Carriers.{AreRows, carried_at, carries}
 use Rattle.sp_accept.proofs.Decided.{IsRivalAt, next_is, rival_at, whole}
-use Rattle.sp_accept.proofs.Numbers.{of_spender, spender_of}
 use Rattle.sp_accept.proofs.StillRight.{first_in, of_first}
 
 module _ (table : Numbered) (k : Carried) (kept : AreRows k) (blocks : length table.parents ≡ k.blocks) (order : AreInOrder table.parents) (sound : AreSound table k) where
@@ -40,43 +35,12 @@ module _ (table : Numbered) (k : Carried) (kept : AreRows k) (blocks : length ta
   abbrev set : List ℕ
   set = keys (graph_of table)
 
-  -- ---- rivals
-
-  pub rivals_turned : (c e : ℕ) → c < length k.rows → e < length k.rows → are_rivals k c e ≡ true → are_rivals k e c ≡ true
-  rivals_turned c e lc le h =
-      let i : (i : Input) × IsIn (inputs_at k (tx_of c)) i × (list_any (λ tx. not (eqb tx (tx_of c)) && eqb tx (tx_of e)) (spenders_in k.txs i.from) ≡ true) =
-      member_of_any (λ (i : Input). list_any (λ tx. not (eqb tx (tx_of c)) && eqb tx (tx_of e)) (spenders_in k.txs i.from)) (inputs_at k (tx_of c)) h in
-      let t : (t : ℕ) × IsIn (spenders_in k.txs i.0.from) t × ((not (eqb t (tx_of c)) && eqb t (tx_of e)) ≡ true) =
-      member_of_any (λ tx. not (eqb tx (tx_of c)) && eqb tx (tx_of e)) (spenders_in k.txs i.0.from) i.2 in
-      let p : (not (eqb t.0 (tx_of c)) ≡ true) × (eqb t.0 (tx_of e) ≡ true) = and_parts (not (eqb t.0 (tx_of c))) (eqb t.0 (tx_of e)) t.2 in
-      let same : t.0 ≡ tx_of e = eqb-true t.0 (tx_of e) p.1 in
-      let q = spender_of k.txs (of_parts [] []) i.0.from t.0 t.1 in
-      let j : (j : Input) × IsIn (inputs_at k t.0) j × (is_same_outpoint i.0.from j.from ≡ true) =
-      member_of_any (λ (j : Input). is_same_outpoint i.0.from j.from) (inputs_at k t.0) q.1 in
-      any_of_member (λ (j : Input). list_any (λ tx. not (eqb tx (tx_of e)) && eqb tx (tx_of c)) (spenders_in k.txs j.from)) (inputs_at k (tx_of e)) j.0
-      (subst (λ (n : ℕ). IsIn (inputs_at k n) j.0) same j.1)
-      (any_of_member (λ tx. not (eqb tx (tx_of e)) && eqb tx (tx_of c)) (spenders_in k.txs j.0.from) (tx_of c)
-      (of_spender k.txs (of_parts [] []) j.0.from (tx_of c) (kept.known c lc)
-      (any_of_member (λ (l : Input). is_same_outpoint j.0.from l.from) (inputs_at k (tx_of c)) i.0 i.1 (same_turned j.0.from i.0.from ∙ j.2)))
-      (and_from (not (eqb (tx_of c) (tx_of e))) (eqb (tx_of c) (tx_of c))
-      (ap (λ (b : Bool). not b) (ap (eqb (tx_of c)) (sym same)) ∙ ap (λ (b : Bool). not b) (turned (tx_of c) t.0) ∙ p.0) (eq-eqb (tx_of c) (tx_of c) refl)))
-    where
-      turned : (a b : ℕ) → eqb a b ≡ eqb b a
-      turned a b = same_truth (eqb a b) (eqb b a) (λ h. eq-eqb b a (sym (eqb-true a b h))) (λ h. eq-eqb a b (sym (eqb-true b a h)))
-
-  -- what the ledger calls a rival
-  rivals_from : (c e : ℕ) (i : Input) → e < length k.rows → IsRivalAt table k kept blocks order sound (λ w u. false) c i e → are_rivals k c e ≡ true
-  rivals_from c e i le r =
-      any_of_member (λ (i : Input). list_any (λ tx. not (eqb tx (tx_of c)) && eqb tx (tx_of e)) (spenders_in k.txs i.from)) (inputs_at k (tx_of c)) i r.input
-      (any_of_member (λ tx. not (eqb tx (tx_of c)) && eqb tx (tx_of e)) (spenders_in k.txs i.from) (tx_of e)
-      (of_spender k.txs (of_parts [] []) i.from (tx_of e) (kept.known e le) r.spent)
-      (and_from (not (eqb (tx_of e) (tx_of c))) (eqb (tx_of e) (tx_of e)) (not_from_false (eqb (tx_of e) (tx_of c)) r.apart) (eq-eqb (tx_of e) (tx_of e) refl)))
-
   -- ---- one carrier of the first n blocks
 
   module _ (n : ℕ) (few : n ≤ k.blocks) (c : ℕ) (lc : c < length k.rows) (old : block_of c < n)
-      (no_new : (e : ℕ) → e < length k.rows → n ≤ block_of e → (row_at k.rows e).sound ≡ true → are_rivals k c e ≡ true → ⊥)
-      (stays : (e : ℕ) → e < length k.rows → block_of e < n → are_rivals k c e ≡ true → related (graph_of table) (block_of e) (block_of c) ≡ false → eqb (block_of e) (block_of c) ≡ false
+      (no_new : (e : ℕ) → e < length k.rows → n ≤ block_of e → (row_at k.rows e).sound ≡ true → related (graph_of table) (block_of e) (block_of c) ≡ false
+      → eqb (block_of e) (block_of c) ≡ false → is_before table (block_of c) (block_of e) ≡ false → ⊥)
+      (stays : (e : ℕ) → e < length k.rows → block_of e < n → related (graph_of table) (block_of e) (block_of c) ≡ false → eqb (block_of e) (block_of c) ≡ false
       → virt (graph_of table) (first_blocks n) (block_of c) (block_of e) ≡ virt (graph_of table) set (block_of c) (block_of e)) where
     beside_in : List ℕ → ℕ → Payment → Bool
     beside_in s w u = is_rival (ledger_of table k) (carried_by c) w u && not (int_eq (virt (graph_of table) s (block_of c) w) (negsuc 0))
@@ -85,7 +49,8 @@ module _ (table : Numbered) (k : Carried) (kept : AreRows k) (blocks : length ta
     is_apart w = not (eqb w (block_of c)) && not (related (graph_of table) w (block_of c))
 
     -- a rival in an unrelated block stands in the way in the one set where it does in the other
-    moved : (one other : List ℕ) → ((e : ℕ) → e < length k.rows → has one (block_of e) ≡ true → (row_at k.rows e).sound ≡ true → are_rivals k c e ≡ true → is_apart (block_of e) ≡ true
+    moved : (one other : List ℕ) → ((e : ℕ) → e < length k.rows → has one (block_of e) ≡ true → (row_at k.rows e).sound ≡ true → is_apart (block_of e) ≡ true
+        → not (int_eq (virt (graph_of table) one (block_of c) (block_of e)) (negsuc 0)) ≡ true
         → (has other (block_of e) ≡ true) × (virt (graph_of table) other (block_of c) (block_of e) ≡ virt (graph_of table) one (block_of c) (block_of e)))
         → some_carrier (ledger_of table k) (anticone (graph_of table) one (block_of c)) (beside_in one) ≡ true
         → some_carrier (ledger_of table k) (anticone (graph_of table) other (block_of c)) (beside_in other) ≡ true
@@ -105,7 +70,7 @@ module _ (table : Numbered) (k : Carried) (kept : AreRows k) (blocks : length ta
             and_parts (is_rival (ledger_of table k) (carried_by c) (block_of e) (carried_by e)) _ stands in
             let i : (i : Input) × IsRivalAt table k kept blocks order sound (λ w u. false) c i e = rival_at table k kept blocks order sound (λ w u. false) c e lc le p.0 in
             let s : (has other (block_of e) ≡ true) × (virt (graph_of table) other (block_of c) (block_of e) ≡ virt (graph_of table) one (block_of c) (block_of e)) =
-            same e le there i.1.valid (rivals_from c e i.0 le i.1) apart in
+            same e le there i.1.valid apart p.1 in
             found_carrier (ledger_of table k) (anticone (graph_of table) other (block_of c)) (beside_in other) (block_of e) (carried_by e)
             (has-filter_from is_apart other (block_of e) s.0 apart) (carries k kept e le)
             (and_from (is_rival (ledger_of table k) (carried_by c) (block_of e) (carried_by e)) (not (int_eq (virt (graph_of table) other (block_of c) (block_of e)) (negsuc 0)))
@@ -120,19 +85,23 @@ module _ (table : Numbered) (k : Carried) (kept : AreRows k) (blocks : length ta
     unfolding beside_in
     first_same = ap (λ (b : Bool). not b) (same_truth _ _ (moved set (first_blocks n) forth) (moved (first_blocks n) set back))
       where
-        forth : (e : ℕ) → e < length k.rows → has set (block_of e) ≡ true → (row_at k.rows e).sound ≡ true → are_rivals k c e ≡ true → is_apart (block_of e) ≡ true
+        forth : (e : ℕ) → e < length k.rows → has set (block_of e) ≡ true → (row_at k.rows e).sound ≡ true → is_apart (block_of e) ≡ true
+            → not (int_eq (virt (graph_of table) set (block_of c) (block_of e)) (negsuc 0)) ≡ true
             → (has (first_blocks n) (block_of e) ≡ true) × (virt (graph_of table) (first_blocks n) (block_of c) (block_of e) ≡ virt (graph_of table) set (block_of c) (block_of e))
-        forth e le there valid rival apart =
+        forth e le there valid apart stands =
+            (let parts = apart_parts (block_of e) apart in
             elim (cases_lt (block_of e) n) [
-              | inl less ↦ (first_in n (block_of e) less, stays e le less rival (apart_parts (block_of e) apart).1 (apart_parts (block_of e) apart).0)
-              | inr ge ↦ absurd (no_new e le ge valid rival)
-            ]
+              | inl less ↦ (first_in n (block_of e) less, stays e le less parts.1 parts.0)
+              | inr ge ↦ absurd (no_new e le ge valid parts.1 parts.0 (not-true (is_before table (block_of c) (block_of e)) stands))
+            ])
 
-        back : (e : ℕ) → e < length k.rows → has (first_blocks n) (block_of e) ≡ true → (row_at k.rows e).sound ≡ true → are_rivals k c e ≡ true → is_apart (block_of e) ≡ true
+        back : (e : ℕ) → e < length k.rows → has (first_blocks n) (block_of e) ≡ true → (row_at k.rows e).sound ≡ true → is_apart (block_of e) ≡ true
+            → not (int_eq (virt (graph_of table) (first_blocks n) (block_of c) (block_of e)) (negsuc 0)) ≡ true
             → (has set (block_of e) ≡ true) × (virt (graph_of table) set (block_of c) (block_of e) ≡ virt (graph_of table) (first_blocks n) (block_of c) (block_of e))
-        back e le there valid rival apart =
-            let less : block_of e < n = of_first n (block_of e) there in
-            (key_in table (block_of e) (omega (arith, less, few, blocks)), sym (stays e le less rival (apart_parts (block_of e) apart).1 (apart_parts (block_of e) apart).0))
+        back e le there valid apart _ =
+            (let less : block_of e < n = of_first n (block_of e) there in
+            let parts = apart_parts (block_of e) apart in
+            (key_in table (block_of e) (omega (arith, less, few, blocks)), sym (stays e le less parts.1 parts.0)))
 
     abbrev accepted : ℕ → Payment → Bool
     accepted w u = accepts (ledger_of table k) (first_blocks n) w u

@@ -5,4 +5,4 @@ pub mod Flips
 pub mod Changes
 pub mod Pass
 pub mod States
-pub mod Pending
+pub mod Todo

@@ -99,11 +99,12 @@ impl Accepted {
     /// the value is of. `changed` has the pairs of these blocks on which the virtual vote turned, the
     /// lower number first; it may have more pairs, which cost time alone.
     ///
-    /// It looks at the new carriers and those of their rivals, at the carriers of the pairs' blocks
-    /// that have a rival in the other one, and behind each carrier that turns at those of its rivals
-    /// and of the spenders of its outputs, each once. To find them it goes over the carriers of each
-    /// block that is the higher one of a pair, once where the pairs ascend by it. Each of these
-    /// takes the look-ups of one step of `rebuild`, and one in an ordered set.
+    /// It looks again at the carriers of whole blocks, block by block and ascending, at each once: of the
+    /// new blocks with a sound carrier, of the older blocks that don't come before one of these, of both
+    /// blocks of each pair, and of each block above one in which a carrier turned. Each carrier takes the
+    /// look-ups of one step of `rebuild`. The order is asked of each older block beside each new one with
+    /// a sound carrier, and of each block above one in which a carrier turned. Memory is taken for the
+    /// flags, for what turned, and for the answer.
     ///
     /// # Errors
     ///

@@ -3,7 +3,7 @@
 ghost use Rattle.std.specs.Prelude.{◌≡◌, ◌≤◌, length, vec_capacity};
 ghost use Rattle.sp_accept.specs.Acceptance.{is_set};
 ghost use Rattle.sp_accept.specs.Flips.{differ};
-ghost use Rattle.sp_accept.specs.Pending.{grown};
+ghost use Rattle.sp_accept.specs.Todo.{grown};
 
 /// Whether the flag of a number is set. One that isn't there is not.
 pub(crate) fn is_set(flags: &[bool], number: u32) -> bool

@@ -5,17 +5,16 @@
 #![tactic(auto)]
 
 mod accepted;
-mod changed;
 mod flags;
 mod flips;
 pub mod laws;
 mod lookups;
 mod order;
 mod pass;
-mod pending;
 mod rivals;
 mod settle;
 mod sources;
+mod todo;
 mod touched;
 mod update;
 

@@ -1,6 +1,6 @@
 //! Look-ups in the carriers, with what always holds of what they find.
 
-ghost use Rattle.std.specs.Prelude.{◌≡◌, ◌<◌, length, All};
+ghost use Rattle.std.specs.Prelude.{◌≡◌, ◌<◌, ◌≤◌, ℕ, length, All};
 ghost use Rattle.sp_carry.specs.Carried.{carriers_in};
 ghost use Rattle.sp_carry.specs.Lookups.{spenders_in};
 ghost use Rattle.sp_accept.specs.Rows.{row_at};
@@ -18,6 +18,28 @@ pub(crate) fn carrier_at(carriers: &Carriers, c: u32) -> Carrier
     // Tells the proof what always holds of carriers.
     let _blocks = carriers.block_count();
     carriers.carrier(c)
+}
+
+/// The number of the first carrier whose block isn't below this one, by halves.
+pub(crate) fn first_from(carriers: &Carriers, block: u16) -> u32
+    ensures within { result ≤ length carriers.now.rows }
+    ensures below { (c : ℕ) → c < result → (row_at carriers.now.rows c).block < block }
+    ensures from { (c : ℕ) → result ≤ c → c < length carriers.now.rows →
+        block ≤ (row_at carriers.now.rows c).block }
+{
+    // Tells the proof that carriers ascend by block.
+    let _blocks = carriers.block_count();
+    let mut low = 0;
+    let mut high = carriers.carrier_count();
+    'halves: while low < high {
+        let middle = low + (high - low) / 2;
+        if carrier_at(carriers, middle).block < block {
+            low = middle + 1;
+        } else {
+            high = middle;
+        }
+    }
+    low
 }
 
 /// The carriers of a transaction.

@@ -1,21 +1,24 @@
-//! Carriers are decided on again, the lowest first, until each flag says what those before it give.
-//! Those that turn are noted, so that they can be turned back.
+//! The carriers of a row of blocks are decided on again, block by block and ascending, until each flag
+//! says what those before it give. Where one turned, the blocks above its own join the row. Those that
+//! turn are noted, so that they can be turned back.
 
-ghost use Rattle.std.specs.Prelude.{◌≡◌, ◌<◌, ◌≤◌, ◌||◌, ◌==◌, false, ℕ, Bool, List, length, All, IsTrue, OnOk};
-ghost use Rattle.std.specs.BTreeSet.{keys, IsOrdered};
-ghost use Rattle.std.specs.Ordering.{nat_cmp};
-ghost use Rattle.sp_carry.specs.Carried.{IsCarried};
-ghost use Rattle.sp_carry.specs.Rivals.{has_number};
-ghost use Rattle.sp_accept.specs.Pending.{all_turned, AreSettledBut, AreTurned, IsLaterNoted, turned_at};
-ghost use Rattle.sp_accept.specs.Rows.{AreOf};
+ghost use Rattle.std.specs.Prelude.{◌≡◌, ◌≢◌, ◌<◌, ◌≤◌, ◌+◌, ◌||◌, ◌&&◌, false, ℕ, Bool, List, length, All, IfOk, IsFalse, IsTrue, OnOk};
+ghost use Rattle.sp_model.specs.Graph.{has};
+ghost use Rattle.sp_dag.specs.Numbered.{AreInOrder};
+ghost use Rattle.sp_accept.specs.Acceptance.{is_set};
+ghost use Rattle.sp_accept.specs.Pass.{is_next};
+ghost use Rattle.sp_accept.specs.Rows.{row_at, AreOf};
+ghost use Rattle.sp_accept.specs.Standing.{is_below};
+ghost use Rattle.sp_accept.specs.Todo.{all_turned, AreSettledBut, AreTurned, is_due, turned_at};
 
 use crate::flags::{differ, is_set};
+use crate::lookups::first_from;
 use crate::order::Order;
 use crate::pass::is_next;
-use crate::pending::note_later;
+use crate::todo::note;
+use sp_bits::Row;
 use sp_carry::Carriers;
 use std::alloc::AllocError;
-use std::collections::BTreeSet;
 
 /// Turns the flag of a carrier, and notes it first. Where memory was refused, nothing turned.
 fn turn(flags: &mut Vec<bool>, turned: &mut Vec<u32>, c: u32) -> Result<(), AllocError>
@@ -29,58 +32,135 @@ fn turn(flags: &mut Vec<bool>, turned: &mut Vec<u32>, c: u32) -> Result<(), Allo
     Ok(())
 }
 
-/// Decides again on a carrier, and where its flag turns notes those behind it on which it may bear.
+/// Decides again on a carrier, and answers whether its flag turned. Those that are settled stay so,
+/// but for the ones above its block where it turned.
 fn settle_one<O: Order>(
     order: &O,
     carriers: &Carriers,
-    pending: &mut BTreeSet<u32>,
     flags: &mut Vec<bool>,
     turned: &mut Vec<u32>,
     c: u32,
-) -> Result<(), AllocError>
+) -> Result<bool, AllocError>
     requires of { AreOf (O.table order.now) carriers.now }
     requires within { c < length carriers.now.rows }
     requires long { length flags.old.items ≡ length carriers.now.rows }
-    requires settled { AreSettledBut (O.table order.now) carriers.now flags.old.items
-        (λ d. (c == d) || has_number pending.old d) }
     ensures turned { AreTurned flags.old.items flags.new.items turned.old.items turned.new.items }
-    ensures settled { OnOk result
-        (AreSettledBut (O.table order.now) carriers.now flags.new.items (has_number pending.new)) }
-    ensures pending { OnOk result (IsLaterNoted carriers.now c pending.old pending.new) }
+    ensures own { OnOk result (is_set flags.new.items c
+        ≡ is_next (O.table order.now) carriers.now flags.new.items c) }
+    ensures others { IfOk result (λ any. (d : ℕ) → c ≢ d → d < length carriers.now.rows →
+        (any && is_below (O.table order.now) (row_at carriers.now.rows c).block (row_at carriers.now.rows d).block) ≡ false →
+        is_set flags.old.items d ≡ is_next (O.table order.now) carriers.now flags.old.items d →
+        is_set flags.new.items d ≡ is_next (O.table order.now) carriers.now flags.new.items d) }
 {
     // Tells the proof what carriers are.
     let _blocks = carriers.block_count();
     let now = is_next(order, carriers, flags, c);
     if differ(is_set(flags, c), now) {
         turn(flags, turned, c)?;
-        note_later(pending, carriers, c)?;
+        return Ok(true);
+    }
+    Ok(false)
+}
+
+/// Decides again on the carriers of a block, and answers whether one turned.
+fn settle_block<O: Order>(
+    order: &O,
+    carriers: &Carriers,
+    todo: &Row,
+    flags: &mut Vec<bool>,
+    turned: &mut Vec<u32>,
+    block: u16,
+) -> Result<bool, AllocError>
+    requires of { AreOf (O.table order.now) carriers.now }
+    requires block { block < carriers.now.blocks }
+    requires long { length flags.old.items ≡ length carriers.now.rows }
+    requires settled { AreSettledBut (O.table order.now) carriers.now flags.old.items
+        (is_due carriers.now.rows todo.now block) }
+    ensures turned { AreTurned flags.old.items flags.new.items turned.old.items turned.new.items }
+    ensures settled { IfOk result (λ any. AreSettledBut (O.table order.now) carriers.now flags.new.items
+        (λ d. is_due carriers.now.rows todo.now (block + 1) d
+        || (any && is_below (O.table order.now) block (row_at carriers.now.rows d).block))) }
+{
+    // Tells the proof that there are at most 512 blocks.
+    let _blocks = carriers.block_count();
+    let end = first_from(carriers, block + 1);
+    let mut any = false;
+    'carriers: for c in first_from(carriers, block)..end {
+        if settle_one(order, carriers, flags, turned, c)? {
+            any = true;
+        }
+    }
+    Ok(any)
+}
+
+/// Notes the blocks above a block.
+fn note_future<O: Order>(todo: &mut Row, order: &O, block: u16, count: u16)
+    requires order { AreInOrder (O.table order.now).parents }
+    requires few { length (O.table order.now).parents ≤ 512 }
+    requires count { count ≡ length (O.table order.now).parents }
+    requires within { block < count }
+    ensures kept { (z : ℕ) → IsTrue (has todo.old z) → IsTrue (has todo.new z) }
+    ensures above { (z : ℕ) → z < count → IsTrue (is_below (O.table order.now) block z) →
+        IsTrue (has todo.new z) }
+{
+    'above: for z in block + 1..count {
+        if order.in_past(block, z) {
+            note(todo, z);
+        }
+    }
+}
+
+/// Decides again on the carriers of a block, where it is in the row. Where one turned, the blocks above
+/// it join the row.
+fn settle_next<O: Order>(
+    order: &O,
+    carriers: &Carriers,
+    todo: &mut Row,
+    flags: &mut Vec<bool>,
+    turned: &mut Vec<u32>,
+    block: u16,
+) -> Result<(), AllocError>
+    requires of { AreOf (O.table order.now) carriers.now }
+    requires block { block < carriers.now.blocks }
+    requires long { length flags.old.items ≡ length carriers.now.rows }
+    requires settled { AreSettledBut (O.table order.now) carriers.now flags.old.items
+        (is_due carriers.now.rows todo.old block) }
+    ensures turned { AreTurned flags.old.items flags.new.items turned.old.items turned.new.items }
+    ensures settled { OnOk result (AreSettledBut (O.table order.now) carriers.now flags.new.items
+        (is_due carriers.now.rows todo.new (block + 1))) }
+{
+    let count = carriers.block_count();
+    if !todo.test(block) {
+        return Ok(());
+    }
+    if settle_block(order, carriers, todo, flags, turned, block)? {
+        note_future(todo, order, block, count);
+        return Ok(());
     }
     Ok(())
 }
 
-/// Decides again on the carriers of the set, the lowest first, and on those that are noted on the way.
-/// Each is decided on once, since those that are noted stand behind it.
+/// Decides again on the carriers of the row's blocks, and of those that join it on the way. Each is
+/// decided on once, since a block that joins stands above the one that is decided on.
 pub(crate) fn settle<O: Order>(
     order: &O,
     carriers: &Carriers,
-    pending: &mut BTreeSet<u32>,
+    todo: &mut Row,
     flags: &mut Vec<bool>,
     turned: &mut Vec<u32>,
 ) -> Result<(), AllocError>
     requires of { AreOf (O.table order.now) carriers.now }
-    requires within { (d : ℕ) → IsTrue (has_number pending.old d) → d < length carriers.now.rows }
     requires long { length flags.old.items ≡ length carriers.now.rows }
-    requires settled { AreSettledBut (O.table order.now) carriers.now flags.old.items (has_number pending.old) }
+    requires settled { AreSettledBut (O.table order.now) carriers.now flags.old.items
+        (is_due carriers.now.rows todo.old 0) }
     ensures turned { AreTurned flags.old.items flags.new.items turned.old.items turned.new.items }
     ensures settled { OnOk result
         (AreSettledBut (O.table order.now) carriers.now flags.new.items (λ _. false)) }
 {
-    'carriers: loop {
-        let Some(c) = pending.pop_first() else {
-            return Ok(());
-        };
-        settle_one(order, carriers, pending, flags, turned, c)?;
+    'due: for block in 0..carriers.block_count() {
+        settle_next(order, carriers, todo, flags, turned, block)?;
     }
+    Ok(())
 }
 
 /// Turns the noted flags back, the last one first.

@@ -8,7 +8,7 @@ ghost use Rattle.sp_carry.specs.Rivals.{has_number};
 ghost use Rattle.sp_carry.specs.declared.carrier.Flip.{Flip};
 ghost use Rattle.sp_accept.specs.Flips.{flips_among, with_flips};
 ghost use Rattle.sp_accept.specs.Pass.{is_carried_flag};
-ghost use Rattle.sp_accept.specs.Pending.{grown};
+ghost use Rattle.sp_accept.specs.Todo.{grown};
 ghost use Rattle.sp_accept.specs.Rows.{row_at};
 
 use crate::flags::{grow, is_set};

@@ -1,50 +1,25 @@
-//! What an update does before it is sure to succeed: it finds the carriers that may turn, decides on
-//! them, and finds the transactions that turn with them. Where memory was refused, it turns all back.
+//! What an update does before it is sure to succeed: it finds the blocks whose carriers may turn, decides
+//! on these, and finds the transactions that turn with them. Where memory was refused, it turns all back.
 
-ghost use Rattle.std.specs.Prelude.{◌≡◌, ◌<◌, ◌≤◌, ◌==◌, [], false, ℕ, All, length, filter, vec_capacity, IfOk, IsTrue, OnErr, OnOk};
+ghost use Rattle.std.specs.Prelude.{◌≡◌, ◌<◌, ◌≤◌, ◌==◌, [], false, ℕ, All, length, filter, vec_capacity, IfOk, OnErr, OnOk};
 ghost use Rattle.std.specs.List.{list_any, range_with_len};
-ghost use Rattle.sp_carry.specs.Rivals.{has_number};
 ghost use Rattle.sp_carry.specs.declared.carrier.Flip.{Flip};
 ghost use Rattle.sp_accept.specs.Acceptance.{is_set, IsRight};
 ghost use Rattle.sp_accept.specs.Changes.{carriers_below, TellsChanges};
 ghost use Rattle.sp_accept.specs.Flips.{flips_among};
 ghost use Rattle.sp_accept.specs.Pass.{is_carried_flag};
-ghost use Rattle.sp_accept.specs.Pending.{grown, AreSettledBut, AreTurned, IsReached};
+ghost use Rattle.sp_accept.specs.Todo.{AreSettledBut, AreTurned, grown, is_due};
 ghost use Rattle.sp_accept.specs.Rows.{row_at, AreOf};
 
-use crate::changed::note_changed;
 use crate::flags::grow;
 use crate::order::Order;
-use crate::pending::note_all_new;
 use crate::settle::{settle, turn_back};
+use crate::todo::todo_of;
 use crate::touched::turned_txs;
+use sp_bits::Row;
 use sp_carry::{Carriers, Flip};
 use sp_ids::Memory;
 use std::alloc::{AllocError, Global};
-use std::collections::BTreeSet;
-
-/// The carriers that the new blocks may turn: the new ones, those of their rivals, and those that
-/// conflict with one another in two blocks on which the vote turned.
-fn pending_of(
-    alloc: Global,
-    carriers: &Carriers,
-    changed: &[(u16, u16)],
-    blocks: u16,
-    from: u32,
-) -> Result<BTreeSet<u32>, Memory>
-    requires blocks { blocks ≤ carriers.now.blocks }
-    requires first { from ≡ carriers_below carriers.now.rows blocks }
-    ensures within { IfOk result (λ pending. (d : ℕ) →
-        IsTrue (has_number pending d) → d < length carriers.now.rows) }
-    ensures reached { IfOk result (λ pending. IsReached carriers.now blocks changed.now pending) }
-{
-    // Tells the proof what carriers are.
-    let _blocks = carriers.block_count();
-    let mut pending = BTreeSet::new(alloc);
-    note_all_new(&mut pending, carriers, from)?;
-    note_changed(&mut pending, carriers, changed, blocks)?;
-    Ok(pending)
-}
 
 /// Takes memory for a flag of each carrier, and for one of each transaction.
 fn make_room(
@@ -63,21 +38,21 @@ fn make_room(
     txs.reserve(tx_count.saturating_sub(txs.len()))
 }
 
-/// Decides again on the carriers of the set and on those that they reach, and answers the
+/// Decides again on the carriers of the row's blocks and on those that they reach, and answers the
 /// transactions that turn with them.
 fn flips_by<O: Order>(
     alloc: Global,
     order: &O,
     carriers: &Carriers,
-    pending: &mut BTreeSet<u32>,
+    todo: &mut Row,
     flags: &mut Vec<bool>,
     turned: &mut Vec<u32>,
     txs: &[bool],
 ) -> Result<Vec<Flip>, Memory>
     requires of { AreOf (O.table order.now) carriers.now }
-    requires within { (d : ℕ) → IsTrue (has_number pending.old d) → d < length carriers.now.rows }
     requires long { length flags.old.items ≡ length carriers.now.rows }
-    requires settled { AreSettledBut (O.table order.now) carriers.now flags.old.items (has_number pending.old) }
+    requires settled { AreSettledBut (O.table order.now) carriers.now flags.old.items
+        (is_due carriers.now.rows todo.old 0) }
     requires none { turned.old.items ≡ [] }
     ensures turned { AreTurned flags.old.items flags.new.items [] turned.new.items }
     ensures settled { OnOk result
@@ -87,7 +62,7 @@ fn flips_by<O: Order>(
     ensures flips { IfOk result (λ flips. flips.items ≡ flips_among txs.now (is_carried_flag carriers.now flags.new.items)
         (filter (λ tx. list_any (λ c. (row_at carriers.now.rows c).tx == tx) turned.new.items) (range_with_len 0 (length carriers.now.txs)))) }
 {
-    settle(order, carriers, pending, flags, turned)?;
+    settle(order, carriers, todo, flags, turned)?;
     let flips = turned_txs(alloc, carriers, turned, flags, txs)?;
     Ok(flips)
 }
@@ -97,16 +72,15 @@ fn decide_or_turn_back<O: Order>(
     alloc: Global,
     order: &O,
     carriers: &Carriers,
-    pending: &mut BTreeSet<u32>,
+    todo: &mut Row,
     flags: &mut Vec<bool>,
     txs: &[bool],
 ) -> Result<Vec<Flip>, Memory>
     requires of { AreOf (O.table order.now) carriers.now }
-    requires within { (d : ℕ) → IsTrue (has_number pending.old d) → d < length carriers.now.rows }
     requires short { length flags.old.items ≤ length carriers.now.rows }
     requires room { length carriers.now.rows ≤ vec_capacity flags.old }
     requires settled { AreSettledBut (O.table order.now) carriers.now
-        (grown flags.old.items (length carriers.now.rows)) (has_number pending.old) }
+        (grown flags.old.items (length carriers.now.rows)) (is_due carriers.now.rows todo.old 0) }
     requires carried { (tx : ℕ) → tx < length carriers.now.txs
         → is_set txs.now tx ≡ is_carried_flag carriers.now flags.old.items tx }
     ensures long { OnOk result (length flags.new.items ≡ length carriers.now.rows) }
@@ -121,7 +95,7 @@ fn decide_or_turn_back<O: Order>(
     let mut turned = Vec::new(alloc);
     let long = flags.len();
     grow(flags, carriers.carrier_count() as usize);
-    let found = flips_by(alloc, order, carriers, pending, flags, &mut turned, txs);
+    let found = flips_by(alloc, order, carriers, todo, flags, &mut turned, txs);
     match found {
         Ok(flips) => Ok(flips),
         Err(Memory) => {
@@ -161,7 +135,7 @@ pub(crate) fn decide_on_changes<O: Order>(
 {
     // Tells the proof what carriers are.
     let _blocks = carriers.block_count();
-    let mut pending = pending_of(alloc, carriers, changed, blocks, from)?;
     make_room(carriers, flags, txs)?;
-    decide_or_turn_back(alloc, order, carriers, &mut pending, flags, txs)
+    let mut todo = todo_of(order, carriers, changed, blocks, from);
+    decide_or_turn_back(alloc, order, carriers, &mut todo, flags, txs)
 }

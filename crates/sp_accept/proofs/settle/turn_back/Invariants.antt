@@ -1,6 +1,6 @@
 use Rattle.std.proofs.Common.{◌≡◌, ◌<◌, Bool, List, length}
 use Rattle.std.specs.Prelude.{All}
-use Rattle.sp_accept.specs.Pending.{all_turned}
+use Rattle.sp_accept.specs.Todo.{all_turned}
 use Rattle.sp_accept.proofs.settle.turn_back.Given as goal
 
 abbrev pub invariant-turned : goal.invariant-turned

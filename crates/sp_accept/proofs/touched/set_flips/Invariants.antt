@@ -1,6 +1,6 @@
 use Rattle.std.proofs.Common.{◌≡◌, length, take}
 use Rattle.sp_accept.specs.Flips.{with_flips}
-use Rattle.sp_accept.specs.Pending.{grown}
+use Rattle.sp_accept.specs.Todo.{grown}
 use Rattle.sp_accept.proofs.touched.set_flips.Given as goal
 
 abbrev pub invariant-flips : goal.invariant-flips

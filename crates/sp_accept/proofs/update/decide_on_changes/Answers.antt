@@ -1,7 +1,7 @@
 use Rattle.std.proofs.Common.{◌∙◌, ◌-◌, Bool, List, sym, ap, length}
 use Rattle.sp_accept.specs.Acceptance.{is_set}
 use Rattle.sp_accept.specs.Pass.{is_carried_flag}
-use Rattle.sp_accept.specs.Pending.{grown}
+use Rattle.sp_accept.specs.Todo.{grown}
 use Rattle.sp_accept.proofs.Begun.{begun}
 use Rattle.sp_accept.proofs.Updated.{grown_same, right_carried}
 use Rattle.sp_accept.proofs.update.decide_on_changes.Goals as goal
@@ -9,7 +9,7 @@ use Rattle.sp_accept.proofs.update.decide_on_changes.Goals as goal
 pub decide_or_turn_back-requires-clause-settled : goal.decide_or_turn_back-requires-clause-settled
 decide_or_turn_back-requires-clause-settled g c =
     begun (g.O.Order.table c.args.order.now) c.args.carriers.now c.block_count-blocks.ensures.carried c.requires.of _ c.requires.right c.args.changed.now c.requires.told
-    c.in_ok-pending.pending c.in_ok-pending.ensures.reached.news c.in_ok-pending.ensures.reached.noted
+    c.todo_of-todo.result c.todo_of-todo.ensures
     (grown c.make_room.new.flags.items (length c.args.carriers.now.rows))
     (λ e. grown_same c.make_room.new.flags.items (length c.args.carriers.now.rows - length c.make_room.new.flags.items) e
     ∙ ap (λ (l : List Bool). is_set l e) c.in_ok-make_room.ensures.same)
