@@ -17,12 +17,13 @@ use Rattle.sp_carry.specs.Carried.{Carried, IsCarried, carriers_in}
 use Rattle.sp_carry.specs.Lookups.{spenders_in}
 use Rattle.sp_carry.specs.Rivals.{has_number, Set}
 use Rattle.sp_carry.proofs.Members.{IsIn, any_of_member, member_of_any}
-use Rattle.sp_accept.specs.Acceptance.{Acceptance, first_blocks, is_set, IsRight}
+use Rattle.sp_carry.specs.Flags.{is_set}
+use Rattle.sp_carry.proofs.Rivalry.{in_range_from}
+use Rattle.sp_accept.specs.Acceptance.{Acceptance, first_blocks, IsRight}
 use Rattle.sp_accept.specs.Changes.{carriers_below, TellsChanges}
 use Rattle.sp_accept.specs.Pass.{inputs_at}
 use Rattle.sp_accept.specs.Pending.{are_rivals, AreNoted, AreSettledBut, is_by_new, is_from, is_of_new, is_of_other, is_of_rival, is_of_spender, is_of_tx}
 use Rattle.sp_accept.specs.Rows.{row_at, AreOf}
-use Rattle.sp_accept.proofs.Beside.{in_range_from}
 use Rattle.sp_accept.proofs.Carriers.{AreRows, rows_are}
 use Rattle.sp_accept.proofs.Numbers.{of_carrier}
 use Rattle.sp_accept.proofs.StillRight.{first_downset}

@@ -19,12 +19,12 @@ use Rattle.sp_carry.specs.Carried.{AreSound, Carried, carriers_in, ledger_of, tx
 use Rattle.sp_carry.specs.Lookups.{is_spent_by, spenders_in}
 use Rattle.sp_carry.proofs.Grants.{find_member}
 use Rattle.sp_carry.proofs.Members.{IsIn, all_agrees, any_agrees, any_of_member, in_flat_map, in_map_from, member_of_all, member_of_any}
-use Rattle.sp_accept.specs.Acceptance.{is_set}
+use Rattle.sp_carry.specs.Flags.{is_set}
+use Rattle.sp_carry.proofs.Rivalry.{in_range_from}
 use Rattle.sp_accept.specs.Pass.{has_source, inputs_at, is_accepted_below, is_beaten, is_beaten_at, is_lost, is_next, is_paid_by}
 use Rattle.sp_accept.specs.Pending.{is_from, is_later, is_of_buyer, is_of_other, is_of_rival, is_of_spender, is_of_tx}
 use Rattle.sp_accept.specs.Rows.{no_row, payment_at, row_at}
 use Rattle.sp_accept.specs.Standing.{is_before, is_below}
-use Rattle.sp_accept.proofs.Beside.{in_range_from}
 use Rattle.sp_accept.proofs.Carriers.{AreRows, carried_at, id_is, one_number, same_turned}
 use Rattle.sp_accept.proofs.Decided.{past_first, whole}
 use Rattle.sp_accept.proofs.Numbers.{carrier_of, of_carrier, of_spender, spender_of}

@@ -9,20 +9,13 @@ use Rattle.sp_carry.specs.Carried.{Carried, carriers_in}
 use Rattle.sp_carry.specs.Lookups.{spenders_in}
 use Rattle.sp_carry.specs.Rivals.{has_number, IsNotedBy, Set}
 use Rattle.sp_carry.proofs.Members.{IsIn, any_of_member, member_of_any}
+use Rattle.sp_carry.proofs.Rivalry.{in_range_from}
 use Rattle.sp_accept.specs.Pass.{inputs_at}
 use Rattle.sp_accept.specs.Pending.{are_rivals, AreBeside, AreNoted, IsRun, IsWithin, is_beside, is_beside_other, is_beside_spender, is_beside_tx, is_of_beside, is_one_of}
 use Rattle.sp_accept.specs.Rows.{row_at}
 use Rattle.sp_accept.proofs.Numbers.{carrier_of, of_carrier}
 
 -- numbers of a range
-pub in_range_from : (a n x : ℕ) → a ≤ x → x < a + n → IsIn (range_with_len a n) x
-in_range_from a zero x ge lt = absurd (omega (arith, ge, lt))
-in_range_from a (suc n) x ge lt =
-    elim (cases_lt a x) [
-      | inl later ↦ inr (in_range_from (a + 1) n x (omega (arith, later)) (omega (arith, lt)))
-      | inr here ↦ inl (omega (arith, ge, here))
-    ]
-
 pub in_range : (a n x : ℕ) → IsIn (range_with_len a n) x → (a ≤ x) × (x < a + n)
 in_range a zero x h = absurd h
 in_range a (suc n) x h =

@@ -1,25 +1,21 @@
 -- The transactions of the carriers that turned, and their flags.
-use Rattle.std.proofs.Common.{◌≡◌, ◌<◌, ◌+◌, ◌∙◌, ℕ, Bool, true, List, [], ◌∷◌, ◌++◌, take, arith, refl, sym, ap, length, get_or, eqb}
-use Rattle.std.specs.Prelude.{All, filter, slice_set}
+use Rattle.std.proofs.Common.{◌≡◌, ◌<◌, ◌∙◌, ℕ, Bool, true, List, arith, refl, sym, ap, length, get_or, eqb}
+use Rattle.std.specs.Prelude.{All, filter}
 use Rattle.std.specs.List.{list_any, range_with_len}
 use Rattle.std.specs.BTreeMap.{is_at}
 use Rattle.std.specs.BTreeSet.{IsOrdered}
 use Rattle.std.specs.Ordering.{is_eq, nat_cmp}
 use Rattle.std.proofs.lemmas.Bool.{eq-eqb, eqb-true}
 use Rattle.std.proofs.lemmas.Cmp.{nat_cmp_total}
-use Rattle.std.proofs.lemmas.List.{take_more}
 use Rattle.std.proofs.lemmas.List.Elements.{All-from_get_or}
 use Rattle.std.proofs.lemmas.List.Kept.{IsStrictlySortedBy-filter}
 use Rattle.std.proofs.lemmas.Map.Lookups.{btree_set_from_contains}
-use Rattle.sp_carry.specs.declared.carrier.Flip.{Flip}
 use Rattle.sp_carry.specs.Carried.{Carried, IsCarried}
 use Rattle.sp_carry.specs.Rivals.{has_number, Set}
 use Rattle.sp_carry.proofs.Members.{IsIn, any_of_member, bool_same, in_filter, in_filter_from, member_meets, member_of_any}
 use Rattle.sp_carry.proofs.Noting.{is_eq-nat_cmp}
-use Rattle.sp_carry.proofs.Rivalry.{equal_is_same, range_sorted}
-use Rattle.sp_accept.specs.Flips.{with_flips}
+use Rattle.sp_carry.proofs.Rivalry.{equal_is_same, in_range_from, range_sorted}
 use Rattle.sp_accept.specs.Rows.{row_at}
-use Rattle.sp_accept.proofs.Beside.{in_range_from}
 use Rattle.sp_accept.proofs.Carriers.{rows_are}
 use Rattle.sp_accept.proofs.Places.{in_place}
 
@@ -56,16 +52,3 @@ pub filtered_within : (test : ℕ → Bool) (n : ℕ) (xs : List ℕ) → ((d : 
 filtered_within test n xs below =
     All-from_get_or (λ d. d < n) (filter test xs) 0
     (λ i lt. below (get_or (filter test xs) i 0) (in_filter test xs (get_or (filter test xs) i 0) (in_place (filter test xs) 0 i lt)).1)
-
--- ---- flips that are set
-
-pub with_flips_more : (flags : List Bool) (flips : List Flip) (flip : Flip) → with_flips flags (flips ++ flip ∷ []) ≡ slice_set (with_flips flags flips) flip.tx flip.now
-with_flips_more flags [] flip = refl
-with_flips_more flags (f ∷ flips) flip = with_flips_more (slice_set flags f.tx f.now) flips flip
-
-pub set_next : (flags now : List Bool) (flips : List Flip) (i : ℕ) (flip : Flip) → i < length flips → flip ≡ get_or flips i flip → now ≡ with_flips flags (take i flips)
-    → slice_set now flip.tx flip.now ≡ with_flips flags (take (i + 1) flips)
-set_next flags now flips i flip lt e is =
-    ap (λ (l : List Bool). slice_set l flip.tx flip.now) is
-    ∙ sym (with_flips_more flags (take i flips) flip)
-    ∙ ap (with_flips flags) (sym (take_more flips i flip lt ∙ ap (λ (f : Flip). take i flips ++ f ∷ []) (sym e)))

@@ -11,7 +11,7 @@ use Rattle.sp_carry.specs.Carried.{Carried, IsCarried, carriers_in, tx_at}
 use Rattle.sp_carry.specs.Lookups.{spenders_in}
 use Rattle.sp_carry.specs.Rivals.{has_number, IsNotedBy, Set}
 use Rattle.sp_carry.proofs.Members.{IsIn, member_of_any}
-use Rattle.sp_accept.specs.Acceptance.{is_set}
+use Rattle.sp_carry.specs.Flags.{is_set}
 use Rattle.sp_accept.specs.Flips.{differ}
 use Rattle.sp_accept.specs.Pass.{inputs_at, is_next}
 use Rattle.sp_accept.specs.Pending.{AreSettledBut, is_from, is_later, is_of_buyer, is_of_other, is_of_rival, is_of_spender, is_of_tx, IsLaterNoted, turned_at}

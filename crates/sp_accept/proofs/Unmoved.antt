@@ -17,7 +17,8 @@ use Rattle.sp_carry.specs.Carried.{AreSound, Carried, ledger_of}
 use Rattle.sp_carry.specs.Lookups.{spenders_in}
 use Rattle.sp_carry.proofs.Acceptance.{accepts_is, carrier_found, found_carrier}
 use Rattle.sp_carry.proofs.Members.{IsIn, any_of_member, member_of_any}
-use Rattle.sp_accept.specs.Acceptance.{first_blocks, is_accepted_carrier, is_set}
+use Rattle.sp_carry.specs.Flags.{is_set}
+use Rattle.sp_accept.specs.Acceptance.{first_blocks, is_accepted_carrier}
 use Rattle.sp_accept.specs.Pass.{inputs_at, is_next}
 use Rattle.sp_accept.specs.Pending.{are_rivals}
 use Rattle.sp_accept.specs.Rows.{payment_at, row_at}

@@ -10,7 +10,7 @@ use Rattle.sp_carry.specs.declared.carrier.Carrier.{Carrier}
 use Rattle.sp_carry.specs.Carried.{Carried, carriers_in, tx_at}
 use Rattle.sp_carry.specs.Lookups.{spenders_in}
 use Rattle.sp_carry.specs.Rivals.{has_number, Set}
-use Rattle.sp_accept.specs.Acceptance.{is_set}
+use Rattle.sp_carry.specs.Flags.{is_set}
 use Rattle.sp_accept.specs.Changes.{carriers_below}
 use Rattle.sp_accept.specs.Pass.{inputs_at, is_next}
 use Rattle.sp_accept.specs.Rows.{row_at}

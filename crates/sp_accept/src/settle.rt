@@ -9,11 +9,11 @@ ghost use Rattle.sp_carry.specs.Rivals.{has_number};
 ghost use Rattle.sp_accept.specs.Pending.{all_turned, AreSettledBut, AreTurned, IsLaterNoted, turned_at};
 ghost use Rattle.sp_accept.specs.Rows.{AreOf};
 
-use crate::flags::{differ, is_set};
+use crate::flags::differ;
 use crate::order::Order;
 use crate::pass::is_next;
 use crate::pending::note_later;
-use sp_carry::Carriers;
+use sp_carry::{Carriers, is_set};
 use std::alloc::AllocError;
 use std::collections::BTreeSet;
 

@@ -2,8 +2,8 @@
 
 ghost use Rattle.std.specs.Prelude.{◌≡◌, ◌≤◌, ◌<◌, ◌++◌, ℕ, All, false, List, length, take};
 ghost use Rattle.sp_tx.specs.Parts.{Transaction};
+ghost use Rattle.sp_carry.specs.Flags.{is_set};
 ghost use Rattle.sp_money.specs.declared.slot.Slot.{Slot};
-ghost use Rattle.sp_money.specs.Accepted.{is_set};
 ghost use Rattle.sp_money.specs.Held.{coins_of, IsOf};
 ghost use Rattle.sp_money.specs.Kept.{held_of, IsEarly, IsKept};
 ghost use Rattle.sp_money.specs.Locks.{each_once, locks_in, AreNumbered};
