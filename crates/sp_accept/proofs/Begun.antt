@@ -14,7 +14,8 @@ use Rattle.sp_dag.proofs.Ranked.{ancestors_lower, keys_are_numbers}
 use Rattle.sp_carry.specs.declared.carrier.Carrier.{Carrier}
 use Rattle.sp_carry.specs.Carried.{Carried, IsCarried, ledger_of}
 use Rattle.sp_carry.specs.Ledger.{accepts}
-use Rattle.sp_accept.specs.Acceptance.{Acceptance, first_blocks, is_set, IsRight}
+use Rattle.sp_carry.specs.Flags.{is_set}
+use Rattle.sp_accept.specs.Acceptance.{Acceptance, first_blocks, IsRight}
 use Rattle.sp_accept.specs.Changes.{carriers_below, TellsChanges}
 use Rattle.sp_accept.specs.Pass.{has_source, inputs_at, is_lost, is_next}
 use Rattle.sp_accept.specs.Todo.{AreDue, AreSettledBut, is_due}

@@ -8,7 +8,7 @@ use Rattle.sp_dag.specs.Numbered.{Numbered}
 use Rattle.sp_carry.specs.Carried.{Carried, carriers_in}
 use Rattle.sp_carry.specs.Lookups.{spenders_in}
 use Rattle.sp_carry.proofs.Members.{all_agrees, any_agrees}
-use Rattle.sp_accept.specs.Acceptance.{is_set}
+use Rattle.sp_carry.specs.Flags.{is_set}
 use Rattle.sp_accept.specs.Pass.{has_source, inputs_at, is_accepted_below, is_beaten, is_beaten_at, is_lost, is_next, is_paid, is_paid_by}
 use Rattle.sp_accept.specs.Rows.{row_at}
 use Rattle.sp_accept.specs.Standing.{is_before, is_below}

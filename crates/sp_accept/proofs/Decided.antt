@@ -22,7 +22,7 @@ use Rattle.sp_carry.specs.Carried.{AreSound, Carried, carriers_in, ledger_of}
 use Rattle.sp_carry.specs.Lookups.{is_spent_by, spenders_in}
 use Rattle.sp_carry.proofs.Acceptance.{carrier_found, found_carrier}
 use Rattle.sp_carry.proofs.Members.{IsIn, all_agrees, any_of_member, member_of_any}
-use Rattle.sp_accept.specs.Acceptance.{is_set}
+use Rattle.sp_carry.specs.Flags.{is_set}
 use Rattle.sp_accept.specs.Pass.{has_source, inputs_at, is_accepted_below, is_beaten, is_beaten_at, is_lost, is_next, is_paid, is_paid_by}
 use Rattle.sp_accept.specs.Rows.{no_row, payment_at, row_at}
 use Rattle.sp_accept.specs.Standing.{is_before, is_below}

@@ -7,7 +7,7 @@ use Rattle.sp_dag.specs.Numbered.{Numbered}
 use Rattle.sp_dag.proofs.Ranked.{ancestors_lower}
 use Rattle.sp_model.specs.Graph.{has}
 use Rattle.sp_carry.specs.Carried.{Carried, IsCarried}
-use Rattle.sp_accept.specs.Acceptance.{is_set}
+use Rattle.sp_carry.specs.Flags.{is_set}
 use Rattle.sp_accept.specs.Pass.{is_next}
 use Rattle.sp_accept.specs.Rows.{row_at, AreOf}
 use Rattle.sp_accept.specs.Standing.{is_below}

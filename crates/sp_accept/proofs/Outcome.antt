@@ -7,8 +7,9 @@ use Rattle.sp_dag.specs.Numbered.{Numbered}
 use Rattle.sp_carry.specs.declared.carrier.Flip.{Flip}
 use Rattle.sp_carry.specs.Carried.{Carried, IsCarried, carriers_in}
 use Rattle.sp_carry.proofs.Members.{any_agrees}
-use Rattle.sp_accept.specs.Acceptance.{Acceptance, is_set, IsRight}
-use Rattle.sp_accept.specs.Flips.{flips_among, flips_of, with_flips}
+use Rattle.sp_carry.specs.Flags.{is_set, with_flips}
+use Rattle.sp_accept.specs.Acceptance.{Acceptance, IsRight}
+use Rattle.sp_accept.specs.Flips.{flips_among, flips_of}
 use Rattle.sp_accept.specs.Pass.{is_carried_flag}
 use Rattle.sp_accept.specs.Todo.{grown, AreSettledBut, AreTurned}
 use Rattle.sp_accept.specs.Rows.{row_at, AreOf}

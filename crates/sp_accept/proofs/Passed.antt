@@ -13,11 +13,12 @@ use Rattle.sp_carry.specs.Ledger.{Ledger, accepted_carriers, accepts}
 use Rattle.sp_carry.specs.Carried.{AreSound, Carried, IsCarried, carriers_in, ledger_of}
 use Rattle.sp_carry.proofs.Conflicts.{accepted_from, from_accepted}
 use Rattle.sp_carry.proofs.Members.{IsIn, any_of_member, member_of_any}
-use Rattle.sp_accept.specs.Acceptance.{Acceptance, first_blocks, is_accepted_carrier, is_accepted_tx, is_set, IsRight}
+use Rattle.sp_accept.specs.Acceptance.{Acceptance, first_blocks, is_accepted_carrier, is_accepted_tx, IsRight}
 use Rattle.sp_accept.specs.Pass.{carried_flags, is_carried_flag, is_next, passed}
 use Rattle.sp_accept.specs.Rows.{AreOf, payment_at, row_at}
 use Rattle.sp_accept.proofs.Carriers.{AreRows, rows_are, carried_at, carries, one_number}
 use Rattle.sp_carry.proofs.Acceptance.{accepts_is}
+use Rattle.sp_carry.specs.Flags.{is_set}
 use Rattle.sp_accept.proofs.Decided.{next_is, past_first, whole}
 use Rattle.sp_accept.proofs.Numbers.{carrier_of, of_carrier}
 use Rattle.sp_accept.proofs.StillRight.{first_in, of_first}

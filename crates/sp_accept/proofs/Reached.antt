@@ -17,7 +17,7 @@ use Rattle.sp_carry.specs.Rivals.{has_number, Set}
 use Rattle.sp_carry.proofs.Members.{IsIn, any_of_member, bool_same, in_filter, in_filter_from, member_meets, member_of_any}
 use Rattle.sp_carry.proofs.Noting.{is_eq-nat_cmp}
 use Rattle.sp_carry.proofs.Rivalry.{equal_is_same, range_sorted}
-use Rattle.sp_accept.specs.Flips.{with_flips}
+use Rattle.sp_carry.specs.Flags.{with_flips}
 use Rattle.sp_accept.specs.Rows.{row_at}
 use Rattle.sp_accept.proofs.Ranges.{in_range_from}
 use Rattle.sp_accept.proofs.Carriers.{rows_are}

@@ -4,7 +4,7 @@ use Rattle.std.proofs.lemmas.Bool.{false≢true, false_from_ne_true}
 use Rattle.sp_dag.specs.Numbered.{Numbered}
 use Rattle.sp_dag.proofs.Ranked.{ancestors_lower}
 use Rattle.sp_carry.specs.Carried.{Carried, IsCarried}
-use Rattle.sp_accept.specs.Acceptance.{is_set}
+use Rattle.sp_carry.specs.Flags.{is_set}
 use Rattle.sp_accept.specs.Flips.{differ}
 use Rattle.sp_accept.specs.Pass.{is_next}
 use Rattle.sp_accept.specs.Rows.{row_at, AreOf}

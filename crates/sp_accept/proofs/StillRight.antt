@@ -18,7 +18,8 @@ use Rattle.sp_carry.specs.Carried.{Carried, IsCarried, ledger_of, payments_in, w
 use Rattle.sp_carry.proofs.Blocks.{blocks_all}
 use Rattle.sp_carry.proofs.Conflicts.{accepted_from}
 use Rattle.sp_carry.proofs.Members.{IsIn, member_of_any}
-use Rattle.sp_accept.specs.Acceptance.{Acceptance, first_blocks, is_accepted_carrier, is_accepted_tx, is_set, IsRight}
+use Rattle.sp_carry.specs.Flags.{is_set}
+use Rattle.sp_accept.specs.Acceptance.{Acceptance, first_blocks, is_accepted_carrier, is_accepted_tx, IsRight}
 use Rattle.sp_accept.specs.Rows.{no_row, payment_at, row_at}
 use Rattle.sp_accept.proofs.Carriers.{carried_at, one_number, rows_are}
 use Rattle.sp_accept.proofs.Grown.{GoesOn, goes_all, payments_stay}

@@ -5,7 +5,7 @@ use Rattle.std.proofs.Math.ListN.{get_or-append}
 use Rattle.std.proofs.lemmas.List.{set-get_or}
 use Rattle.sp_carry.proofs.Members.{IsIn, in_append_right, member_meets}
 use Rattle.std.proofs.lemmas.List.Elements.{All-push}
-use Rattle.sp_accept.specs.Acceptance.{is_set}
+use Rattle.sp_carry.specs.Flags.{is_set}
 use Rattle.sp_accept.specs.Todo.{all_turned, AreTurned, turned_at}
 
 not_not : (b : Bool) → not (not b) ≡ b

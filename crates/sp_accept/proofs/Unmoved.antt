@@ -14,7 +14,8 @@ use Rattle.sp_carry.specs.Ledger.{accepts, has_sources, is_alone, is_first, is_r
 use Rattle.sp_carry.specs.Carried.{AreSound, Carried, ledger_of}
 use Rattle.sp_carry.proofs.Acceptance.{accepts_is, carrier_found, found_carrier}
 use Rattle.sp_carry.proofs.Members.{IsIn}
-use Rattle.sp_accept.specs.Acceptance.{first_blocks, is_accepted_carrier, is_set}
+use Rattle.sp_carry.specs.Flags.{is_set}
+use Rattle.sp_accept.specs.Acceptance.{first_blocks, is_accepted_carrier}
 use Rattle.sp_accept.specs.Pass.{is_next}
 use Rattle.sp_accept.specs.Rows.{payment_at, row_at}
 use Rattle.sp_accept.specs.Standing.{is_before, is_below}

@@ -13,8 +13,9 @@ use Rattle.sp_carry.specs.declared.carrier.Flip.{Flip}
 use Rattle.sp_carry.specs.Ledger.{accepts}
 use Rattle.sp_carry.specs.Carried.{Carried, IsCarried, carriers_in, ledger_of}
 use Rattle.sp_carry.proofs.Members.{IsIn, any_agrees, any_of_member, in_filter, in_filter_from, in_map, in_map_from}
-use Rattle.sp_accept.specs.Acceptance.{Acceptance, is_set, IsRight}
-use Rattle.sp_accept.specs.Flips.{differ, flips_among, flips_of, with_flips}
+use Rattle.sp_carry.specs.Flags.{is_set, with_flips}
+use Rattle.sp_accept.specs.Acceptance.{Acceptance, IsRight}
+use Rattle.sp_accept.specs.Flips.{differ, flips_among, flips_of}
 use Rattle.sp_accept.specs.Pass.{is_carried_flag}
 use Rattle.sp_accept.specs.Todo.{all_turned, AreSettledBut}
 use Rattle.sp_accept.specs.Rows.{payment_at, row_at, AreOf}

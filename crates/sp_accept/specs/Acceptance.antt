@@ -1,9 +1,10 @@
 -- What contracts see of the accepted carriers, and when that is right.
-use Rattle.std.specs.Prelude.{ℕ, ◌<◌, ◌≤◌, ◌≡◌, ◌&&◌, nat_lt, Bool, false, List, length, slice_index_or}
+use Rattle.std.specs.Prelude.{ℕ, ◌<◌, ◌≤◌, ◌≡◌, ◌&&◌, nat_lt, Bool, List, length}
 use Rattle.std.specs.List.{range_with_len}
 use Rattle.sp_dag.specs.Numbered.{Numbered}
 use Rattle.sp_carry.specs.Ledger.{accepts, is_accepted}
 use Rattle.sp_carry.specs.Carried.{Carried, ledger_of}
+use Rattle.sp_carry.specs.Flags.{is_set}
 use Rattle.sp_accept.specs.Rows.{payment_at, row_at}
 
 -- how many blocks the acceptance is of, and by number which carriers and which transactions are accepted
@@ -11,10 +12,6 @@ pub record Acceptance : Type 0 where
   pub blocks : ℕ
   pub carriers : List Bool
   pub txs : List Bool
-
--- whether the flag of a number is there and set
-abbrev pub is_set : List Bool → ℕ → Bool
-is_set flags n = slice_index_or flags n false
 
 -- the first so many blocks
 abbrev pub first_blocks : ℕ → List ℕ

@@ -1,8 +1,8 @@
 -- Which transactions' acceptance differs.
-use Rattle.std.specs.Prelude.{ℕ, Bool, true, false, not, List, [], ◌∷◌, map, filter, slice_set}
+use Rattle.std.specs.Prelude.{ℕ, Bool, true, false, not, List, map, filter}
 use Rattle.std.specs.List.{range_with_len}
+use Rattle.sp_carry.specs.Flags.{is_set}
 use Rattle.sp_carry.specs.declared.carrier.Flip.{Flip}
-use Rattle.sp_accept.specs.Acceptance.{is_set}
 
 abbrev pub differ : Bool → Bool → Bool
 differ true b = not b
@@ -17,8 +17,3 @@ flips_of old new count =
 -- of these transactions, each with its new flag, those whose old one differs, in their order
 abbrev pub flips_among : List Bool → (ℕ → Bool) → List ℕ → List Flip
 flips_among old new txs = filter (λ (flip : Flip). differ (is_set old flip.tx) flip.now) (map (λ tx. record { tx = tx; now = new tx }) txs)
-
--- the flags with those of some transactions set, one after another
-abbrev pub with_flips : List Bool → List Flip → List Bool
-with_flips flags [] = flags
-with_flips flags (flip ∷ flips) = with_flips (slice_set flags flip.tx flip.now) flips

@@ -7,8 +7,8 @@ use Rattle.sp_dag.specs.Numbered.{Numbered}
 use Rattle.sp_carry.specs.declared.carrier.Carrier.{Carrier}
 use Rattle.sp_carry.specs.Carried.{tx_at, Carried, carriers_in}
 use Rattle.sp_carry.specs.Lookups.{spenders_in}
+use Rattle.sp_carry.specs.Flags.{is_set}
 use Rattle.sp_accept.specs.Rows.{row_at}
-use Rattle.sp_accept.specs.Acceptance.{is_set}
 use Rattle.sp_accept.specs.Standing.{is_before, is_below}
 
 -- the carrier is accepted, and stands in the past of the block

@@ -3,7 +3,7 @@ use Rattle.std.specs.Prelude.{ℕ, Bool, true, false, List, Option, Some, None}
 use Rattle.sp_carry.specs.declared.state.TxState.{TxState}
 use Rattle.sp_carry.specs.declared.state.TxState.TheVariants.{Accepted, Rejected, Absent}
 use Rattle.sp_carry.specs.Carried.{Carried, number_of}
-use Rattle.sp_accept.specs.Acceptance.{is_set}
+use Rattle.sp_carry.specs.Flags.{is_set}
 
 abbrev pub state_of_flag : Bool → TxState
 state_of_flag true = Accepted

@@ -4,7 +4,7 @@ use Rattle.sp_model.specs.Graph.{has}
 use Rattle.sp_dag.specs.Numbered.{Numbered}
 use Rattle.sp_carry.specs.declared.carrier.Carrier.{Carrier}
 use Rattle.sp_carry.specs.Carried.{Carried}
-use Rattle.sp_accept.specs.Acceptance.{is_set}
+use Rattle.sp_carry.specs.Flags.{is_set}
 use Rattle.sp_accept.specs.Pass.{is_next}
 use Rattle.sp_accept.specs.Rows.{row_at}
 use Rattle.sp_accept.specs.Standing.{is_before, is_below}

@@ -1,18 +1,18 @@
 //! Which carriers and transactions are accepted: what the crates above keep and ask.
 
 ghost use Rattle.std.specs.Prelude.{◌≡◌, ◌<◌, length, All, IfOk, OnOk, OnErr, []};
+ghost use Rattle.sp_carry.specs.Flags.{is_set};
 ghost use Rattle.sp_accept.specs.Rows.{AreOf};
-ghost use Rattle.sp_accept.specs.Acceptance.{is_set, IsRight};
+ghost use Rattle.sp_accept.specs.Acceptance.{IsRight};
 ghost use Rattle.sp_accept.specs.Changes.{carriers_below, TellsChanges};
 ghost use Rattle.sp_accept.specs.Flips.{flips_of};
 
-use crate::flags::is_set;
 use crate::flips::flips_between;
 use crate::order::Order;
 use crate::pass::{carrier_flags, tx_flags};
 use crate::touched::set_flips;
 use crate::update::decide_on_changes;
-use sp_carry::{Carriers, Flip};
+use sp_carry::{Carriers, Flip, is_set};
 use sp_ids::Memory;
 use std::alloc::Global;
 use std::marker::Model;

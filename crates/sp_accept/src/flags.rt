@@ -1,17 +1,8 @@
-//! A flag for each number.
+//! Flags that differ, and that are added.
 
 ghost use Rattle.std.specs.Prelude.{◌≡◌, ◌≤◌, length, vec_capacity};
-ghost use Rattle.sp_accept.specs.Acceptance.{is_set};
 ghost use Rattle.sp_accept.specs.Flips.{differ};
 ghost use Rattle.sp_accept.specs.Todo.{grown};
-
-/// Whether the flag of a number is set. One that isn't there is not.
-pub(crate) fn is_set(flags: &[bool], number: u32) -> bool
-    ensures { result ≡ is_set flags.now number }
-{
-    let place = number as usize;
-    place < flags.len() && flags[place]
-}
 
 /// Whether a flag is another one than it was.
 pub(crate) fn differ(was: bool, now: bool) -> bool

@@ -3,8 +3,8 @@
 ghost use Rattle.std.specs.Prelude.{◌≡◌, ◌++◌, ◌∷◌, [], cond, IfOk, OnOk};
 ghost use Rattle.sp_accept.specs.Flips.{differ, flips_of};
 
-use crate::flags::{differ, is_set};
-use sp_carry::Flip;
+use crate::flags::differ;
+use sp_carry::{Flip, is_set};
 use std::alloc::{AllocError, Global};
 
 /// Notes a transaction, where its new flag is another one.

@@ -4,15 +4,14 @@
 ghost use Rattle.std.specs.Prelude.{◌≡◌, ◌<◌, length, IfOk};
 ghost use Rattle.std.specs.List.{list_any};
 ghost use Rattle.sp_carry.specs.Carried.{carriers_in};
-ghost use Rattle.sp_accept.specs.Acceptance.{is_set};
+ghost use Rattle.sp_carry.specs.Flags.{is_set};
 ghost use Rattle.sp_accept.specs.Pass.{is_next, passed, carried_flags};
 
-use crate::flags::is_set;
 use crate::lookups::{carrier_at, carriers_of};
 use crate::order::Order;
 use crate::rivals::is_outdone;
 use crate::sources::are_sources_accepted;
-use sp_carry::Carriers;
+use sp_carry::{Carriers, is_set};
 use std::alloc::{AllocError, Global};
 
 /// Whether the carrier of this number is accepted, where the flags say it of those before it.

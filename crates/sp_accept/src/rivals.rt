@@ -5,10 +5,9 @@ ghost use Rattle.std.specs.Prelude.{◌≡◌, ◌<◌, length};
 ghost use Rattle.std.specs.List.{list_any};
 ghost use Rattle.sp_accept.specs.Pass.{is_beaten, is_beaten_at, is_beaten_by, is_lost};
 
-use crate::flags::is_set;
 use crate::lookups::{carrier_at, carriers_of, spenders_of};
 use crate::order::Order;
-use sp_carry::{Carrier, Carriers};
+use sp_carry::{Carrier, Carriers, is_set};
 use sp_tx::Input;
 
 /// Whether this carrier, of a transaction that conflicts, stands in the way of one in the block. One

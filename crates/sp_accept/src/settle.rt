@@ -5,19 +5,19 @@
 ghost use Rattle.std.specs.Prelude.{◌≡◌, ◌≢◌, ◌<◌, ◌≤◌, ◌+◌, ◌||◌, ◌&&◌, false, ℕ, Bool, List, length, All, IfOk, IsFalse, IsTrue, OnOk};
 ghost use Rattle.sp_model.specs.Graph.{has};
 ghost use Rattle.sp_dag.specs.Numbered.{AreInOrder};
-ghost use Rattle.sp_accept.specs.Acceptance.{is_set};
+ghost use Rattle.sp_carry.specs.Flags.{is_set};
 ghost use Rattle.sp_accept.specs.Pass.{is_next};
 ghost use Rattle.sp_accept.specs.Rows.{row_at, AreOf};
 ghost use Rattle.sp_accept.specs.Standing.{is_below};
 ghost use Rattle.sp_accept.specs.Todo.{all_turned, AreSettledBut, AreTurned, is_due, turned_at};
 
-use crate::flags::{differ, is_set};
+use crate::flags::differ;
 use crate::lookups::first_from;
 use crate::order::Order;
 use crate::pass::is_next;
 use crate::todo::note;
 use sp_bits::Row;
-use sp_carry::Carriers;
+use sp_carry::{Carriers, is_set};
 use std::alloc::AllocError;
 
 /// Turns the flag of a carrier, and notes it first. Where memory was refused, nothing turned.

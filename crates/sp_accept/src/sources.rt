@@ -4,10 +4,9 @@ ghost use Rattle.std.specs.Prelude.{◌≡◌, ◌<◌, length};
 ghost use Rattle.std.specs.List.{list_all};
 ghost use Rattle.sp_accept.specs.Pass.{has_source, is_accepted_below, is_paid};
 
-use crate::flags::is_set;
 use crate::lookups::{carrier_at, carriers_of};
 use crate::order::Order;
-use sp_carry::Carriers;
+use sp_carry::{Carriers, is_set};
 use sp_tx::Input;
 
 /// Whether the carrier is accepted and stands in the past of the block.

@@ -1,21 +1,20 @@
 //! Which transactions turn where some carriers did, and their new flags.
 
-ghost use Rattle.std.specs.Prelude.{◌≡◌, ◌<◌, ◌≤◌, ◌==◌, ℕ, All, length, vec_capacity, IfOk, OnOk, filter};
+ghost use Rattle.std.specs.Prelude.{◌≡◌, ◌<◌, ◌≤◌, ◌==◌, ℕ, All, length, vec_capacity, IfOk, filter};
 ghost use Rattle.std.specs.List.{list_any, range_with_len};
-ghost use Rattle.std.specs.BTreeSet.{keys, IsOrdered};
-ghost use Rattle.std.specs.Ordering.{nat_cmp};
 ghost use Rattle.sp_carry.specs.Rivals.{has_number};
 ghost use Rattle.sp_carry.specs.declared.carrier.Flip.{Flip};
-ghost use Rattle.sp_accept.specs.Flips.{flips_among, with_flips};
+ghost use Rattle.sp_carry.specs.Flags.{with_flips};
+ghost use Rattle.sp_accept.specs.Flips.{flips_among};
 ghost use Rattle.sp_accept.specs.Pass.{is_carried_flag};
 ghost use Rattle.sp_accept.specs.Todo.{grown};
 ghost use Rattle.sp_accept.specs.Rows.{row_at};
 
-use crate::flags::{grow, is_set};
+use crate::flags::grow;
 use crate::flips::note;
 use crate::lookups::carrier_at;
 use crate::pass::is_any_accepted;
-use sp_carry::{Carriers, Flip};
+use sp_carry::{Carriers, Flip, ascending, is_set};
 use std::alloc::{AllocError, Global};
 use std::collections::BTreeSet;
 
@@ -30,14 +29,6 @@ fn txs_of(alloc: Global, carriers: &Carriers, turned: &[u32]) -> Result<BTreeSet
         txs.insert(carrier_at(carriers, *c).tx)?;
     }
     Ok(txs)
-}
-
-/// The numbers of a set, ascending.
-fn ascending(alloc: Global, set: &BTreeSet<u32>) -> Result<Vec<u32>, AllocError>
-    ensures keys { IfOk result (λ list. list.items ≡ keys set.now) }
-    ensures ordered { OnOk result (IsOrdered nat_cmp set.now) }
-{
-    set.iter().copied().collect(alloc)
 }
 
 /// Each of these transactions whose flag differs, in their order, with its new one.

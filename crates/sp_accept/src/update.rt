@@ -4,7 +4,8 @@
 ghost use Rattle.std.specs.Prelude.{◌≡◌, ◌<◌, ◌≤◌, ◌==◌, [], false, ℕ, All, length, filter, vec_capacity, IfOk, OnErr, OnOk};
 ghost use Rattle.std.specs.List.{list_any, range_with_len};
 ghost use Rattle.sp_carry.specs.declared.carrier.Flip.{Flip};
-ghost use Rattle.sp_accept.specs.Acceptance.{is_set, IsRight};
+ghost use Rattle.sp_carry.specs.Flags.{is_set};
+ghost use Rattle.sp_accept.specs.Acceptance.{IsRight};
 ghost use Rattle.sp_accept.specs.Changes.{carriers_below, TellsChanges};
 ghost use Rattle.sp_accept.specs.Flips.{flips_among};
 ghost use Rattle.sp_accept.specs.Pass.{is_carried_flag};

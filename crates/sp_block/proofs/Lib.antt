@@ -5,3 +5,5 @@ pub mod Spelled
 pub mod Sets
 pub mod Carried
 pub mod Whole
+pub mod Ranges
+pub mod Judged

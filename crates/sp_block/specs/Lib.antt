@@ -5,3 +5,4 @@ pub mod Ascending
 pub mod Draft
 pub mod Seen
 pub mod Reading
+pub mod Judged

@@ -4,6 +4,7 @@ ghost use Rattle.std.specs.Prelude.{◌≡◌, ◌≤◌, ◌++◌, ◌↔◌, �
 ghost use Rattle.sp_form.specs.Bytes.{IsBytes};
 ghost use Rattle.sp_block.specs.Block.{IsBlock, IsGenesis, IsOther, ReadBlock};
 ghost use Rattle.sp_block.specs.Format.{Parts};
+ghost use Rattle.sp_block.specs.Judged.{BlockIsSpelled, WorkIsMet};
 ghost use Rattle.sp_block.specs.Spelling.{block_text, HasBlockFault, IsSpellable, SpellsBlock};
 ghost use Rattle.sp_block.specs.declared.fault.BlockFault.{BlockFault};
 ghost use Rattle.sp_block.specs.declared.fault.BlockFault.TheVariants.{ParentCount};
@@ -48,4 +49,10 @@ pub fn kinds_by_parents()
     ensures genesis { (b : ReadBlock) → IsBlock b → IsGenesis b ↔ (length b.parents ≡ 0) }
     ensures other { (b : ReadBlock) → IsBlock b → IsOther b ↔ ((1 ≤ length b.parents) × (length b.parents ≤ 64)) }
     ensures either { (b : ReadBlock) → IsBlock b → IsGenesis b ⊎ IsOther b }
+{}
+
+/// The test of a block's bytes is what the format says, and that of an id what the rule says.
+pub fn blocks_are_judged()
+    ensures spelled { BlockIsSpelled }
+    ensures work { WorkIsMet }
 {}

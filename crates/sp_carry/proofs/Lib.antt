@@ -23,3 +23,4 @@ pub mod Carrying
 pub mod Genesis
 pub mod Fronts
 pub mod Cutting
+pub mod Flipping

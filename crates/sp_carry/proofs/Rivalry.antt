@@ -228,11 +228,11 @@ unfolding IsStrictlySortedBy
 range_sorted a zero = tt
 range_sorted a (suc n) = (after_range a (a + 1) n (omega arith), range_sorted (a + 1) n)
 
-in_range : (a n d : ℕ) → a ≤ d → d < a + n → IsIn (range_with_len a n) d
-in_range a zero d le lt = absurd (omega (arith, le, lt))
-in_range a (suc n) d le lt =
+pub in_range_from : (a n d : ℕ) → a ≤ d → d < a + n → IsIn (range_with_len a n) d
+in_range_from a zero d le lt = absurd (omega (arith, le, lt))
+in_range_from a (suc n) d le lt =
     elim (cases_lt a d) [
-      | inl less ↦ inr (in_range (a + 1) n d (omega (arith, less)) (omega (arith, lt)))
+      | inl less ↦ inr (in_range_from (a + 1) n d (omega (arith, less)) (omega (arith, lt)))
       | inr ge ↦ inl (let e : a ≡ d = omega (arith, le, ge) in e)
     ]
 
@@ -276,5 +276,5 @@ rivals_are k c r set linked there ordered noted =
         back : test d ≡ true → list_any (is_at (nat_cmp d)) (filter test (range_with_len 0 (length k.rows))) ≡ true
         back h =
             any_of_member (is_at (nat_cmp d)) (filter test (range_with_len 0 (length k.rows))) d
-            (in_filter_from test (range_with_len 0 (length k.rows)) d (in_range 0 (length k.rows) d (omega arith) (let lt : d < length k.rows = below d h in omega (arith, lt))) h)
+            (in_filter_from test (range_with_len 0 (length k.rows)) d (in_range_from 0 (length k.rows) d (omega arith) (let lt : d < length k.rows = below d h in omega (arith, lt))) h)
             (is_eq-nat_cmp d d ∙ eq-eqb d d refl)

@@ -7,9 +7,11 @@ mod carrier;
 mod carriers;
 mod carry;
 mod copies;
+mod flags;
 pub mod laws;
 mod numbers;
 mod rivals;
+mod sets;
 mod spenders;
 mod state;
 mod table;
@@ -17,4 +19,6 @@ mod worth;
 
 pub use carrier::{Carrier, Flip};
 pub use carriers::Carriers;
+pub use flags::is_set;
+pub use sets::ascending;
 pub use state::TxState;

@@ -2,14 +2,13 @@
 
 ghost use Rattle.std.specs.Prelude.{◌≡◌, ◌<◌, ℕ, All, length, IfOk, OnOk};
 ghost use Rattle.std.specs.List.{list_any};
-ghost use Rattle.std.specs.BTreeSet.{keys, IsOrdered};
-ghost use Rattle.std.specs.Ordering.{nat_cmp};
 ghost use Rattle.sp_tx.specs.declared.parts.Input.{Input};
 ghost use Rattle.sp_carry.specs.Carried.{AreLinked};
 ghost use Rattle.sp_carry.specs.Kept.{carried_of, IsKept};
 ghost use Rattle.sp_carry.specs.Rivals.{is_of_other, is_of_spender, is_sound_at, rivals_of, IsNotedBy};
 
 use crate::carrier::Carrier;
+use crate::sets::ascending;
 use crate::table::Table;
 use sp_ids::Memory;
 use sp_tx::Input;
@@ -88,14 +87,6 @@ fn note_rivals(
         note_spenders(table, tx, input, into)?;
     }
     Ok(())
-}
-
-// The numbers of a set.
-fn ascending(alloc: Global, set: &BTreeSet<u32>) -> Result<Vec<u32>, AllocError>
-    ensures keys { IfOk result (λ list. list.items ≡ keys set.now) }
-    ensures ordered { OnOk result (IsOrdered nat_cmp set.now) }
-{
-    set.iter().copied().collect(alloc)
 }
 
 // The sound carriers that conflict with a carrier, ascending.

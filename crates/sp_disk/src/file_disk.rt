@@ -1,7 +1,7 @@
 //! The edge where a file of the operating system is a disk. What it holds, and what a crash leaves of
 //! it, is trusted here, and nowhere above.
 
-ghost use Rattle.std.specs.Prelude.{◌≡◌, ◌+◌, ◌^◌, ◌<◌, ◌≤◌, length, IfOk, IfSome, None, Ok};
+ghost use Rattle.std.specs.Prelude.{◌≡◌, ◌+◌, ◌^◌, ◌<◌, ◌≤◌, true, length, IfOk, IfSome, None, Ok, OnOk};
 ghost use Rattle.sp_io.specs.Causes.{CountsFault, HasCause};
 ghost use Rattle.sp_disk.specs.Moments.{GivesFrom, Looks, Syncs, Writes};
 ghost use Rattle.sp_disk.specs.Untold.{untold, untold_is_moment};
@@ -10,7 +10,7 @@ use crate::disk::Disk;
 use sp_io::Failed;
 use std::fs::{Files, OpenFile, OpenOptions};
 use std::io;
-use std::io::{Read, Seek, SeekFrom, Write};
+use std::io::{Error, ErrorKind, Read, Seek, SeekFrom, Write};
 
 /// A file of the operating system as a disk. It tells nothing of its bytes, so contracts say of it only
 /// that its calls are safe, that each failed one is counted, and that no other one is.
@@ -25,6 +25,10 @@ use std::io::{Read, Seek, SeekFrom, Write};
 ///   one at the last sync to the greatest that the writes reach.
 ///
 /// Want of memory in the system counts as a fault of the call.
+///
+/// One that doesn't make its file is for reading alone: it opens the file so, which needs no leave to
+/// write it, and each write fails without asking the system. A sync is still asked for, since it writes
+/// nothing new: what other programs wrote before, and is read here, lasts once it succeeded.
 #[derive(Drop)]
 pub struct FileDisk<'a, R: Files> {
     rt: &'a R,
@@ -35,8 +39,9 @@ pub struct FileDisk<'a, R: Files> {
 }
 
 impl<'a, R: Files> FileDisk<'a, R> {
-    /// The file of this path, which is opened at the first call, and made then where `make` says so
-    /// and it isn't there.
+    /// The file of this path, which is opened at the first call that asks the system. Where `make` says
+    /// so, it is opened for reading and writing, and made then where it isn't there; else it is opened
+    /// for reading alone.
     pub fn new(rt: &'a R, path: &'a str, make: bool) -> FileDisk<'a, R>
         ensures untold { (⟦<FileDisk<'a, R> as Disk>⟧.now result).reads ≡ None }
         ensures faults { (⟦<FileDisk<'a, R> as Disk>⟧.now result).faults ≡ 0 }
@@ -53,18 +58,20 @@ impl<'a, R: Files> FileDisk<'a, R> {
     }
 
     fn open(&mut self) -> io::Result<()>
-        ensures { self.new.faults ≡ self.old.faults }
+        ensures faults { self.new.faults ≡ self.old.faults }
+        ensures make { self.new.make ≡ self.old.make }
     {
         if self.file.is_none() {
             let mut how = OpenOptions::new();
-            how.read(true).write(true).create(self.make);
+            how.read(true).write(self.make).create(self.make);
             self.file = Some(self.rt.open_file(&how, self.path)?);
         }
         Ok(())
     }
 
     fn file_len(&mut self) -> io::Result<u64>
-        ensures { self.new.faults ≡ self.old.faults }
+        ensures faults { self.new.faults ≡ self.old.faults }
+        ensures make { self.new.make ≡ self.old.make }
     {
         self.open()?;
         match &self.file {
@@ -74,7 +81,8 @@ impl<'a, R: Files> FileDisk<'a, R> {
     }
 
     fn file_sync(&mut self) -> io::Result<()>
-        ensures { self.new.faults ≡ self.old.faults }
+        ensures faults { self.new.faults ≡ self.old.faults }
+        ensures make { self.new.make ≡ self.old.make }
     {
         self.open()?;
         match &self.file {
@@ -86,6 +94,7 @@ impl<'a, R: Files> FileDisk<'a, R> {
     fn file_read(&mut self, at: u64, out: &mut [u8]) -> io::Result<usize>
         ensures bound { IfOk result (λ n. n ≤ length out.new) }
         ensures faults { self.new.faults ≡ self.old.faults }
+        ensures make { self.new.make ≡ self.old.make }
     {
         self.open()?;
         match &mut self.file {
@@ -97,9 +106,23 @@ impl<'a, R: Files> FileDisk<'a, R> {
         }
     }
 
-    fn file_write(&mut self, at: u64, bytes: &[u8]) -> io::Result<()>
-        ensures { self.new.faults ≡ self.old.faults }
+    // Refuses where the file is for reading alone.
+    fn may_write(&self) -> io::Result<()>
+        ensures { OnOk result (self.now.make ≡ true) }
     {
+        if self.make {
+            Ok(())
+        } else {
+            Err(Error::from(ErrorKind::PermissionDenied))
+        }
+    }
+
+    fn file_write(&mut self, at: u64, bytes: &[u8]) -> io::Result<()>
+        ensures faults { self.new.faults ≡ self.old.faults }
+        ensures make { self.new.make ≡ self.old.make }
+        ensures may { OnOk result (self.old.make ≡ true) }
+    {
+        self.may_write()?;
         self.open()?;
         match &mut self.file {
             Some(file) => {
@@ -158,6 +181,7 @@ impl<'a, R: Files> Disk for FileDisk<'a, R> {
         ensures looks { Looks (⟦<FileDisk<'a, R> as Disk>⟧.now self.old) (⟦<FileDisk<'a, R> as Disk>⟧.now self.new) }
         ensures cause { HasCause (⟦<FileDisk<'a, R> as Disk>⟧.now self.old).faults (⟦<FileDisk<'a, R> as Disk>⟧.now self.new).faults result }
         ensures fault { CountsFault (⟦<FileDisk<'a, R> as Disk>⟧.now self.old).faults (⟦<FileDisk<'a, R> as Disk>⟧.now self.new).faults result }
+        ensures make { self.new.make ≡ self.old.make }
     {
         let outcome = self.file_len();
         count(outcome, &mut self.faults)
@@ -175,6 +199,7 @@ impl<'a, R: Files> Disk for FileDisk<'a, R> {
         ensures looks { Looks (⟦<FileDisk<'a, R> as Disk>⟧.now self.old) (⟦<FileDisk<'a, R> as Disk>⟧.now self.new) }
         ensures cause { HasCause (⟦<FileDisk<'a, R> as Disk>⟧.now self.old).faults (⟦<FileDisk<'a, R> as Disk>⟧.now self.new).faults result }
         ensures fault { CountsFault (⟦<FileDisk<'a, R> as Disk>⟧.now self.old).faults (⟦<FileDisk<'a, R> as Disk>⟧.now self.new).faults result }
+        ensures make { self.new.make ≡ self.old.make }
     {
         let outcome = self.file_read(at, out);
         count(outcome, &mut self.faults)
@@ -184,13 +209,16 @@ impl<'a, R: Files> Disk for FileDisk<'a, R> {
     ///
     /// # Errors
     ///
-    /// `Failed` where the file can't be opened or a write fails; any part of the bytes may stand then.
+    /// `Failed` where the file is for reading alone, can't be opened, or a write fails; but for the first,
+    /// any part of the bytes may stand then.
     fn write_at(&mut self, at: u64, bytes: &[u8]) -> Result<(), Failed>
         requires place { IfSome (⟦<FileDisk<'a, R> as Disk>⟧.now self.old).reads (λ before. at ≤ length before) }
         requires end { at + length bytes.now < 2 ^ 63 }
         ensures writes { Writes at bytes.now (⟦<FileDisk<'a, R> as Disk>⟧.now self.old) (⟦<FileDisk<'a, R> as Disk>⟧.now self.new) result }
         ensures cause { HasCause (⟦<FileDisk<'a, R> as Disk>⟧.now self.old).faults (⟦<FileDisk<'a, R> as Disk>⟧.now self.new).faults result }
         ensures fault { CountsFault (⟦<FileDisk<'a, R> as Disk>⟧.now self.old).faults (⟦<FileDisk<'a, R> as Disk>⟧.now self.new).faults result }
+        ensures make { self.new.make ≡ self.old.make }
+        ensures may { OnOk result (self.old.make ≡ true) }
     {
         let outcome = self.file_write(at, bytes);
         count(outcome, &mut self.faults)
@@ -205,6 +233,7 @@ impl<'a, R: Files> Disk for FileDisk<'a, R> {
         ensures syncs { Syncs (⟦<FileDisk<'a, R> as Disk>⟧.now self.old) (⟦<FileDisk<'a, R> as Disk>⟧.now self.new) result }
         ensures cause { HasCause (⟦<FileDisk<'a, R> as Disk>⟧.now self.old).faults (⟦<FileDisk<'a, R> as Disk>⟧.now self.new).faults result }
         ensures fault { CountsFault (⟦<FileDisk<'a, R> as Disk>⟧.now self.old).faults (⟦<FileDisk<'a, R> as Disk>⟧.now self.new).faults result }
+        ensures make { self.new.make ≡ self.old.make }
     {
         let outcome = self.file_sync();
         count(outcome, &mut self.faults)

@@ -11,7 +11,6 @@ mod image;
 mod laws;
 mod mem_disk;
 mod pick;
-mod plan;
 
 pub use disk::Disk;
 pub use file_disk::FileDisk;

@@ -17,7 +17,6 @@ use crate::call::Call;
 use crate::disk::Disk;
 use crate::image::fill_all;
 use crate::pick::{Pick, Range};
-use crate::plan::fails_at;
 use sp_ids::Memory;
 use sp_io::{Failed, Fails};
 use std::alloc::Global;
@@ -169,7 +168,7 @@ impl MemDisk {
     {
         let call = self.made;
         self.made = call.saturating_add(1);
-        fails_at(&self.fails, call)
+        self.fails.holds_at(call)
     }
 
     // Counts a fault.

@@ -12,7 +12,8 @@ use Rattle.sp_pool.specs.declared.answers.Standing.TheVariants.{Known, Full, Fre
 use Rattle.sp_pool.proofs.KeptBlocks.{AreKept-one, AreKept-push}
 use Rattle.sp_pool.proofs.Standings.{from_fresh}
 use Rattle.sp_engine.specs.Arrivals.{kept_after, kept_by_all, kept_with, valid_by, valid_in}
-use Rattle.sp_engine.specs.Blocks.{block_in, meets}
+use Rattle.sp_block.specs.Judged.{meets}
+use Rattle.sp_engine.specs.Blocks.{block_in}
 use Rattle.sp_engine.specs.declared.answer.Refusal.{Refusal}
 use Rattle.sp_engine.specs.declared.answer.Refusal.TheVariants.{Work}
 use Rattle.sp_engine.proofs.SpelledBlocks.{block_is_spelled, block_is_whole}

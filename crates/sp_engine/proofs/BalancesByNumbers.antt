@@ -24,7 +24,8 @@ use Rattle.sp_carry.proofs.Firsts.{found_in, likes_named, named, named_same}
 use Rattle.sp_carry.proofs.Grants.{firsts_ids}
 use Rattle.sp_carry.proofs.Sums.{Pairwise}
 use Rattle.sp_carry.proofs.Members.{any_of_member, contains_from_in, in_filter, in_flat_map, in_map, in_map_from, IsIn, list_in, member_meets, member_of_any}
-use Rattle.sp_accept.specs.Acceptance.{Acceptance, is_set}
+use Rattle.sp_carry.specs.Flags.{is_set}
+use Rattle.sp_accept.specs.Acceptance.{Acceptance}
 use Rattle.sp_money.specs.Accepted.{accepted_in}
 use Rattle.sp_money.specs.Locks.{each_once, locks_of}
 use Rattle.sp_engine.specs.Engine.{IsAccepting, IsEngine}

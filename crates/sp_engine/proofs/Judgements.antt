@@ -15,7 +15,8 @@ use Rattle.sp_pool.specs.declared.answers.Standing.{Standing}
 use Rattle.sp_pool.specs.declared.answers.Standing.TheVariants as standing
 use Rattle.sp_pool.proofs.Growth.{present_stays}
 use Rattle.sp_engine.specs.Arrivals.{answer_by, answer_of, joined, kept_after, kept_with, KeptAreOfArrivals, NoOthersAreKept, valid_in}
-use Rattle.sp_engine.specs.Blocks.{meets}
+use Rattle.sp_block.specs.Judged.{meets}
+use Rattle.sp_block.proofs.Judged.{meets_zeros, zeros_met}
 use Rattle.sp_engine.specs.Causes.{FindsNoRoom, FullIsCaused, HeldIsCaused, IsHeld, IsKept, IsKnown, KeptIsCaused, KnownIsCaused, MissesWork, SpellingIsCaused, WorkIsCaused}
 use Rattle.sp_engine.specs.declared.answer.Answer.{Answer}
 use Rattle.sp_engine.specs.declared.answer.Answer.TheVariants.{Kept, Held, Known, Refused, Full}
@@ -23,7 +24,7 @@ use Rattle.sp_engine.specs.declared.answer.Refusal.{Refusal}
 use Rattle.sp_engine.specs.declared.answer.Refusal.TheVariants.{Spelling, Work}
 use Rattle.sp_engine.proofs.Counts.{AreDistinct-present, distinct_within}
 use Rattle.sp_engine.proofs.Judged.{answered, refused}
-use Rattle.sp_engine.proofs.SpelledBlocks.{meets_zeros, valid_fault, valid_ok, valid_work, zeros_met}
+use Rattle.sp_engine.proofs.SpelledBlocks.{valid_fault, valid_ok, valid_work}
 
 -- ---- what bytes are
 

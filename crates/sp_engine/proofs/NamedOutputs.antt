@@ -22,7 +22,8 @@ use Rattle.sp_carry.proofs.Finding.{number_id, number_within}
 use Rattle.sp_carry.proofs.Firsts.{found_in, likes_named, named}
 use Rattle.sp_carry.proofs.Conflicts.{in_from_has}
 use Rattle.sp_carry.proofs.Members.{any_of_member, in_flat_map, in_flat_map_from, in_from_contains, in_map, IsIn, member_of_any}
-use Rattle.sp_accept.specs.Acceptance.{Acceptance, is_set}
+use Rattle.sp_carry.specs.Flags.{is_set}
+use Rattle.sp_accept.specs.Acceptance.{Acceptance}
 use Rattle.sp_accept.specs.States.{state_by_number, state_of_flag, state_of_number}
 use Rattle.sp_engine.specs.Engine.{IsAccepting, IsEngine}
 use Rattle.sp_engine.specs.Presence.{order_of}

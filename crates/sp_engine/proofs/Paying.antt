@@ -11,9 +11,9 @@ use Rattle.sp_tx.specs.Parts.{Transaction}
 use Rattle.sp_tx.specs.Spending.{id_of}
 use Rattle.sp_carry.specs.declared.carrier.Flip.{Flip}
 use Rattle.sp_carry.specs.Carried.{Carried, carried_by, number_of, with_block, with_carrier, with_carriers}
-use Rattle.sp_accept.specs.Acceptance.{Acceptance, is_set}
+use Rattle.sp_carry.specs.Flags.{is_set, with_flips}
+use Rattle.sp_accept.specs.Acceptance.{Acceptance}
 use Rattle.sp_accept.specs.Flips.{differ, flips_of}
-use Rattle.sp_money.specs.Accepted.{turned}
 use Rattle.sp_money.specs.Held.{Held, IsOf}
 use Rattle.sp_engine.specs.Engine.{GoesOn, IsPaying, WasPaying}
 
@@ -63,23 +63,23 @@ same_unless false true e = cc
 same_unless false false e = refl
 
 -- flags below the first flip stay
-turned_below : (old new flags : List Bool) (first n k : ℕ) → k < first → get_or (turned flags (flips_in old new first n)) k false ≡ get_or flags k false
-turned_below old new flags first zero k lt = refl
-turned_below old new flags first (suc n) k lt =
+flips_below : (old new flags : List Bool) (first n k : ℕ) → k < first → get_or (with_flips flags (flips_in old new first n)) k false ≡ get_or flags k false
+flips_below old new flags first zero k lt = refl
+flips_below old new flags first (suc n) k lt =
     at (differ (is_set old first) (is_set new first))
-    (turned_below old new (set flags first (is_set new first)) (first + 1) n k (omega (arith, lt)))
-    (turned_below old new flags (first + 1) n k (omega (arith, lt)))
+    (flips_below old new (set flags first (is_set new first)) (first + 1) n k (omega (arith, lt)))
+    (flips_below old new flags (first + 1) n k (omega (arith, lt)))
   where
-    at : (b : Bool) → get_or (turned (set flags first (is_set new first)) (flips_in old new (first + 1) n)) k false ≡ get_or (set flags first (is_set new first)) k false
-        → get_or (turned flags (flips_in old new (first + 1) n)) k false ≡ get_or flags k false
-        → get_or (turned flags (cond b (record { tx = first; now = is_set new first } ∷ flips_in old new (first + 1) n) (flips_in old new (first + 1) n))) k false ≡ get_or flags k false
+    at : (b : Bool) → get_or (with_flips (set flags first (is_set new first)) (flips_in old new (first + 1) n)) k false ≡ get_or (set flags first (is_set new first)) k false
+        → get_or (with_flips flags (flips_in old new (first + 1) n)) k false ≡ get_or flags k false
+        → get_or (with_flips flags (cond b (record { tx = first; now = is_set new first } ∷ flips_in old new (first + 1) n) (flips_in old new (first + 1) n))) k false ≡ get_or flags k false
     at true turns stays = turns ∙ (let other : k ≢ first = omega (arith, lt) in get_or-set_other flags first k (is_set new first) false other)
     at false turns stays = stays
 
 -- the others are the new ones, where they were the old ones
 turned_within : (old new flags : List Bool) (first n k : ℕ) → first + n ≤ length flags → first ≤ k → k < first + n
     → ((j : ℕ) → first ≤ j → j < first + n → get_or flags j false ≡ is_set old j)
-    → get_or (turned flags (flips_in old new first n)) k false ≡ is_set new k
+    → get_or (with_flips flags (flips_in old new first n)) k false ≡ is_set new k
 turned_within old new flags first zero k room ge lt were = absurd (omega (arith, ge, lt))
 turned_within old new flags first (suc n) k room ge lt were =
     at (differ (is_set old first) (is_set new first)) refl (cases_eq k first)
@@ -91,23 +91,23 @@ turned_within old new flags first (suc n) k room ge lt were =
     (λ j low high. were j (omega (arith, low)) (omega (arith, high))))
   where
     at : (b : Bool) → differ (is_set old first) (is_set new first) ≡ b → (k ≡ first) ⊎ (k ≡ first → ⊥)
-        → (first + 1 ≤ k → get_or (turned (set flags first (is_set new first)) (flips_in old new (first + 1) n)) k false ≡ is_set new k)
-        → (first + 1 ≤ k → get_or (turned flags (flips_in old new (first + 1) n)) k false ≡ is_set new k)
-        → get_or (turned flags (cond b (record { tx = first; now = is_set new first } ∷ flips_in old new (first + 1) n) (flips_in old new (first + 1) n))) k false ≡ is_set new k
+        → (first + 1 ≤ k → get_or (with_flips (set flags first (is_set new first)) (flips_in old new (first + 1) n)) k false ≡ is_set new k)
+        → (first + 1 ≤ k → get_or (with_flips flags (flips_in old new (first + 1) n)) k false ≡ is_set new k)
+        → get_or (with_flips flags (cond b (record { tx = first; now = is_set new first } ∷ flips_in old new (first + 1) n) (flips_in old new (first + 1) n))) k false ≡ is_set new k
     at true e (inl same) turns stays =
-        turned_below old new (set flags first (is_set new first)) (first + 1) n k (omega (arith, same))
+        flips_below old new (set flags first (is_set new first)) (first + 1) n k (omega (arith, same))
         ∙ ap (λ (j : ℕ). get_or (set flags first (is_set new first)) j false) same
         ∙ get_or-set_same flags first (is_set new first) false (omega (arith, room))
         ∙ ap (is_set new) (sym same)
     at true e (inr other) turns stays = turns (omega (arith, ge, other))
     at false e (inl same) turns stays =
-        turned_below old new flags (first + 1) n k (omega (arith, same))
+        flips_below old new flags (first + 1) n k (omega (arith, same))
         ∙ were k ge lt ∙ ap (is_set old) same ∙ same_unless (is_set old first) (is_set new first) e ∙ ap (is_set new) (sym same)
     at false e (inr other) turns stays = stays (omega (arith, ge, other))
 
 -- flags that were the old ones are the new ones once each flip is turned
 pub turned_agree : (old new flags : List Bool) (n k : ℕ) → length flags ≡ n → k < n → ((j : ℕ) → j < n → get_or flags j false ≡ is_set old j)
-    → get_or (turned flags (flips_of old new n)) k false ≡ is_set new k
+    → get_or (with_flips flags (flips_of old new n)) k false ≡ is_set new k
 turned_agree old new flags n k long lt were = turned_within old new flags 0 n k (omega (arith, long)) (omega arith) (omega (arith, lt)) (λ j low high. were j (omega (arith, high)))
 
 -- ---- what the engine keeps of the purse
@@ -147,11 +147,11 @@ padded flags more old n same none off = elim (cases_lt n (length flags)) [
 
 -- once the purse is prepared and the flips are applied, it has the flags of the accepted ones
 pub now_paying : (k : Carried) (a new : Acceptance) (p mid now : Held) (flips : List Flip) → WasPaying k a p → IsOf k.txs mid → (more : List Bool) → mid.accepted ≡ p.accepted ++ more
-    → ((n : ℕ) → get_or more n false ≡ false) → flips ≡ flips_of a.txs new.txs (length k.txs) → IsOf k.txs now → now.accepted ≡ turned mid.accepted flips → IsPaying k new now
+    → ((n : ℕ) → get_or more n false ≡ false) → flips ≡ flips_of a.txs new.txs (length k.txs) → IsOf k.txs now → now.accepted ≡ with_flips mid.accepted flips → IsPaying k new now
 now_paying k a new p mid now flips was of more are off turns is flags = record {
   of = is;
   same = λ tx lt.
-      ap (λ (fs : List Bool). get_or fs tx false) (flags ∙ ap (turned mid.accepted) turns)
+      ap (λ (fs : List Bool). get_or fs tx false) (flags ∙ ap (with_flips mid.accepted) turns)
       ∙ turned_agree a.txs new.txs mid.accepted (length k.txs) tx of.flags lt
       (λ j less. ap (λ (fs : List Bool). get_or fs j false) are ∙ padded p.accepted more a.txs j was.same was.none off);
 }

@@ -1,25 +1,11 @@
--- The numbers from one on, as a list: which are in it, tests over it, and the row that has them.
-use Rattle.std.proofs.Common.{◌≡◌, ℕ, zero, suc, ◌+◌, ◌≤◌, ◌<◌, Bool, true, false, cond, ◌||◌, List, ◌∷◌, refl, sym, ap, ◌∙◌, inl, inr, eqb, arith}
+-- The numbers from one on, as a list: which are in it, and the row that has them.
+use Rattle.std.proofs.Common.{◌≡◌, ℕ, zero, suc, ◌+◌, ◌≤◌, ◌<◌, Bool, true, false, cond, ◌||◌, List, ◌∷◌, refl, ap, ◌∙◌, inl, inr, eqb, arith}
 use Rattle.std.specs.Prelude.{filter}
-use Rattle.std.specs.List.{list_all, range_with_len}
-use Rattle.std.proofs.lemmas.Bool.{and_from, and_parts, cases_lt, eq-eqb, ne_eqb, or_left, or_right}
+use Rattle.std.specs.List.{range_with_len}
+use Rattle.std.proofs.lemmas.Bool.{cases_lt, eq-eqb, ne_eqb, or_left, or_right}
 use Rattle.sp_bits.specs.Places.{has as has_place, places_where}
 use Rattle.sp_model.specs.Graph.{has}
 use Rattle.sp_dag.proofs.Whole.{filter_cut}
-
-pub all_range : (p : ℕ → Bool) (a n : ℕ) → ((k : ℕ) → a ≤ k → k < a + n → p k ≡ true) → list_all p (range_with_len a n) ≡ true
-all_range p a zero h = refl
-all_range p a (suc n) h =
-    and_from (p a) (list_all p (range_with_len (a + 1) n)) (h a (omega arith) (omega arith)) (all_range p (a + 1) n (λ k low high. h k (omega arith) (omega arith)))
-
-pub range_all : (p : ℕ → Bool) (a n k : ℕ) → list_all p (range_with_len a n) ≡ true → a ≤ k → k < a + n → p k ≡ true
-range_all p a zero k h low high = absurd (omega arith)
-range_all p a (suc n) k h low high =
-    let parts = and_parts (p a) (list_all p (range_with_len (a + 1) n)) h in
-    elim (cases_lt a k) [
-      | inl less ↦ range_all p (a + 1) n k parts.1 (omega arith) (omega arith)
-      | inr le ↦ (let same : a ≡ k = omega arith in ap p (sym same) ∙ parts.0)
-    ]
 
 pub in_range : (a n k : ℕ) → a ≤ k → k < a + n → has (range_with_len a n) k ≡ true
 in_range a zero k low high = absurd (omega arith)

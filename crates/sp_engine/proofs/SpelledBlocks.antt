@@ -1,22 +1,21 @@
--- What a list of bytes is as a block, by the function, is what it spells or its first fault; and the test of the work.
-use Rattle.std.proofs.Common.{◌≡◌, ℕ, ◌<◌, Bool, true, false, List, length, Result, Ok, Err, refl, sym, ap, subst, ◌∙◌, inl, inr, eqb, arith, ◌↔◌}
+-- What a list of bytes is as a block, by the function, is what it spells or its first fault; and whether it is valid.
+use Rattle.std.proofs.Common.{◌≡◌, ℕ, ◌<◌, Bool, true, false, List, length, Result, Ok, Err, refl, sym, ap, subst, ◌∙◌, inl, inr, arith, ◌↔◌}
 use Rattle.std.specs.Prelude.{IsTrue}
-use Rattle.std.proofs.lemmas.Bool.{le-ltb, lt-ltb, ne_eqb, eqb-true, eq-eqb}
+use Rattle.std.proofs.lemmas.Bool.{le-ltb, lt-ltb, ne_eqb}
 use Rattle.sp_form.specs.Reading.{read}
 use Rattle.sp_form.proofs.FormLaws.{reads_fault, reads_spelled}
 use Rattle.sp_form.proofs.Texts.{reads_all}
-use Rattle.sp_ids.specs.Bits.{BeginsWithZeros, bit_at}
-use Rattle.sp_ids.specs.Key.{bytes_of}
+use Rattle.sp_ids.specs.Bits.{BeginsWithZeros}
 use Rattle.sp_block.specs.Block.{block_of, parts_of, ReadBlock}
 use Rattle.sp_block.specs.Format.{block_form, Parts}
 use Rattle.sp_block.specs.Spelling.{behind, HasBlockFault, inside, long, SpellsBlock}
 use Rattle.sp_block.specs.declared.fault.BlockFault.{BlockFault}
 use Rattle.sp_block.specs.declared.fault.BlockFault.TheVariants.{Trailing}
+use Rattle.sp_block.proofs.Judged.{meets_zeros, misses}
 use Rattle.sp_block.proofs.Whole.{either}
 use Rattle.sp_engine.specs.Arrivals.{valid_by, valid_in}
-use Rattle.sp_engine.specs.Blocks.{block_by, block_in, BlockIsSpelled, BlockIsWhole, FaultIsFirst, meets, WorkIsMet}
+use Rattle.sp_engine.specs.Blocks.{block_by, block_in, BlockIsSpelled, BlockIsWhole, FaultIsFirst}
 use Rattle.sp_engine.specs.declared.answer.Refusal.TheVariants.{Spelling, Work}
-use Rattle.sp_engine.proofs.Ranges.{all_range, range_all}
 
 pub spelled_block : (genesis : Bool) (bytes : List ℕ) (parts : Parts) → SpellsBlock bytes genesis parts → block_in genesis bytes ≡ Ok (block_of bytes parts)
 unfolding block_in
@@ -67,24 +66,6 @@ fault_is_first genesis bytes fault = (from, faulty_block genesis bytes fault)
       | inl s ↦ absurd (ok_no_err (block_of bytes s.0) fault (sym (spelled_block genesis bytes s.0 s.1) ∙ e))
       | inr f ↦ subst (λ (g : BlockFault). HasBlockFault bytes genesis g) (same_Err f.0 fault (sym (faulty_block genesis bytes f.0 f.1) ∙ e)) f.1
     ]
-
-pub meets_zeros : (id bits : ℕ) → BeginsWithZeros id bits → meets id bits ≡ true
-unfolding meets
-meets_zeros id bits h = all_range (λ place. eqb (bit_at (bytes_of id) place) 0) 0 bits (λ k low high. eq-eqb (bit_at (bytes_of id) k) 0 (h k (omega arith)))
-
-pub zeros_met : (id bits : ℕ) → meets id bits ≡ true → BeginsWithZeros id bits
-unfolding meets
-zeros_met id bits e place le = eqb-true (bit_at (bytes_of id) place) 0 (range_all (λ place. eqb (bit_at (bytes_of id) place) 0) 0 bits place e (omega arith) (omega arith))
-
-pub work_is_met : WorkIsMet
-work_is_met id bits = (λ e. zeros_met id bits e, λ h. meets_zeros id bits h)
-
-misses : (id bits : ℕ) → (BeginsWithZeros id bits → ⊥) → meets id bits ≡ false
-misses id bits lacks = at (meets id bits) (zeros_met id bits)
-  where
-    at : (c : Bool) → (c ≡ true → BeginsWithZeros id bits) → c ≡ false
-    at true h = absurd (lacks (h refl))
-    at false h = refl
 
 module _ {bytes : List ℕ} {block : ReadBlock} where
   is_block : SpellsBlock bytes false (parts_of block) → block ≡ block_of bytes (parts_of block) → block_in false bytes ≡ Ok block

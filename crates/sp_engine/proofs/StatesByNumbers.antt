@@ -22,7 +22,8 @@ use Rattle.sp_carry.proofs.Finding.{id_at, number_id, number_within}
 use Rattle.sp_carry.proofs.Grants.{carried_in}
 use Rattle.sp_carry.proofs.Keeping.{none_found}
 use Rattle.sp_carry.proofs.Members.{any_of_member, bool_same, in_flat_map, in_flat_map_from, in_map, in_map_from, IsIn, list_in, member_of_any}
-use Rattle.sp_accept.specs.Acceptance.{Acceptance, first_blocks, is_set}
+use Rattle.sp_carry.specs.Flags.{is_set}
+use Rattle.sp_accept.specs.Acceptance.{Acceptance, first_blocks}
 use Rattle.sp_accept.specs.States.{state_by_number, state_of_flag, state_of_number}
 use Rattle.sp_accept.proofs.Renamed.{accepted_renamed, state_renamed}
 use Rattle.sp_accept.proofs.States.{numbered_plain, states}

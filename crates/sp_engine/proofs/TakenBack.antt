@@ -11,8 +11,8 @@ use Rattle.sp_carry.specs.declared.carrier.Carrier.{Carrier}
 use Rattle.sp_carry.specs.Carried.{Carried, IsCarried, rows_of_first, used}
 use Rattle.sp_carry.specs.Carried as carried
 use Rattle.sp_carry.proofs.Fronts.{used-all}
+use Rattle.sp_carry.specs.Flags.{is_set}
 use Rattle.sp_accept.specs.Acceptance.{Acceptance}
-use Rattle.sp_money.specs.Accepted.{is_set}
 use Rattle.sp_money.specs.Held.{Held, IsOf}
 use Rattle.sp_money.specs.Locks.{locks_of}
 use Rattle.sp_engine.specs.Engine.{IsPaying, IsWider}

@@ -7,7 +7,8 @@ use Rattle.sp_pool.specs.Arrivals.{AreKeptOf}
 use Rattle.sp_pool.specs.Kept.{keep, present, standing_of}
 use Rattle.sp_pool.specs.declared.answers.Standing.{Standing}
 use Rattle.sp_pool.specs.declared.answers.Standing.TheVariants as standing
-use Rattle.sp_engine.specs.Blocks.{block_in, meets}
+use Rattle.sp_block.specs.Judged.{meets}
+use Rattle.sp_engine.specs.Blocks.{block_in}
 use Rattle.sp_engine.specs.declared.answer.Answer.{Answer}
 use Rattle.sp_engine.specs.declared.answer.Answer.TheVariants.{Kept, Held, Known, Refused, Full}
 use Rattle.sp_engine.specs.declared.answer.Refusal.{Refusal}

@@ -1,9 +1,6 @@
--- What a list of bytes is as a block, as a function of the bytes, and whether an id meets the work, as a test.
-use Rattle.std.specs.Prelude.{ℕ, ◌==◌, ◌≡◌, ◌↔◌, nat_lt, Bool, if◌then◌else◌, List, length, Result, Ok, Err, IsTrue}
-use Rattle.std.specs.List.{list_all, range_with_len}
+-- What a list of bytes is as a block, as a function of the bytes.
+use Rattle.std.specs.Prelude.{ℕ, ◌==◌, ◌≡◌, ◌↔◌, nat_lt, Bool, if◌then◌else◌, List, length, Result, Ok, Err}
 use Rattle.sp_form.specs.Reading.{read}
-use Rattle.sp_ids.specs.Bits.{BeginsWithZeros, bit_at}
-use Rattle.sp_ids.specs.Key.{bytes_of}
 use Rattle.sp_block.specs.Block.{block_of, parts_of, ReadBlock}
 use Rattle.sp_block.specs.Format.{block_form, Parts}
 use Rattle.sp_block.specs.Spelling.{HasBlockFault, SpellsBlock}
@@ -29,10 +26,3 @@ BlockIsWhole = (genesis : Bool) (bytes : List ℕ) (block : ReadBlock) → block
 
 abbrev pub FaultIsFirst : Type 0
 FaultIsFirst = (genesis : Bool) (bytes : List ℕ) (fault : BlockFault) → (block_in genesis bytes ≡ Err fault) ↔ HasBlockFault bytes genesis fault
-
--- the first bits of the id are zero
-unfoldable pub meets : ℕ → ℕ → Bool
-meets id bits = list_all (λ place. bit_at (bytes_of id) place == 0) (range_with_len 0 bits)
-
-abbrev pub WorkIsMet : Type 0
-WorkIsMet = (id bits : ℕ) → IsTrue (meets id bits) ↔ BeginsWithZeros id bits

@@ -11,7 +11,7 @@ use Rattle.sp_dag.specs.Numbered.{IsNumbered, number_of, Numbered}
 use Rattle.sp_tx.specs.Parts.{Transaction}
 use Rattle.sp_tx.specs.Spending.{id_of}
 use Rattle.sp_carry.specs.Carried.{AreSound, Carried, Carries, IsCarried}
-use Rattle.sp_accept.specs.Acceptance.{Acceptance, IsRight, is_set}
+use Rattle.sp_accept.specs.Acceptance.{Acceptance, IsRight}
 use Rattle.sp_money.specs.Held.{Held, IsOf}
 use Rattle.sp_money.specs.Locks.{each_once}
 use Rattle.sp_engine.specs.Presence.{order_of}
@@ -20,6 +20,7 @@ use Rattle.sp_engine.specs.declared.answer.Answer.{Answer}
 use Rattle.sp_engine.specs.declared.answer.Answer.TheVariants as answer
 use Rattle.sp_engine.specs.Transactions.{tx_ids_in, txs_of}
 use Rattle.sp_carry.specs.Carried as carried
+use Rattle.sp_carry.specs.Flags.{is_set}
 use Rattle.sp_dag.specs.Numbered as numbered
 
 -- the profile, the bits of work, the kept blocks, and the present blocks by number with their votes

@@ -5,7 +5,7 @@ ghost use Rattle.std.specs.Prelude.{◌≡◌, ◌<◌, ◌≤◌, ◌+◌, ◌+
 ghost use Rattle.sp_tx.specs.Parts.{Transaction};
 ghost use Rattle.sp_pool.specs.Kept.{Releases};
 ghost use Rattle.sp_dag.specs.Numbered.{IsNumbered};
-ghost use Rattle.sp_money.specs.Accepted.{is_set};
+ghost use Rattle.sp_carry.specs.Flags.{is_set};
 ghost use Rattle.sp_money.specs.Held.{IsOf};
 ghost use Rattle.sp_money.specs.Locks.{locks_of};
 ghost use Rattle.sp_accept.specs.Acceptance.{first_blocks};

@@ -12,7 +12,7 @@ ghost use Rattle.sp_pool.specs.Offers.{AreAnswers, order_of_presence};
 ghost use Rattle.sp_pool.specs.declared.answers.Offer.{Offer};
 ghost use Rattle.sp_engine.specs.AnyOrder.{AreSameArrivals};
 ghost use Rattle.sp_engine.specs.Arrivals.{kept_by_all, KeptAreOfArrivals, NoOthersAreKept};
-ghost use Rattle.sp_engine.specs.Blocks.{BlockIsSpelled, BlockIsWhole, FaultIsFirst, WorkIsMet};
+ghost use Rattle.sp_engine.specs.Blocks.{BlockIsSpelled, BlockIsWhole, FaultIsFirst};
 ghost use Rattle.sp_engine.specs.Causes.{FullIsCaused, HeldIsCaused, KeptIsCaused, KnownIsCaused, SpellingIsCaused, WorkIsCaused};
 ghost use Rattle.sp_engine.specs.Presence.{order_of};
 ghost use Rattle.sp_money.specs.Locks.{each_once};
@@ -26,11 +26,6 @@ pub fn blocks_are_spelled()
     ensures spelled { BlockIsSpelled }
     ensures whole { BlockIsWhole }
     ensures fault { FaultIsFirst }
-{}
-
-/// The test of an id's first bits is what the rule says.
-pub fn work_is_met()
-    ensures { WorkIsMet }
 {}
 
 /// Over the bytes of all arrivals the kept blocks are those of the pool's relation: genesis, and

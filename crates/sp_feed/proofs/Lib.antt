@@ -1,4 +1,3 @@
-pub mod GenesisBytes
 pub mod Reading
 pub mod Joining
 pub mod Judged

@@ -6,11 +6,11 @@ use Rattle.sp_form.specs.Form.{bind, field, first_broken, Form, Rule, whole}
 use Rattle.sp_form.specs.Places.{Faulty, Got, Input, Placed, placed, Short, unless_broken}
 use Rattle.sp_form.proofs.Simple.{rule_met}
 use Rattle.sp_form.proofs.Taking.{IsBytes-append_left, IsBytes-append_right}
+use Rattle.sp_block.specs.Judged.{is_block}
 use Rattle.sp_feed.specs.declared.kind.Kind.{Kind}
 use Rattle.sp_feed.specs.declared.kind.Kind.TheVariants as kinds
 use Rattle.sp_feed.specs.Feed.{all_frames, End, feed, feed_of, frames, Run, run_of, Stop}
 use Rattle.sp_feed.specs.Format.{broken, Flaw, frame_form, Head, head_form}
-use Rattle.sp_feed.specs.Genesis.{is_genesis}
 use Rattle.sp_feed.specs.Kinds.{Said, said, SaysBlock}
 
 -- ---- what a format gives
@@ -125,16 +125,16 @@ Any list = Unit {0}
 abbrev Any-cut : (n : ℕ) (list : List ℕ) → Any list → Any (take n list) × Any (drop n list)
 Any-cut n list h = (tt, tt)
 
-head_spelled : GivesSuch Any Any-cut (λ (head : Head). is_genesis head.genesis ≡ true) head_form
+head_spelled : GivesSuch Any Any-cut (λ (head : Head). is_block true head.genesis ≡ true) head_form
 unfolding head_form bind
 head_spelled =
-    let IsSuch : Head → Type 0 = λ head. is_genesis head.genesis ≡ true in
+    let IsSuch : Head → Type 0 = λ head. is_block true head.genesis ≡ true in
     gives_field Any Any-cut IsSuch 8 _ _ _ (λ name _ _.
     gives_field Any Any-cut IsSuch 1 _ _ _ (λ bits _ _.
     gives_field Any Any-cut IsSuch 1 _ _ _ (λ letter _ _.
     gives_field Any Any-cut IsSuch 4 _ _ _ (λ size _ _.
     gives_field Any Any-cut IsSuch _ _ _ _ (λ genesis _ met.
-    gives_whole Any Any-cut IsSuch _ (rule_met (is_genesis genesis) broken None met).0)))))
+    gives_whole Any Any-cut IsSuch _ (rule_met (is_block true genesis) broken None met).0)))))
 
 -- ---- the feed
 
@@ -170,7 +170,7 @@ genesis_is_bytes limit list head h e =
     (head_bytes (first limit list) front.0 head (IsBytes-cut limit list h).0 front.1).0
 
 -- which is one
-pub genesis_is_genesis : (limit : ℕ) (list : List ℕ) (head : Head) → (feed limit list).head ≡ Some head → is_genesis head.genesis ≡ true
+pub genesis_is_genesis : (limit : ℕ) (list : List ℕ) (head : Head) → (feed limit list).head ≡ Some head → is_block true head.genesis ≡ true
 genesis_is_genesis limit list head e =
     let front = found limit list head e in
     (head_spelled (first limit list) front.0 head tt front.1).0

@@ -11,14 +11,14 @@ use Rattle.sp_form.specs.Values.{byte, bytes_form}
 use Rattle.sp_form.proofs.Places.{placed_passes}
 use Rattle.sp_ids.specs.Digits.{length-bytes_of, number_of_bytes}
 use Rattle.sp_ids.specs.Key.{bytes_of, number_of}
+use Rattle.sp_block.specs.Judged.{is_block}
+use Rattle.sp_block.proofs.Judged.{block_spelled}
 use Rattle.sp_feed.specs.declared.kind.Kind.{Kind}
 use Rattle.sp_feed.specs.declared.kind.Kind.TheVariants.{Block, Vote, Tx, Balance, Pairs, Report, End}
 use Rattle.sp_feed.specs.Feed.{after_frame, feed, one_more, rest_of, Whole, with_head}
 use Rattle.sp_feed.specs.Format.{broken, cut, Flaw, frame_form, genesis_form, Head, head_form, head_of, length_form, name}
-use Rattle.sp_feed.specs.Genesis.{is_genesis}
 use Rattle.sp_feed.specs.Kinds.{allows, kind_of, letter, Said, said, SaysBlock, SaysVote, SaysTx, SaysBalance, SaysPairs, SaysReport}
 use Rattle.sp_feed.specs.Spelling.{AllFit, Fits, framed, frames_of, spelled, written, WrittenIsRead}
-use Rattle.sp_feed.proofs.GenesisBytes.{genesis_spelled}
 use Rattle.sp_feed.proofs.Reading.{judged-append, met}
 use Rattle.sp_feed.proofs.Rests.{feed_more, rest_more}
 
@@ -129,7 +129,7 @@ frames_read limit taken (m ∷ ms) rest f h =
 -- ---- the head
 
 -- the head behind the bits, its genesis block framed
-genesis_read : (head : Head) (at : ℕ) (more : List ℕ) → length head.genesis ≤ 65537 → is_genesis head.genesis ≡ true
+genesis_read : (head : Head) (at : ℕ) (more : List ℕ) → length head.genesis ≤ 65537 → is_block true head.genesis ≡ true
     → placed (bind (length_form Block) (λ n. bind (genesis_form n) (λ genesis. whole (head_of head.bits genesis)))) (record { at = at; bytes = to_le_bytes w32 (length head.genesis) ++ (head.genesis ++ more) }) ≡ Got head (record { at = at + 4 + length head.genesis; bytes = more })
 unfolding bind placed
 genesis_read head at more l e =
@@ -137,9 +137,9 @@ genesis_read head at more l e =
     let small : length head.genesis < 2 ^ 32 = omega arith in
     then 4 at (λ bytes. rule (allows Block (from_le_bytes w32 bytes)) broken ∷ []) (λ bytes. bind (genesis_form (from_le_bytes w32 bytes)) (λ genesis. whole (head_of head.bits genesis))) four (head.genesis ++ more) _ refl (length_back Block (length head.genesis) small (le-leb (length head.genesis) 65537 l))
     (ap (λ n. placed (bind (genesis_form n) (λ genesis. whole (head_of head.bits genesis))) (record { at = at + 4; bytes = head.genesis ++ more })) (from_le_bytes-to_le_bytes_4 (length head.genesis) small)
-    ∙ then (length head.genesis) (at + 4) (λ bytes. rule (is_genesis bytes) broken ∷ []) (λ bytes. whole (head_of head.bits bytes)) head.genesis more _ refl (met (is_genesis head.genesis) e) refl)
+    ∙ then (length head.genesis) (at + 4) (λ bytes. rule (is_block true bytes) broken ∷ []) (λ bytes. whole (head_of head.bits bytes)) head.genesis more _ refl (met (is_block true head.genesis) e) refl)
 
-head_read : (head : Head) (more : List ℕ) → head.bits ≤ 64 → length head.genesis ≤ 65537 → is_genesis head.genesis ≡ true → placed head_form (record { at = 0; bytes = name ++ (head.bits ∷ (framed Block head.genesis ++ more)) }) ≡ Got head (record { at = 8 + 1 + 1 + 4 + length head.genesis; bytes = more })
+head_read : (head : Head) (more : List ℕ) → head.bits ≤ 64 → length head.genesis ≤ 65537 → is_block true head.genesis ≡ true → placed head_form (record { at = 0; bytes = name ++ (head.bits ∷ (framed Block head.genesis ++ more)) }) ≡ Got head (record { at = 8 + 1 + 1 + 4 + length head.genesis; bytes = more })
 unfolding head_form bind
 head_read head more b l e =
     let four = to_le_bytes w32 (length head.genesis) in
@@ -152,7 +152,7 @@ head_read head more b l e =
 
 pub written_is_read : WrittenIsRead
 written_is_read limit head ms rest b e f n =
-    let l : length head.genesis ≤ 65537 = let s = (genesis_spelled head.genesis e).1.short in omega arith in
+    let l : length head.genesis ≤ 65537 = let s = (block_spelled true head.genesis e).1.short in omega arith in
     let front = name ++ (head.bits ∷ framed Block head.genesis) in
     let now : ℕ = 8 + 1 + 1 + 4 + length head.genesis in
     let long : now ≡ length front = omega arith in

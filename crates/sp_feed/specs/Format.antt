@@ -1,13 +1,13 @@
 -- The formats of a feed's head and of a frame, a line for each field: its width, and its rule. Only the
 -- place of a fault is told, so a fault needs no name of its own.
-use Rattle.std.specs.Prelude.{ℕ, ◌==◌, nat_le, List, [], ◌∷◌, codes, is_some, unwrap_or, Option}
+use Rattle.std.specs.Prelude.{true, ℕ, ◌==◌, nat_le, List, [], ◌∷◌, codes, is_some, unwrap_or, Option}
 use Rattle.std.specs.Int.{w32, from_le_bytes}
 use Rattle.std.specs.Str.{bytes_eq}
 use Rattle.sp_form.specs.Form.{Form, whole, field, ◌>>=◌, rule}
 use Rattle.sp_form.specs.Values.{byte, bytes_form, value_form}
+use Rattle.sp_block.specs.Judged.{is_block}
 use Rattle.sp_feed.specs.declared.kind.Kind.{Kind}
 use Rattle.sp_feed.specs.declared.kind.Kind.TheVariants.{Block, End}
-use Rattle.sp_feed.specs.Genesis.{is_genesis}
 use Rattle.sp_feed.specs.Kinds.{allows, kind_of, letter, Said, said}
 
 -- the bytes end within a field, or the field breaks its rule
@@ -38,7 +38,7 @@ abbrev pub length_form : Kind → Form Flaw ℕ
 length_form kind = value_form 4 cut (from_le_bytes w32) (λ n. rule (allows kind n) broken ∷ [])
 
 abbrev pub genesis_form : ℕ → Form Flaw (List ℕ)
-genesis_form n = value_form n cut (λ bytes. bytes) (λ bytes. rule (is_genesis bytes) broken ∷ [])
+genesis_form n = value_form n cut (λ bytes. bytes) (λ bytes. rule (is_block true bytes) broken ∷ [])
 
 -- the bits of work that are asked for, and the bytes of the genesis block
 pub record Head : Type 0 where

@@ -1,12 +1,12 @@
 -- How a feed is written.
-use Rattle.std.specs.Prelude.{◌≡◌, ℕ, ◌<◌, ◌≤◌, ◌^◌, List, [], ◌∷◌, ◌++◌, length, IsTrue, Some}
+use Rattle.std.specs.Prelude.{◌≡◌, true, ℕ, ◌<◌, ◌≤◌, ◌^◌, List, [], ◌∷◌, ◌++◌, length, IsTrue, Some}
 use Rattle.std.specs.Int.{w32, to_le_bytes}
 use Rattle.sp_ids.specs.Key.{bytes_of}
+use Rattle.sp_block.specs.Judged.{is_block}
 use Rattle.sp_feed.specs.declared.kind.Kind.{Kind}
 use Rattle.sp_feed.specs.declared.kind.Kind.TheVariants.{Block, Vote, Tx, Balance, Pairs, Report, End}
 use Rattle.sp_feed.specs.Feed.{feed, Whole}
 use Rattle.sp_feed.specs.Format.{Head, name}
-use Rattle.sp_feed.specs.Genesis.{is_genesis}
 use Rattle.sp_feed.specs.Kinds.{letter, Said, SaysBlock, SaysVote, SaysTx, SaysBalance, SaysPairs, SaysReport}
 
 -- a kind, a length and a payload
@@ -45,4 +45,4 @@ AllFit (message ∷ messages) = Fits message × AllFit messages
 
 -- what is written is read, whatever follows it
 abbrev pub WrittenIsRead : Type 0
-WrittenIsRead = (limit : ℕ) (head : Head) (messages : List Said) (rest : List ℕ) → head.bits ≤ 64 → IsTrue (is_genesis head.genesis) → AllFit messages → length (written head messages) ≤ limit → feed limit (written head messages ++ rest) ≡ record { head = Some head; messages = messages; end = Whole rest }
+WrittenIsRead = (limit : ℕ) (head : Head) (messages : List Said) (rest : List ℕ) → head.bits ≤ 64 → IsTrue (is_block true head.genesis) → AllFit messages → length (written head messages) ≤ limit → feed limit (written head messages ++ rest) ≡ record { head = Some head; messages = messages; end = Whole rest }

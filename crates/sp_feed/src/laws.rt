@@ -1,21 +1,16 @@
 //! The laws of feeds, for which no call is needed.
 
-ghost use Rattle.std.specs.Prelude.{◌≡◌, ℕ, List, Some, IsTrue, Contains};
+ghost use Rattle.std.specs.Prelude.{◌≡◌, true, ℕ, List, Some, IsTrue, Contains};
 ghost use Rattle.sp_form.specs.Bytes.{IsBytes};
+ghost use Rattle.sp_block.specs.Judged.{is_block};
 ghost use Rattle.sp_feed.specs.Feed.{feed, FrameByFrame};
 ghost use Rattle.sp_feed.specs.Format.{Head};
-ghost use Rattle.sp_feed.specs.Genesis.{GenesisIsSpelled, is_genesis};
 ghost use Rattle.sp_feed.specs.Kinds.{SaysBlock};
 ghost use Rattle.sp_feed.specs.Spelling.{WrittenIsRead};
 
 /// The frames of a feed are a frame, and then the frames behind it.
 pub fn frame_by_frame()
     ensures { FrameByFrame }
-{}
-
-/// The bytes that the head takes for a genesis block are those that spell one.
-pub fn genesis_is_spelled()
-    ensures { GenesisIsSpelled }
 {}
 
 /// A feed that is written is read, whatever follows it.
@@ -31,5 +26,5 @@ pub fn payloads_are_bytes()
     ensures genesis { (limit : ℕ) (list : List ℕ) (head : Head) → IsBytes list →
         (feed limit list).head ≡ Some head → IsBytes head.genesis }
     ensures spelled { (limit : ℕ) (list : List ℕ) (head : Head) →
-        (feed limit list).head ≡ Some head → IsTrue (is_genesis head.genesis) }
+        (feed limit list).head ≡ Some head → IsTrue (is_block true head.genesis) }
 {}

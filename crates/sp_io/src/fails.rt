@@ -30,8 +30,8 @@ impl Drop for Fails {
 impl Fails {
     ghost use Rattle.sp_io.specs.Fails.{FailsAt};
 
-    // Whether the call of this number fails.
-    pub(crate) fn holds_at(&self, call: u64) -> bool
+    /// Whether the call of this number fails. It costs a pass over the list where there is one.
+    pub fn holds_at(&self, call: u64) -> bool
         ensures { IsTrue result ↔ FailsAt self.now call }
     {
         match self {

@@ -9,7 +9,8 @@ use Rattle.sp_ids.specs.Digest.{sha256_number}
 use Rattle.sp_journal.specs.Format.{head_of, set}
 use Rattle.sp_journal.specs.Gates.{IsOpened, IsShut, IsShutOrOpened}
 use Rattle.sp_journal.specs.Journal.{AreContents, Contents, first_ids, front, head_text, ids_of, record_body, record_text, sized, with_block}
-use Rattle.sp_journal.specs.Judged.{has, is_block, IsRecord, meets, with_id}
+use Rattle.sp_block.specs.Judged.{is_block, meets}
+use Rattle.sp_journal.specs.Judged.{has, IsRecord, with_id}
 use Rattle.sp_journal.specs.Records.{Found, records}
 use Rattle.sp_journal.proofs.RecordLaws.{found_front, is_recorded}
 

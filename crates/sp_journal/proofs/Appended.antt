@@ -8,13 +8,14 @@ use Rattle.sp_disk.specs.Moments.{IsMoment, Leaves, Moment}
 use Rattle.sp_disk.proofs.Runs.{weaker}
 use Rattle.sp_journal.specs.Gates.{IsShutOrOpened}
 use Rattle.sp_journal.specs.Journal.{AreContents, Contents, front, ids_of, record_body, record_text, with_block}
-use Rattle.sp_journal.specs.Judged.{has, is_block, meets}
+use Rattle.sp_block.specs.Judged.{is_block, meets}
+use Rattle.sp_journal.specs.Judged.{has}
 use Rattle.sp_journal.specs.Records.{Found, records}
 use Rattle.sp_journal.specs.Settled.{HasGate, HasOpened, IsTold}
 use Rattle.sp_journal.specs.Writer.{HoldsOrAdded, Stands, StandsFor, with_record, Writer, writer}
 use Rattle.sp_journal.proofs.Added.{front_added, held_or_added, may_join, opened_added}
 use Rattle.sp_journal.proofs.GateLaws.{length-shut}
-use Rattle.sp_journal.proofs.JudgedLaws.{meets_zeros, spelled_block}
+use Rattle.sp_block.proofs.Judged.{meets_zeros, spelled_block}
 use Rattle.sp_journal.proofs.RecordLaws.{found_front, front_found}
 
 read_image : (r : Option (List ℕ)) (images : List ℕ → Type 0) → IsSome r → IfSome r images → (bytes : List ℕ) × (r ≡ Some bytes) × images bytes

@@ -10,7 +10,7 @@ use Rattle.sp_form.specs.Values.{byte, bytes_form}
 use Rattle.sp_form.proofs.Simple.{bytes_spelled, one_byte, rule_met}
 use Rattle.sp_form.proofs.Taking.{bind_spelled, last_spelled, said_so, Spelled, value_spelled}
 use Rattle.sp_journal.specs.Format.{bits_form, broken, cut, Flaw, gate_form, genesis_form, Head, head_form, head_of, length_form, name, name_form, record_form, set, sized_form}
-use Rattle.sp_journal.specs.Judged.{is_block}
+use Rattle.sp_block.specs.Judged.{is_block}
 
 gate_spelled : Spelled gate_form (λ gate. gate ∷ []) (λ gate. gate ≡ set)
 gate_spelled = value_spelled 1 cut byte (λ gate. rule (eqb gate set) broken ∷ []) (λ gate. gate ∷ []) (λ gate. gate ≡ set) (record {

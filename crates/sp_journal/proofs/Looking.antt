@@ -6,7 +6,10 @@ use Rattle.std.proofs.lemmas.Grind.{fold-append}
 use Rattle.sp_form.specs.Bytes.{IsBytes}
 use Rattle.sp_ids.specs.Digest.{sha256_number}
 use Rattle.sp_block.specs.Block.{ReadBlock}
+use Rattle.sp_io.specs.Causes.{Rose}
 use Rattle.sp_disk.specs.Moments.{IsMoment, Looks, Moment}
+use Rattle.sp_journal.specs.Looked.{HasLooked}
+use Rattle.sp_journal.specs.declared.fault.JournalFault.{JournalFault}
 use Rattle.sp_journal.specs.Records.{Faulty, is_shut, rows}
 use Rattle.sp_journal.specs.Recovery.{FindsRecord, id_behind}
 use Rattle.sp_journal.proofs.Recovered.{IsSoFar, so_far_faulty, so_far_full, so_far_more}
@@ -22,6 +25,15 @@ looks_then old mid new law first second = record {
     since = λ t le image left. ⊎_elim (λ was. ⊎_elim (λ a. inl a) (λ b. inl (law.counts t image le (first.crash image b))) (first.time.since t le image was)) (λ now. inr now) (second.time.since t (omega (arith, le, first.time.later)) image left);
     keeps = λ t le image left. second.time.keeps t (omega (arith, le, first.time.later)) image (first.time.keeps t le image left);
   };
+}
+
+-- what was looked at after a look that changed no count
+pub looked_then : {T : Type 0} {result : Result T JournalFault} (old mid new : Moment) → IsMoment old → Looks old mid → mid.faults ≡ old.faults → HasLooked mid new result → HasLooked old new result
+looked_then old mid new law first same second = record {
+  looks = looks_then old mid new law first second.looks;
+  fault = λ e. subst (λ (n : ℕ). Rose n new.faults) same (second.fault e);
+  later = omega (arith, same, second.later);
+  quiet = λ other. second.quiet other ∙ same;
 }
 
 pub told_bytes : (m : Moment) → IsMoment m → IfSome m.reads IsBytes

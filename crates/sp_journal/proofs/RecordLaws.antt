@@ -11,7 +11,8 @@ use Rattle.sp_block.specs.Format.{block_form}
 use Rattle.sp_journal.specs.Format.{Flaw, Head, head_form, head_of, record_form, set}
 use Rattle.sp_journal.specs.Gates.{IsShut}
 use Rattle.sp_journal.specs.Journal.{AreContents, Contents, contents, first_ids, front, head_text, record_text}
-use Rattle.sp_journal.specs.Judged.{has, is_block, is_read_to_end, is_record, IsRecord, meets, with_id}
+use Rattle.sp_block.specs.Judged.{is_block, is_read_to_end, meets}
+use Rattle.sp_journal.specs.Judged.{has, is_record, IsRecord, with_id}
 use Rattle.sp_journal.specs.Laws.{Holds, JournalIsWritten}
 use Rattle.sp_journal.specs.Records.{Faulty, Found, is_shut, records, records_by, records_of, row_first, row_then, Rows, rows, Sound}
 use Rattle.sp_journal.proofs.Forms.{head_spelled, IsHead, record_spelled}

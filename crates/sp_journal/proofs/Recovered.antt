@@ -15,10 +15,11 @@ use Rattle.sp_block.specs.Spelling.{HasBlockFault, SpellsBlock}
 use Rattle.sp_block.specs.declared.fault.BlockFault.{BlockFault}
 use Rattle.sp_journal.specs.Format.{broken, genesis_form, head_form, head_of, record_form}
 use Rattle.sp_journal.specs.Journal.{head_text, record_text}
-use Rattle.sp_journal.specs.Judged.{has, is_block, is_record, IsRecord, meets, with_id}
+use Rattle.sp_block.specs.Judged.{is_block, meets}
+use Rattle.sp_journal.specs.Judged.{has, is_record, IsRecord, with_id}
 use Rattle.sp_journal.specs.Records.{Faulty, is_shut, NoJournal, records, records_by, records_of, row_first, row_then, Rows, rows, Sound}
 use Rattle.sp_journal.specs.Recovery.{bytes_in, Finds, FindsRecord, IsFlawed, IsSpelled, IsSpelledBlock, SaysRows, with_rows}
-use Rattle.sp_journal.proofs.JudgedLaws.{faulty_block, meets_zeros, spelled_block, zeros_met}
+use Rattle.sp_block.proofs.Judged.{faulty_block, meets_zeros, spelled_block, zeros_met}
 use Rattle.sp_journal.proofs.RecordLaws.{is_recorded, short_record}
 
 module _ (n : ℕ) (list bytes rest : List ℕ) (field : bytes ≡ take n list) (size : length bytes ≡ n) (left : rest ≡ drop n list) where

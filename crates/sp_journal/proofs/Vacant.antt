@@ -13,7 +13,7 @@ use Rattle.sp_journal.specs.Creation.{gate_of, HoldsNone, HoldsNoneOrNew, IsSync
 use Rattle.sp_journal.specs.Format.{head_form, set}
 use Rattle.sp_journal.specs.Gates.{IsOpened, IsShut, IsShutOrOpened}
 use Rattle.sp_journal.specs.Journal.{AreContents, Contents, contents, front, head_body}
-use Rattle.sp_journal.specs.Judged.{is_block}
+use Rattle.sp_block.specs.Judged.{is_block}
 use Rattle.sp_journal.specs.Records.{Found, records}
 use Rattle.sp_journal.specs.Settled.{HasGate, HasOpened, IsTold, Puts}
 use Rattle.sp_journal.specs.Writer.{Stands, writer}

@@ -7,6 +7,7 @@ pub mod Settled
 pub mod Writer
 pub mod Creation
 pub mod Recovery
+pub mod Looked
 pub mod Opening
 pub mod Prefixes
 pub mod Laws

@@ -10,7 +10,8 @@ use Rattle.sp_block.specs.Spelling.{SpellsBlock}
 use Rattle.sp_journal.specs.Creation.{gate_of}
 use Rattle.sp_journal.specs.Format.{Flaw, head_form, head_of, record_form}
 use Rattle.sp_journal.specs.Journal.{record_text}
-use Rattle.sp_journal.specs.Judged.{has, is_block, is_record, IsRecord}
+use Rattle.sp_block.specs.Judged.{is_block}
+use Rattle.sp_journal.specs.Judged.{has, is_record, IsRecord}
 use Rattle.sp_journal.specs.Records.{Faulty, is_shut, Rows, Sound}
 use Rattle.sp_journal.specs.declared.gate_kind.Gate.{Gate}
 use Rattle.sp_journal.specs.declared.row.Row.{Row}

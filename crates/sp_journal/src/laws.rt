@@ -3,19 +3,13 @@
 
 ghost use Rattle.std.specs.Prelude.{◌≡◌, ◌++◌, ◌∷◌, [], take, replicate, codes};
 ghost use Rattle.sp_journal.specs.Examples as example;
-ghost use Rattle.sp_journal.specs.Laws.{BlockIsSpelled, JournalIsWritten, WorkIsMet};
+ghost use Rattle.sp_journal.specs.Laws.{JournalIsWritten};
 ghost use Rattle.sp_journal.specs.Records.{Damaged, Faulty, Found, NoJournal, records, rows, Sound};
 
 /// Bytes hold a journal exactly where they are its head, the records of its blocks in their order, a
 /// closed gate, and anything.
 pub fn journals_are_written()
     ensures { JournalIsWritten }
-{}
-
-/// The test of a block's bytes is what the format says, and that of an id what the rule says.
-pub fn blocks_are_judged()
-    ensures spelled { BlockIsSpelled }
-    ensures work { WorkIsMet }
 {}
 
 /// The definition, computed on the smallest journal and on changes of it, gives what was worked out by

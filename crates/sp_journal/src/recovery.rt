@@ -1,9 +1,8 @@
 //! Recovery: what a disk holds as a journal, read head by record.
 
 ghost use Rattle.std.specs.Prelude.{◌≡◌, ◌+◌, ◌≤◌, ◌∷◌, Ok, [], ℕ, List, drop, length, map, IfErr, IfOk, IfSome, IsErrOf};
-ghost use Rattle.sp_io.specs.Causes.{Rose};
-ghost use Rattle.sp_disk.specs.Moments.{Looks};
 ghost use Rattle.sp_block.specs.Block.{IsGenesis};
+ghost use Rattle.sp_journal.specs.Looked.{HasLooked};
 ghost use Rattle.sp_journal.specs.Opening.{IsPlain, Judges};
 ghost use Rattle.sp_journal.specs.Records.{rows};
 ghost use Rattle.sp_journal.specs.declared.fault.JournalFault.TheVariants.{DiskFault};
@@ -31,10 +30,7 @@ fn head_on<D: Disk>(
     ensures small { IfOk result (λ found. IfOk found (λ head. head.0 ≤ 64)) }
     ensures genesis { IfOk result (λ found. IfOk found (λ head. IsGenesis head.1)) }
     ensures plain { IfErr result IsPlain }
-    ensures looks { Looks (D.now disk.old) (D.now disk.new) }
-    ensures fault { IsErrOf result DiskFault → Rose (D.now disk.old).faults (D.now disk.new).faults }
-    ensures later { (D.now disk.old).faults ≤ (D.now disk.new).faults }
-    ensures quiet { (IsErrOf result DiskFault → ⊥) → (D.now disk.new).faults ≡ (D.now disk.old).faults }
+    ensures looked { HasLooked (D.now disk.old) (D.now disk.new) result }
 {
     let count = disk.read_at(0, buffer)?;
     head_in(alloc, &buffer[..count])
@@ -67,10 +63,7 @@ fn records<D: Disk>(
     ensures ends { IfOk result (λ found. IfOk found (λ found. EndsAt start found.0.items found.1)) }
     ensures good { IfOk result (λ found. IfOk found (λ found. AreGood bits genesis found.0.items)) }
     ensures plain { IfErr result IsPlain }
-    ensures looks { Looks (D.now disk.old) (D.now disk.new) }
-    ensures fault { IsErrOf result DiskFault → Rose (D.now disk.old).faults (D.now disk.new).faults }
-    ensures later { (D.now disk.old).faults ≤ (D.now disk.new).faults }
-    ensures quiet { (IsErrOf result DiskFault → ⊥) → (D.now disk.new).faults ≡ (D.now disk.old).faults }
+    ensures looked { HasLooked (D.now disk.old) (D.now disk.new) result }
 {
     let mut blocks = Vec::new(alloc);
     let mut ids = one_id(alloc, genesis)?;
@@ -125,10 +118,7 @@ fn behind<D: Disk>(
     requires bits { bits ≤ 64 }
     requires genesis { IsGenesis genesis }
     ensures judged { IfSome (D.now disk.old).reads (λ bytes. IsHeadOf bytes (Ok (bits, genesis)) → Judges bytes result) }
-    ensures looks { Looks (D.now disk.old) (D.now disk.new) }
-    ensures fault { IsErrOf result DiskFault → Rose (D.now disk.old).faults (D.now disk.new).faults }
-    ensures later { (D.now disk.old).faults ≤ (D.now disk.new).faults }
-    ensures quiet { (IsErrOf result DiskFault → ⊥) → (D.now disk.new).faults ≡ (D.now disk.old).faults }
+    ensures looked { HasLooked (D.now disk.old) (D.now disk.new) result }
 {
     let start = 14 + genesis.bytes.as_slice().len() as u64;
     match records(alloc, disk, buffer, bits, genesis.id, start) {
@@ -145,10 +135,7 @@ fn read_into<D: Disk>(
 ) -> Result<Opened, JournalFault>
     requires room { length buffer.old ≡ 65550 }
     ensures judged { IfSome (D.now disk.old).reads (λ bytes. Judges bytes result) }
-    ensures looks { Looks (D.now disk.old) (D.now disk.new) }
-    ensures fault { IsErrOf result DiskFault → Rose (D.now disk.old).faults (D.now disk.new).faults }
-    ensures later { (D.now disk.old).faults ≤ (D.now disk.new).faults }
-    ensures quiet { (IsErrOf result DiskFault → ⊥) → (D.now disk.new).faults ≡ (D.now disk.old).faults }
+    ensures looked { HasLooked (D.now disk.old) (D.now disk.new) result }
 {
     let head = match head_on(alloc, disk, buffer) {
         Ok(head) => head,
@@ -163,10 +150,7 @@ fn read_into<D: Disk>(
 /// What a disk holds as a journal. It is read head by record, each into the same room.
 pub(crate) fn recover<D: Disk>(alloc: Global, disk: &mut D) -> Result<Opened, JournalFault>
     ensures judged { IfSome (D.now disk.old).reads (λ bytes. Judges bytes result) }
-    ensures looks { Looks (D.now disk.old) (D.now disk.new) }
-    ensures fault { IsErrOf result DiskFault → Rose (D.now disk.old).faults (D.now disk.new).faults }
-    ensures later { (D.now disk.old).faults ≤ (D.now disk.new).faults }
-    ensures quiet { (IsErrOf result DiskFault → ⊥) → (D.now disk.new).faults ≡ (D.now disk.old).faults }
+    ensures looked { HasLooked (D.now disk.old) (D.now disk.new) result }
 {
     let Ok(mut buffer) = vec![in alloc; 0u8; 65_550] else {
         return Err(JournalFault::Memory);

@@ -1,12 +1,10 @@
 //! Reading a journal's records step by step: what stands behind a place of the disk is read, and the
 //! block is noted where it is a record.
 
-ghost use Rattle.std.specs.Prelude.{◌≡◌, ◌^◌, ◌∷◌, ◌++◌, ◌≤◌, OnOk, [], ℕ, List, Option, length, drop, map, IfErr, IfOk, IfSome, IsErrOf, IsNone};
+ghost use Rattle.std.specs.Prelude.{◌≡◌, ◌^◌, ◌∷◌, ◌++◌, ◌≤◌, OnOk, [], ℕ, List, Option, length, drop, map, IfErr, IfOk, IfSome, IsNone};
 ghost use Rattle.sp_form.specs.Turns.{InTurn};
-ghost use Rattle.sp_io.specs.Causes.{Rose};
-ghost use Rattle.sp_disk.specs.Moments.{Looks};
+ghost use Rattle.sp_journal.specs.Looked.{HasLooked};
 ghost use Rattle.sp_journal.specs.Opening.{IsPlain};
-ghost use Rattle.sp_journal.specs.declared.fault.JournalFault.TheVariants.{DiskFault};
 ghost use Rattle.sp_journal.specs.Records.{rows};
 ghost use Rattle.sp_journal.specs.Recovery.{bytes_in, EndsAt, id_behind, IsGood, IsGoodRow, IsRowOf, SaysRows};
 ghost use Rattle.sp_journal.specs.Stepping.{IsStep, Joins};
@@ -46,10 +44,7 @@ fn row_on<D: Disk>(
         IsRowOf bits ids.now (drop at bytes) row)) }
     ensures good { IfOk result (λ row. IsGoodRow bits ids.now row) }
     ensures plain { IfErr result IsPlain }
-    ensures looks { Looks (D.now disk.old) (D.now disk.new) }
-    ensures fault { IsErrOf result DiskFault → Rose (D.now disk.old).faults (D.now disk.new).faults }
-    ensures later { (D.now disk.old).faults ≤ (D.now disk.new).faults }
-    ensures quiet { (IsErrOf result DiskFault → ⊥) → (D.now disk.new).faults ≡ (D.now disk.old).faults }
+    ensures looked { HasLooked (D.now disk.old) (D.now disk.new) result }
 {
     let count = disk.read_at(at, buffer)?;
     row_in(alloc, &buffer[..count], bits, ids)
@@ -125,10 +120,7 @@ fn read_next<D: Disk>(
     ensures step { IfOk result (IsStep (D.now disk.old).reads bits blocks.old.items ids.old.items place
         blocks.new.items ids.new.items) }
     ensures plain { IfErr result IsPlain }
-    ensures looks { Looks (D.now disk.old) (D.now disk.new) }
-    ensures fault { IsErrOf result DiskFault → Rose (D.now disk.old).faults (D.now disk.new).faults }
-    ensures later { (D.now disk.old).faults ≤ (D.now disk.new).faults }
-    ensures quiet { (IsErrOf result DiskFault → ⊥) → (D.now disk.new).faults ≡ (D.now disk.old).faults }
+    ensures looked { HasLooked (D.now disk.old) (D.now disk.new) result }
 {
     let row = row_on(alloc, disk, place, buffer, bits, ids)?;
     let step = step_of(row, place, blocks, ids)?;
@@ -156,10 +148,7 @@ pub(crate) fn read_all<D: Disk>(
     ensures good { IfOk result (λ found. IfOk found (λ place.
         InTurn (IsGood bits) id_behind ids.old.items blocks.new.items)) }
     ensures plain { IfErr result IsPlain }
-    ensures looks { Looks (D.now disk.old) (D.now disk.new) }
-    ensures fault { IsErrOf result DiskFault → Rose (D.now disk.old).faults (D.now disk.new).faults }
-    ensures later { (D.now disk.old).faults ≤ (D.now disk.new).faults }
-    ensures quiet { (IsErrOf result DiskFault → ⊥) → (D.now disk.new).faults ≡ (D.now disk.old).faults }
+    ensures looked { HasLooked (D.now disk.old) (D.now disk.new) result }
 {
     let mut place = start;
     'each: loop {

@@ -12,10 +12,11 @@ use Rattle.sp_tx.specs.declared.parts.Output.{Output}
 use Rattle.sp_tx.specs.Parts.{Transaction}
 use Rattle.sp_carry.specs.Payment.{Payment, payment_of}
 use Rattle.sp_carry.specs.Money.{Coin, coins}
+use Rattle.sp_carry.specs.Flags.{is_set}
 use Rattle.sp_model.specs.Graph.{AreDistinct}
 use Rattle.sp_money.specs.declared.slot.Slot.{Slot}
 use Rattle.sp_money.specs.declared.store.Store.{Store}
-use Rattle.sp_money.specs.Accepted.{accepted_in, is_set}
+use Rattle.sp_money.specs.Accepted.{accepted_in}
 use Rattle.sp_money.specs.Growth.{with_tx, IsFront}
 use Rattle.sp_money.specs.Held.{coins_of, Held, lives, spender_count, starts_from, IsOf}
 use Rattle.sp_money.specs.Kept.{AreKept, BeginEarly, coin_of, held_by, held_of, IsEarly, IsKept}

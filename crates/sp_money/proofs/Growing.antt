@@ -10,8 +10,9 @@ use Rattle.sp_tx.specs.Parts.{Transaction, of_parts}
 use Rattle.sp_carry.specs.Lookups.{is_spent_by, spenders_from}
 use Rattle.sp_carry.specs.Payment.{is_same_outpoint, payment_of, spends}
 use Rattle.sp_carry.specs.Money.{Coin, coins, coins_from}
+use Rattle.sp_carry.specs.Flags.{is_set}
 use Rattle.sp_money.specs.declared.store.Store.{Store}
-use Rattle.sp_money.specs.Accepted.{accepted_in, is_set}
+use Rattle.sp_money.specs.Accepted.{accepted_in}
 use Rattle.sp_money.specs.Locks.{all_locks, with_id}
 use Rattle.sp_money.specs.Held.{coins_of, lives, spender_count, starts_from, Held, IsOf}
 use Rattle.sp_money.specs.Places.{is_named}

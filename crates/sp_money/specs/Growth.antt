@@ -4,8 +4,8 @@ use Rattle.sp_tx.specs.Parts.{Transaction}
 use Rattle.sp_carry.specs.Lookups.{spenders_in}
 use Rattle.sp_carry.specs.Payment.{payment_of}
 use Rattle.sp_carry.specs.Money.{Coin, coins}
+use Rattle.sp_carry.specs.Flags.{is_set}
 use Rattle.sp_money.specs.declared.store.Store.{Store}
-use Rattle.sp_money.specs.Accepted.{is_set}
 use Rattle.sp_money.specs.Locks.{with_id}
 use Rattle.sp_money.specs.Held.{Held}
 

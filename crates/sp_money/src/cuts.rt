@@ -2,7 +2,7 @@
 
 ghost use Rattle.std.specs.Prelude.{◌≡◌, ◌≤◌, ℕ, false, List, length, take};
 ghost use Rattle.sp_tx.specs.Parts.{Transaction};
-ghost use Rattle.sp_money.specs.Accepted.{is_set};
+ghost use Rattle.sp_carry.specs.Flags.{is_set};
 ghost use Rattle.sp_money.specs.Held.{coins_of, IsOf};
 ghost use Rattle.sp_money.specs.Kept.{held_of, IsEarly, IsKept};
 ghost use Rattle.sp_money.specs.Locks.{locks_of};

@@ -1,9 +1,9 @@
 //! What changes where a transaction becomes accepted, or stops being so.
 
 ghost use Rattle.std.specs.Prelude.{◌≡◌, ◌+◌, ◌<◌, ◌≤◌, All, length, slice_index_or, slice_set, not, ◌∷◌, []};
+ghost use Rattle.sp_carry.specs.Flags.{with_flips};
 ghost use Rattle.sp_carry.specs.Lookups.{AreApart};
 ghost use Rattle.sp_carry.specs.declared.carrier.Flip.{Flip};
-ghost use Rattle.sp_money.specs.Accepted.{turned};
 ghost use Rattle.sp_money.specs.Held.{coins_of, starts_of, IsOf};
 ghost use Rattle.sp_money.specs.Places.{counted, marked, CanCount};
 ghost use Rattle.sp_money.specs.Kept.{held_of, IsKept};
@@ -100,7 +100,7 @@ impl Store {
         requires of { IsOf carriers.now.txs (held_of self.old) }
         ensures kept { IsKept self.new }
         ensures of { IsOf carriers.now.txs (held_of self.new) }
-        ensures accepted { self.new.accepted.items ≡ turned self.old.accepted.items flips.now }
+        ensures accepted { self.new.accepted.items ≡ with_flips self.old.accepted.items flips.now }
     {
         'flips: for flip in flips {
             self.flip(carriers, flip.tx, flip.now);

@@ -5,7 +5,7 @@ ghost use Rattle.std.specs.Prelude.{◌≡◌, ◌+◌, ◌-◌, ◌*◌, ◌<�
 ghost use Rattle.sp_carry.specs.Lookups.{spenders_in};
 ghost use Rattle.sp_carry.specs.Carried.{tx_at};
 ghost use Rattle.sp_carry.specs.Money.{Coin, coins_from};
-ghost use Rattle.sp_money.specs.Accepted.{is_set};
+ghost use Rattle.sp_carry.specs.Flags.{is_set};
 ghost use Rattle.sp_money.specs.Locks.{with_id};
 ghost use Rattle.sp_money.specs.Held.{IsOf};
 ghost use Rattle.sp_money.specs.Totals.{AreTotals};
@@ -14,17 +14,9 @@ ghost use Rattle.sp_money.specs.Growth.{set_spenders, with_outputs, with_tx, Goe
 
 use crate::slot::Slot;
 use crate::store::Store;
-use sp_carry::Carriers;
+use sp_carry::{Carriers, is_set};
 use sp_ids::{Lock, Memory, Outpoint, TxId};
 use sp_tx::Output;
-
-// Whether the flag of a number is there and set.
-fn is_set(flags: &[bool], number: u32) -> bool
-    ensures { result ≡ is_set flags.now number }
-{
-    let place = number as usize;
-    place < flags.len() && flags[place]
-}
 
 // How many of these transactions have their flag set.
 fn count_set(flags: &[bool], txs: &[u32]) -> u32

@@ -6,7 +6,8 @@ ghost use Rattle.sp_ids.specs.Outpoints.{outpoint_cmp};
 ghost use Rattle.sp_tx.specs.Parts.{Transaction};
 ghost use Rattle.sp_carry.specs.Money.{balance_of};
 ghost use Rattle.sp_carry.specs.declared.carrier.Flip.{Flip};
-ghost use Rattle.sp_money.specs.Accepted.{accepted_in, is_set, turned};
+ghost use Rattle.sp_carry.specs.Flags.{is_set, with_flips};
+ghost use Rattle.sp_money.specs.Accepted.{accepted_in};
 ghost use Rattle.sp_money.specs.Held.{nothing, IsOf};
 ghost use Rattle.sp_money.specs.Locks.{locks_of};
 ghost use Rattle.sp_money.specs.Names.{names_under};
@@ -106,7 +107,7 @@ impl Purse {
         requires of { IsOf carriers.now.txs self.old }
         requires within { All (λ (f : Flip). f.tx < length carriers.now.txs) flips.now }
         ensures of { IsOf carriers.now.txs self.new }
-        ensures accepted { self.new.accepted ≡ turned self.old.accepted flips.now }
+        ensures accepted { self.new.accepted ≡ with_flips self.old.accepted flips.now }
     {
         self.store.flip_all(carriers, flips);
     }

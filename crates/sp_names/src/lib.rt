@@ -12,3 +12,4 @@ mod order;
 
 pub use name::Name;
 pub use names::Names;
+pub use order::push_wanted;

@@ -18,8 +18,12 @@ fn is_among<K: Ord>(keys: &[K], key: &K) -> bool
     keys.binary_search(key).is_ok()
 }
 
-// Puts a key behind the others, where it is wanted.
-fn push_wanted<K: Copy>(keys: &mut Vec<K>, key: K, wanted: bool) -> Result<(), Memory>
+/// Puts a key behind the others, where it is wanted.
+///
+/// # Errors
+///
+/// `Memory` where there was none for it.
+pub fn push_wanted<K: Copy>(keys: &mut Vec<K>, key: K, wanted: bool) -> Result<(), Memory>
     ensures { OnOk result
         (keys.new.items ≡ keys.old.items ++ (if wanted then key ∷ [] else [])) }
 {

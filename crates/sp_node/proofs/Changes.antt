@@ -14,12 +14,14 @@ use Rattle.sp_pool.specs.Kept.{AreKept, ids_of, present, standing_of}
 use Rattle.sp_pool.specs.declared.answers.Standing.{Standing}
 use Rattle.sp_pool.specs.declared.answers.Standing.TheVariants as standing
 use Rattle.sp_engine.specs.Arrivals.{answer_by, answer_of, answer_to, joined, kept_after, kept_with, valid_by, valid_in}
-use Rattle.sp_engine.specs.Blocks.{block_in, meets}
+use Rattle.sp_block.specs.Judged.{meets}
+use Rattle.sp_block.proofs.Judged.{zeros_met}
+use Rattle.sp_engine.specs.Blocks.{block_in}
 use Rattle.sp_engine.specs.declared.answer.Answer.{Answer}
 use Rattle.sp_engine.specs.declared.answer.Answer.TheVariants.{Kept, Held}
 use Rattle.sp_engine.specs.declared.answer.Refusal.{Refusal}
 use Rattle.sp_engine.specs.declared.answer.Refusal.TheVariants.{Work}
-use Rattle.sp_engine.proofs.SpelledBlocks.{block_is_spelled, block_is_whole, zeros_met}
+use Rattle.sp_engine.proofs.SpelledBlocks.{block_is_spelled, block_is_whole}
 use Rattle.sp_disk.specs.Moments.{IsMoment, Moment}
 use Rattle.sp_journal.specs.Journal.{Contents, ids_of as journal_ids, with_block}
 use Rattle.sp_journal.specs.Records.{Found}

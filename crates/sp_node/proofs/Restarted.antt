@@ -10,8 +10,10 @@ use Rattle.sp_block.specs.Block.{block_of, IsBlock, IsGenesis, parts_of, ReadBlo
 use Rattle.sp_model.specs.Graph.{has}
 use Rattle.sp_pool.specs.Kept.{ids_of}
 use Rattle.sp_engine.specs.Arrivals.{kept_after, kept_with, valid_by, valid_in}
-use Rattle.sp_engine.specs.Blocks.{block_in, meets}
-use Rattle.sp_engine.proofs.SpelledBlocks.{block_is_spelled, meets_zeros, spelled_block}
+use Rattle.sp_block.specs.Judged.{meets}
+use Rattle.sp_block.proofs.Judged.{meets_zeros}
+use Rattle.sp_engine.specs.Blocks.{block_in}
+use Rattle.sp_engine.proofs.SpelledBlocks.{block_is_spelled, spelled_block}
 use Rattle.sp_journal.specs.Recovery.{bytes_in, id_behind, IsGood}
 
 -- the genesis block is the one that its bytes spell

@@ -6,12 +6,12 @@ use Rattle.sp_ids.proofs.Digests.{sha256_number-bound}
 use Rattle.sp_tx.specs.Spelling.{spelling}
 use Rattle.sp_tx.specs.Spending.{id_of}
 use Rattle.sp_block.proofs.Whole.{parts_spelled}
+use Rattle.sp_block.specs.Judged.{is_block}
+use Rattle.sp_block.proofs.Judged.{spelled_block}
 use Rattle.sp_feed.specs.declared.kind.Kind.TheVariants.{End}
 use Rattle.sp_feed.specs.Format.{head_of}
-use Rattle.sp_feed.specs.Genesis.{is_genesis}
 use Rattle.sp_feed.specs.Kinds.{Said}
 use Rattle.sp_feed.specs.Spelling.{AllFit, Fits, framed, frames_of}
-use Rattle.sp_feed.proofs.GenesisBytes.{spelled_genesis}
 use Rattle.sp_feed.proofs.WrittenFeeds.{written_is_read}
 use Rattle.sp_play.specs.Feeds.{feed_text, FeedIsRead, FitsFrame, frame_text}
 use Rattle.sp_play.specs.Kept.{AreShort, genesis_parts, IsKept, IsShort}
@@ -80,7 +80,7 @@ pub is_read : (known : Known) (scene : Scene) → IsKept known.bits known.entrie
 unfolding feed_text
 is_read known scene h bits genesis messages limit rest long =
     let parts = genesis_parts known.entries in
-    let spelled : is_genesis scene.genesis ≡ true = ap is_genesis genesis ∙ spelled_genesis (genesis_text (grants_of known.entries)) parts (parts_spelled true parts h.genesis) in
+    let spelled : is_block true scene.genesis ≡ true = ap (is_block true) genesis ∙ spelled_block true (genesis_text (grants_of known.entries)) parts (parts_spelled true parts h.genesis) in
     let work : scene.bits ≤ 64 = omega (arith, bits, h.work) in
     let fit : AllFit scene.messages = subst AllFit (sym messages) (all_fit known known.sayings h) in
     written_is_read limit (head_of scene.bits scene.genesis) scene.messages rest work spelled fit long

@@ -26,8 +26,8 @@ use Rattle.sp_play.specs.Judging.{is_spent, output_of}
 use Rattle.sp_play.specs.Spent.{AreApart, AreInputs, ArePaid, IsJudged}
 use Rattle.sp_play.specs.declared.paid.Paid.{Paid}
 use Rattle.sp_play.proofs.Apart.{neither}
-use Rattle.sp_tx.proofs.Sorts.{rises}
-use Rattle.sp_play.proofs.Sorting.{before, both_parts, ranked, Rises}
+use Rattle.sp_tx.proofs.Sorts.{before, ranked, Rises, rises}
+use Rattle.sp_play.proofs.Sorting.{both_parts}
 
 -- outpoints of which neither is below the other are the same
 tied_same : (a b : Outpoint) → is_lt (outpoint_cmp a b) ≡ false → is_lt (outpoint_cmp b a) ≡ false → same_outpoint a b ≡ true
@@ -90,7 +90,7 @@ starts_above : (x : Input) (xs : List Input) → AllByRecursion (λ y. before y 
 starts_above x [] up few = tt
 starts_above x (y ∷ ys) up few = next_above x y ys up.0 few
 
-in_turn : (last : Option Outpoint) (xs : List Input) → Rises xs → FewTies xs → All IsJudged xs → StartsAbove last xs → InTurn IsInput last_outpoint last xs
+in_turn : (last : Option Outpoint) (xs : List Input) → Rises before ranked xs → FewTies xs → All IsJudged xs → StartsAbove last xs → InTurn IsInput last_outpoint last xs
 in_turn last [] up few judged above = tt
 in_turn last (x ∷ xs) up few judged above =
     let one = All-head IsJudged x xs judged in

@@ -3,7 +3,6 @@ pub mod Cutting
 pub mod Forming
 pub mod Naming
 pub mod Finding
-pub mod Ranges
 pub mod Nonces
 pub mod Granting
 pub mod Reading

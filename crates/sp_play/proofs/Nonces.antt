@@ -1,31 +1,15 @@
 -- The search for a nonce, and the least one as a function.
-use Rattle.std.proofs.Common.{◌≡◌, ◌<◌, ◌≤◌, ◌+◌, ℕ, zero, suc, Bool, true, false, length, Option, Some, None, refl, sym, ap, ◌∙◌, inl, inr, eqb, arith}
+use Rattle.std.proofs.Common.{◌≡◌, ◌<◌, ◌≤◌, ◌+◌, ℕ, zero, suc, Bool, true, false, length, Option, Some, None, refl, sym, ap, ◌∙◌, inl, inr, arith}
 use Rattle.std.specs.Prelude.{find}
 use Rattle.std.specs.List.{range_with_len}
-use Rattle.std.proofs.lemmas.Bool.{cases_lt, eqb-true, eq-eqb}
-use Rattle.sp_ids.specs.Bits.{BeginsWithZeros, bit_at}
+use Rattle.std.proofs.lemmas.Bool.{cases_lt}
 use Rattle.sp_ids.specs.Digest.{sha256_number}
-use Rattle.sp_ids.specs.Key.{bytes_of}
 use Rattle.sp_block.specs.declared.draft.Draft.{Draft}
 use Rattle.sp_block.specs.Draft.{draft_text, IsFound}
+use Rattle.sp_block.specs.Judged.{meets}
 use Rattle.sp_block.proofs.DraftLengths.{length-draft_text}
-use Rattle.sp_play.specs.Making.{meets, nonce_below}
-use Rattle.sp_play.proofs.Ranges.{all_range, range_all}
-
-meets_zeros : (id bits : ℕ) → BeginsWithZeros id bits → meets id bits ≡ true
-unfolding meets
-meets_zeros id bits h = all_range (λ place. eqb (bit_at (bytes_of id) place) 0) 0 bits (λ k low high. eq-eqb (bit_at (bytes_of id) k) 0 (h k (omega arith)))
-
-zeros_met : (id bits : ℕ) → meets id bits ≡ true → BeginsWithZeros id bits
-unfolding meets
-zeros_met id bits e place le = eqb-true (bit_at (bytes_of id) place) 0 (range_all (λ place. eqb (bit_at (bytes_of id) place) 0) 0 bits place e (omega arith) (omega arith))
-
-misses : (id bits : ℕ) → (BeginsWithZeros id bits → ⊥) → meets id bits ≡ false
-misses id bits lacks = at (meets id bits) (zeros_met id bits)
-  where
-    at : (c : Bool) → (c ≡ true → BeginsWithZeros id bits) → c ≡ false
-    at true h = absurd (lacks (h refl))
-    at false h = refl
+use Rattle.sp_block.proofs.Judged.{meets_zeros, misses}
+use Rattle.sp_play.specs.Making.{nonce_below}
 
 -- the first number of a range that passes
 find_first : (p : ℕ → Bool) (a n k : ℕ) → a ≤ k → k < a + n → p k ≡ true → ((j : ℕ) → a ≤ j → j < k → p j ≡ false) → find p (range_with_len a n) ≡ Some k

@@ -1,33 +1,14 @@
 -- Inputs put in one after another are the sort of the inputs.
-use Rattle.std.proofs.Common.{◌≡◌, Bool, true, false, not, ◌&&◌, List, [], ◌∷◌, inl, inr, refl, sym, ap, ◌∙◌, rules}
-use Rattle.std.specs.Cmp.{IsStrictWeakOrder, IsTotalOrder}
-use Rattle.std.specs.Cmp.Rules.{comparing}
+use Rattle.std.proofs.Common.{◌≡◌, Bool, true, false, not, ◌&&◌, List, [], ◌∷◌, inl, inr, refl, sym, ap, ◌∙◌}
 use Rattle.std.specs.List.{AllByRecursion, filter}
 use Rattle.std.specs.List.Sorted.{ties}
-use Rattle.std.specs.Ordering.{is_lt}
 use Rattle.std.proofs.lemmas.Bool.{cases_Bool}
-use Rattle.std.proofs.lemmas.List.Sorted.{ranks_by}
 use Rattle.sp_tx.specs.declared.parts.Input.{Input}
-use Rattle.sp_ids.specs.Outpoints.{outpoint_cmp}
 use Rattle.sp_tx.specs.Sorting.{IsSortOf}
-use Rattle.sp_tx.proofs.Sorts.{one_rising, rises}
+use Rattle.sp_tx.proofs.Sorts.{before, one_rising, ranked, Rises, rises}
 use Rattle.sp_play.specs.Judging.{by_outpoint, put_input}
 
 -- ---- inputs by outpoint
-
-abbrev pub before : Input → Input → Bool
-before x y = is_lt (outpoint_cmp x.from y.from)
-
-outpoints_ordered : IsTotalOrder outpoint_cmp
-outpoints_ordered = search (comparing, rules)
-
-pub ranked : IsStrictWeakOrder before
-ranked = ranks_by outpoints_ordered (λ (input : Input). input.from)
-
--- none is before one that stands before it
-abbrev pub Rises : List Input → Type 0
-Rises [] = Unit {0}
-Rises (x ∷ xs) = AllByRecursion (λ y. before y x ≡ false) xs × Rises xs
 
 -- an input that is put in is not below what none is below
 put_above : (low x : Input) (ys : List Input) → before x low ≡ false → AllByRecursion (λ y. before y low ≡ false) ys → AllByRecursion (λ y. before y low ≡ false) (put_input x ys)
@@ -41,14 +22,14 @@ none_below : (x y : Input) (zs : List Input) → before y x ≡ false → AllByR
 none_below x y [] h all = tt
 none_below x y (z ∷ zs) h all = (ranked.chain z y x all.0 h, none_below x y zs h all.1)
 
-put_rises : (x : Input) (ys : List Input) → Rises ys → Rises (put_input x ys)
+put_rises : (x : Input) (ys : List Input) → Rises before ranked ys → Rises before ranked (put_input x ys)
 put_rises x [] up = (tt, tt)
 put_rises x (y ∷ ys) up = elim (cases_Bool (before y x)) [
   | inl e ↦ rw e (put_above y x ys (ranked.one_way y x e) up.0, put_rises x ys up.1)
   | inr e ↦ rw e ((e, none_below x y ys e up.0), up)
 ]
 
-sorted_rises : (xs : List Input) → Rises (by_outpoint xs)
+sorted_rises : (xs : List Input) → Rises before ranked (by_outpoint xs)
 unfolding by_outpoint
 sorted_rises [] = tt
 sorted_rises (x ∷ xs) = put_rises x (by_outpoint xs) (sorted_rises xs)

@@ -33,5 +33,6 @@ pub use lines::{
 };
 pub use naming::Naming;
 pub use ordered::present_ids;
+pub use pairs::pair_count;
 pub use text::{Text, TextFault};
 pub use texts::write_text;

@@ -1,6 +1,6 @@
 //! What the texts list, in ascending order: as it stands where ids are told in hexadecimal.
 
-ghost use Rattle.std.specs.Prelude.{◌≡◌, ◌≤◌, ◌==◌, ◌++◌, ◌∷◌, [], false, filter, if◌then◌else◌, IfOk, not, OnOk, vec_len};
+ghost use Rattle.std.specs.Prelude.{◌≡◌, ◌≤◌, ◌==◌, false, filter, IfOk, not, vec_len};
 ghost use Rattle.std.specs.List.Sorted.{IsSorted};
 ghost use Rattle.std.specs.Ordering.{nat_cmp};
 ghost use Rattle.sp_block.specs.Ascending.{ascending};
@@ -12,6 +12,7 @@ ghost use Rattle.sp_pool.specs.Kept.{present};
 
 use sp_engine::Engine;
 use sp_ids::{BlockId, Lock, Memory, TxId};
+use sp_names::push_wanted;
 use std::alloc::Global;
 
 // The ids of the present blocks in the order in which they became so.
@@ -43,17 +44,6 @@ pub(crate) fn ascending_ids(alloc: Global, engine: &Engine) -> Result<Vec<BlockI
     let mut ids = numbered_ids(alloc, engine)?;
     ids.sort_unstable();
     Ok(ids)
-}
-
-// Puts a key behind the others, where it is wanted.
-fn push_wanted<K: Copy>(keys: &mut Vec<K>, key: K, wanted: bool) -> Result<(), Memory>
-    ensures { OnOk result
-        (keys.new.items ≡ keys.old.items ++ (if wanted then key ∷ [] else [])) }
-{
-    if wanted {
-        keys.push(key)?;
-    }
-    Ok(())
 }
 
 // The ids of the accepted transactions in the order in which they were numbered.

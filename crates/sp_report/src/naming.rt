@@ -1,9 +1,10 @@
 //! What stands in a line for a block, a transaction or a lock.
 
 ghost use Rattle.std.specs.Prelude.{◌≡◌};
+ghost use Rattle.hex.specs.Hex.{encode_lower};
 ghost use Rattle.sp_report.specs.Naming.{label_of, labels_of};
-ghost use Rattle.sp_report.specs.Naming as meant;
 
+use hex::encode_to_slice;
 use sp_ids::{BlockId, Lock, TxId};
 use sp_names::{Name, Names};
 
@@ -18,71 +19,53 @@ pub enum Naming<'a> {
     Names(&'a Names),
 }
 
-// The digits of the id of a block.
-#[tactic(auto, unfolding(crate::specs::Naming::hex_label))]
-fn hex_label(id: &BlockId) -> Name
-    ensures { result ≡ meant.hex_label id.now }
+// The digits of the bytes of an id or a lock.
+fn hex_label(bytes: &[u8; 32]) -> Name
+    ensures { result ≡ encode_lower bytes.now }
 {
     let mut digits = [0; 64];
-    id.to_hex(&mut digits);
-    Name::of(&digits)
-}
-
-// The digits of the id of a transaction.
-#[tactic(auto, unfolding(crate::specs::Naming::hex_label))]
-fn tx_hex_label(id: &TxId) -> Name
-    ensures { result ≡ meant.hex_label id.now }
-{
-    let mut digits = [0; 64];
-    id.to_hex(&mut digits);
-    Name::of(&digits)
-}
-
-// The digits of a lock.
-#[tactic(auto, unfolding(crate::specs::Naming::hex_label))]
-fn lock_hex_label(lock: &Lock) -> Name
-    ensures { result ≡ meant.hex_label lock.now }
-{
-    let mut digits = [0; 64];
-    lock.to_hex(&mut digits);
+    let _ = encode_to_slice(bytes.as_slice(), &mut digits);
     Name::of(&digits)
 }
 
 /// What stands in a line for the block of this id.
+#[tactic(auto, unfolding(crate::specs::Naming::hex_label))]
 pub(crate) fn label(naming: &Naming<'_>, id: &BlockId) -> Name
     ensures { result ≡ label_of (labels_of naming.now).blocks id.now }
 {
     match naming {
-        Naming::Hex => hex_label(id),
+        Naming::Hex => hex_label(id.as_bytes()),
         Naming::Names(names) => match names.block_name(id) {
             Some(name) => Name::of(name),
-            None => hex_label(id),
+            None => hex_label(id.as_bytes()),
         },
     }
 }
 
 /// What stands in a line for the transaction of this id.
+#[tactic(auto, unfolding(crate::specs::Naming::hex_label))]
 pub(crate) fn tx_label(naming: &Naming<'_>, id: &TxId) -> Name
     ensures { result ≡ label_of (labels_of naming.now).txs id.now }
 {
     match naming {
-        Naming::Hex => tx_hex_label(id),
+        Naming::Hex => hex_label(id.as_bytes()),
         Naming::Names(names) => match names.tx_name(id) {
             Some(name) => Name::of(name),
-            None => tx_hex_label(id),
+            None => hex_label(id.as_bytes()),
         },
     }
 }
 
 /// What stands in a line for a lock.
+#[tactic(auto, unfolding(crate::specs::Naming::hex_label))]
 pub(crate) fn lock_label(naming: &Naming<'_>, lock: &Lock) -> Name
     ensures { result ≡ label_of (labels_of naming.now).locks lock.now }
 {
     match naming {
-        Naming::Hex => lock_hex_label(lock),
+        Naming::Hex => hex_label(lock.as_bytes()),
         Naming::Names(names) => match names.lock_name(lock) {
             Some(name) => Name::of(name),
-            None => lock_hex_label(lock),
+            None => hex_label(lock.as_bytes()),
         },
     }
 }

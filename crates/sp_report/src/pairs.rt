@@ -59,9 +59,9 @@ fn push_pairs<K: Sink>(
     Ok(())
 }
 
-// How many pairs these have.
+/// How many pairs these have.
 #[tactic(auto, using(crate::proofs::PairTexts::pair_count))]
-fn pair_count(ids: &[BlockId]) -> u32
+pub fn pair_count(ids: &[BlockId]) -> u32
     requires { length ids.now ≤ 65535 }
     ensures { result ≡ length (pairs_of ids.now) }
 {

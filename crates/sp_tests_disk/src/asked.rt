@@ -9,7 +9,7 @@ use std::io::{Error, ErrorKind, Read, Seek, SeekFrom, Write};
 use std::test::Fail;
 
 // The calls, each by a hexadecimal digit, the last one lowest.
-const OPENED: u64 = 0xA;
+const OPENED_TO_READ: u64 = 0xA;
 
 const OPENED_WRONGLY: u64 = 0xB;
 
@@ -20,6 +20,8 @@ const SOUGHT: u64 = 0xD;
 const WRITTEN: u64 = 0xE;
 
 const SYNCED: u64 = 0xF;
+
+const READ: u64 = 0x2;
 
 const OTHER: u64 = 0x1;
 
@@ -45,15 +47,16 @@ struct Opened<'a> {
     calls: &'a Cell<u64>,
 }
 
-/// How a file was opened: to read and write it, and made where that was asked for; never cut.
+/// How a file was opened: to read and write it, and made where it isn't there, or to read it alone;
+/// never cut.
 fn opening(how: &OpenOptions, right: bool) -> u64 {
     let cut = how.asks_truncate() || how.asks_append() || how.asks_create_new();
-    if !right || cut || !how.asks_read() || !how.asks_write() {
+    if !right || cut || !how.asks_read() || how.asks_write() != how.asks_create() {
         OPENED_WRONGLY
     } else if how.asks_create() {
         MADE
     } else {
-        OPENED
+        OPENED_TO_READ
     }
 }
 
@@ -115,7 +118,7 @@ impl<'a> Files for System<'a> {
 
 impl<'a> Read for Opened<'a> {
     fn read(&mut self, _out: &mut [u8]) -> io::Result<usize> {
-        note(self.calls, OTHER);
+        note(self.calls, READ);
         Ok(0)
     }
 }
@@ -165,24 +168,47 @@ impl<'a> OpenFile for Opened<'a> {
     }
 }
 
-/// The calls of two writes, a sync and a write.
-fn calls_of(make: bool) -> u64 {
+/// The calls of two writes, a sync and a write, and whether each of these was answered by `Ok`.
+fn calls_of(make: bool) -> (u64, [bool; 4]) {
     let calls = Cell::new(0);
     let system = System {
         calls: &calls,
         path: "f",
     };
     let mut disk = FileDisk::new(&system, "f", make);
-    let _ = disk.write_at(0, b"ab");
-    let _ = disk.write_at(1, b"c");
-    let _ = disk.sync();
-    let _ = disk.write_at(3, b"d");
-    calls.get()
+    let first = disk.write_at(0, b"ab").is_ok();
+    let second = disk.write_at(1, b"c").is_ok();
+    let synced = disk.sync().is_ok();
+    let last = disk.write_at(3, b"d").is_ok();
+    (calls.get(), [first, second, synced, last])
+}
+
+/// The calls of a read, a write, a sync and a read, and whether each of these was answered by `Ok`.
+fn calls_between_reads(make: bool) -> (u64, [bool; 4]) {
+    let calls = Cell::new(0);
+    let system = System {
+        calls: &calls,
+        path: "f",
+    };
+    let mut out = *b"--";
+    let mut disk = FileDisk::new(&system, "f", make);
+    let first = disk.read_at(0, &mut out).is_ok();
+    let written = disk.write_at(1, b"c").is_ok();
+    let synced = disk.sync().is_ok();
+    let last = disk.read_at(2, &mut out).is_ok();
+    (calls.get(), [first, written, synced, last])
 }
 
 #[test]
 fn asked(rt: HostRuntime) -> Result<(), Fail> {
-    assert!(rt; calls_of(true) == 0xCDEDEFDE);
-    assert!(rt; calls_of(false) == 0xADEDEFDE);
+    assert!(rt; calls_of(true) == (0xCDEDEFDE, [true; 4]));
+    assert!(rt; calls_between_reads(true) == (0xCD2DEFD2, [true; 4]));
+    Ok(())
+}
+
+#[test]
+fn asked_to_read(rt: HostRuntime) -> Result<(), Fail> {
+    assert!(rt; calls_of(false) == (0xAF, [false, false, true, false]));
+    assert!(rt; calls_between_reads(false) == (0xAD2FD2, [true, false, true, true]));
     Ok(())
 }

@@ -32,7 +32,7 @@ module _ {X : Type 0} (lt : X → X → Bool) (o : IsStrictWeakOrder lt) where
   not_itself x = elim (cases_Bool (lt x x)) [ inl e ↦ o.one_way x x e | inr e ↦ e ]
 
   -- none is less than one before it
-  abbrev Rises : List X → Type 0
+  abbrev pub Rises : List X → Type 0
   Rises [] = Unit {0}
   Rises (x ∷ xs) = AllByRecursion (λ y. lt y x ≡ false) xs × Rises xs
 
@@ -103,14 +103,18 @@ module _ {X : Type 0} (lt : X → X → Bool) (o : IsStrictWeakOrder lt) where
 
 -- ---- inputs by outpoint
 
+abbrev pub before : Input → Input → Bool
+before x y = is_lt (outpoint_cmp x.from y.from)
+
 outpoints_ordered : IsTotalOrder outpoint_cmp
 outpoints_ordered = search (comparing, rules)
 
+pub ranked : IsStrictWeakOrder before
+ranked = ranks_by outpoints_ordered (λ (input : Input). input.from)
+
 pub one_sort : (inputs xs ys : List Input) → IsSortOf inputs xs → IsSortOf inputs ys → xs ≡ ys
 one_sort inputs xs ys a b =
-    let lt : Input → Input → Bool = λ x y. is_lt (outpoint_cmp x.from y.from) in
-    let o : IsStrictWeakOrder lt = ranks_by outpoints_ordered (λ (input : Input). input.from) in
-    one_rising lt o xs ys (rises lt o xs a.in_order) (rises lt o ys b.in_order) (λ z. a.stable z ∙ sym (b.stable z))
+    one_rising before ranked xs ys (rises before ranked xs a.in_order) (rises before ranked ys b.in_order) (λ z. a.stable z ∙ sym (b.stable z))
 
 -- ---- what making a transaction of parts answers
 

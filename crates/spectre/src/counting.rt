@@ -1,13 +1,13 @@
 //! The counting of what a summary tells, by the engine's calls and without a text.
 
-ghost use Rattle.std.specs.Prelude.{◌≡◌, ◌≤◌, ◌+◌, ◌-◌, ◌*◌, ◌/◌, false, if◌then◌else◌, IfOk, length, map};
-ghost use Rattle.sp_report.specs.Texts.{pairs_of};
+ghost use Rattle.std.specs.Prelude.{◌≡◌, ◌≤◌, ◌+◌, false, if◌then◌else◌, IfOk, length, map};
 ghost use Rattle.spectre.specs.Summary.{accepted_count, added, AreUpTo, counts_of, is_after, is_before, is_tie, paid_count, pair_word, pair_words, tally_of};
 
 use crate::counts::{Counts, Tally};
 use sp_engine::Engine;
 use sp_ids::BlockId;
 use sp_model::Word;
+use sp_report::pair_count;
 
 // One more, or as many.
 fn one_more(count: u32, counts: bool) -> u32
@@ -84,16 +84,6 @@ fn count_paid(engine: &Engine) -> u32
         count = one_more(count, balance != 0);
     }
     count
-}
-
-// How many pairs these blocks have.
-#[tactic(auto, using(sp_report::proofs::PairTexts::pair_count))]
-fn pair_count(ids: &[BlockId]) -> u32
-    requires { length ids.now ≤ 512 }
-    ensures { result ≡ length (pairs_of ids.now) }
-{
-    let blocks = u32::from(ids.len() as u16);
-    (blocks * blocks - blocks) / 2
 }
 
 /// What there is of everything where these blocks are the present ones. It takes the time of a vote

@@ -1,5 +1,5 @@
 //! A journal in a file of the folder that the tests run in: it is made by `node` alone, it stays over
-//! runs, and it is the file that the words name.
+//! runs, it is the file that the words name, and one that may only be read is shown.
 
 use crate::outside::run_on;
 use crate::status::Status;
@@ -9,7 +9,8 @@ use crate::tests::words_of;
 use sp_io::{Fails, MemSink, MemSource};
 use std::alloc::Global;
 use std::fs;
-use std::fs::Files;
+use std::fs::{Files, Permissions};
+use std::os::unix::fs::PermissionsExt;
 use std::process::Abort;
 use std::test::Fail;
 
@@ -77,6 +78,9 @@ fn a_journal_in_a_file(rt: HostRuntime) -> Result<(), Fail> {
         &feed,
         (Status::Done, &in_full(alloc, OLD)?),
     )?;
+    agrees(&rt, alloc, SHOW, b"", (Status::Done, SHOWN))?;
+    // To the system's superuser this forbids nothing.
+    fs::set_permissions(&rt, PATH, Permissions::from_mode(0o444))?;
     agrees(&rt, alloc, SHOW, b"", (Status::Done, SHOWN))?;
     agrees(&rt, alloc, OTHER, b"", (Status::DiskFault, b""))?;
     fs::remove_file(&rt, PATH)?;

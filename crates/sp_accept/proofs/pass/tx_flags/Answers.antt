@@ -1,6 +1,6 @@
 use Rattle.std.specs.List.{list_any}
 use Rattle.sp_carry.specs.Carried.{carriers_in}
-use Rattle.sp_accept.specs.Acceptance.{is_set}
+use Rattle.sp_carry.specs.Flags.{is_set}
 use Rattle.sp_accept.proofs.Passed.{mapped_more}
 use Rattle.sp_accept.proofs.pass.tx_flags.Goals as goal
 

@@ -1,7 +1,7 @@
 use Rattle.std.proofs.Common.{◌≡◌, map}
 use Rattle.std.specs.List.{list_any, range_with_len}
 use Rattle.sp_carry.specs.Carried.{carriers_in}
-use Rattle.sp_accept.specs.Acceptance.{is_set}
+use Rattle.sp_carry.specs.Flags.{is_set}
 use Rattle.sp_accept.proofs.pass.tx_flags.Given as goal
 
 abbrev pub invariant-txs : goal.invariant-txs

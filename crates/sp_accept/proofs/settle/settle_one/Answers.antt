@@ -1,5 +1,5 @@
 use Rattle.std.proofs.Common.{◌∙◌, not, Bool, List, ap, sym, arith}
-use Rattle.sp_accept.specs.Acceptance.{is_set}
+use Rattle.sp_carry.specs.Flags.{is_set}
 use Rattle.sp_accept.specs.Pass.{is_next}
 use Rattle.sp_accept.proofs.Settled.{not_below_itself, others_settled, own_settled, unlike}
 use Rattle.sp_accept.proofs.settle.settle_one.Goals as goal

@@ -1,6 +1,6 @@
 use Rattle.std.proofs.Common.{◌∙◌, not, Bool, List, ap}
 use Rattle.std.specs.Prelude.{slice_set}
-use Rattle.sp_accept.specs.Acceptance.{is_set}
+use Rattle.sp_carry.specs.Flags.{is_set}
 use Rattle.sp_accept.proofs.Toggled.{turn_noted}
 use Rattle.sp_accept.proofs.settle.turn.Goals as goal
 

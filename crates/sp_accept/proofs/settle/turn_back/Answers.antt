@@ -1,6 +1,6 @@
 use Rattle.std.proofs.Common.{◌∙◌, ◌<◌, not, ℕ, Bool, List, ap, sym, subst, length, length-set}
 use Rattle.std.specs.Prelude.{All, slice_set}
-use Rattle.sp_accept.specs.Acceptance.{is_set}
+use Rattle.sp_carry.specs.Flags.{is_set}
 use Rattle.sp_accept.proofs.Toggled.{back_once, front_within, last_within}
 use Rattle.sp_accept.proofs.settle.turn_back.Goals as goal
 

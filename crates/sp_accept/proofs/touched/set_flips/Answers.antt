@@ -1,7 +1,7 @@
 use Rattle.std.proofs.Common.{◌∙◌, ap, length, length-set}
 use Rattle.sp_accept.specs.Todo.{grown}
 use Rattle.sp_carry.proofs.Keeping.{any_default}
-use Rattle.sp_accept.proofs.Reached.{set_next}
+use Rattle.sp_carry.proofs.Flipping.{set_next}
 use Rattle.sp_accept.proofs.Updated.{grown_long}
 use Rattle.sp_accept.proofs.touched.set_flips.Goals as goal
 

@@ -1,5 +1,5 @@
 use Rattle.std.proofs.Common.{◌≡◌, length, take}
-use Rattle.sp_accept.specs.Flips.{with_flips}
+use Rattle.sp_carry.specs.Flags.{with_flips}
 use Rattle.sp_accept.specs.Todo.{grown}
 use Rattle.sp_accept.proofs.touched.set_flips.Given as goal
 

@@ -1,5 +1,5 @@
 use Rattle.std.proofs.Common.{◌∙◌, ◌-◌, Bool, List, sym, ap, length}
-use Rattle.sp_accept.specs.Acceptance.{is_set}
+use Rattle.sp_carry.specs.Flags.{is_set}
 use Rattle.sp_accept.specs.Pass.{is_carried_flag}
 use Rattle.sp_accept.specs.Todo.{grown}
 use Rattle.sp_accept.proofs.Begun.{begun}

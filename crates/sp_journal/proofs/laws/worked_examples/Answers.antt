@@ -4,7 +4,8 @@ use Rattle.sp_form.specs.Form.{rows as form_rows}
 use Rattle.sp_form.specs.Reading.{read}
 use Rattle.sp_block.specs.Format.{block_form}
 use Rattle.sp_journal.specs.Format.{head_form, record_form, sized_form}
-use Rattle.sp_journal.specs.Judged.{is_block, is_record}
+use Rattle.sp_block.specs.Judged.{is_block}
+use Rattle.sp_journal.specs.Judged.{is_record}
 use Rattle.sp_journal.specs.Records.{records, rows}
 use Rattle.sp_journal.proofs.laws.worked_examples.Goals as goal
 

@@ -3,7 +3,7 @@ use Rattle.std.specs.Prelude.{IfSome}
 use Rattle.sp_block.specs.Block.{ReadBlock}
 use Rattle.sp_journal.specs.Recovery.{IsHeadOf}
 use Rattle.sp_journal.specs.declared.gate_kind.Gate.{Gate}
-use Rattle.sp_journal.proofs.Looking.{looks_then}
+use Rattle.sp_journal.proofs.Looking.{looked_then}
 use Rattle.sp_journal.proofs.Openings.{plain_judges}
 use Rattle.sp_journal.proofs.Recovered.{none_by}
 use Rattle.sp_journal.proofs.Windows.{if_some}
@@ -17,6 +17,6 @@ returns-in-Err-head-clause-judged g c =
 pub returns-in-Err-clause-judged : goal.returns-in-Err-clause-judged
 returns-in-Err-clause-judged g c = plain_judges (g.D.Disk.now c.args.disk.now).reads c.in-Err.fault c.in-Err.ensures.plain
 
-pub returns-in-Ok-head-clause-looks : goal.returns-in-Ok-head-clause-looks
-returns-in-Ok-head-clause-looks g c =
-    looks_then (g.D.Disk.now c.args.disk.now) (g.D.Disk.now c.head_on.new.disk) (g.D.Disk.now c.behind.new.disk) (g.met.D.Disk.is_moment c.args.disk.now) c.in-Ok.ensures.looks c.behind.ensures.looks
+pub returns-in-Ok-head-clause-looked : goal.returns-in-Ok-head-clause-looked
+returns-in-Ok-head-clause-looked g c =
+    looked_then (g.D.Disk.now c.args.disk.now) (g.D.Disk.now c.head_on.new.disk) (g.D.Disk.now c.behind.new.disk) (g.met.D.Disk.is_moment c.args.disk.now) c.in-Ok.ensures.looked.looks (c.in-Ok.ensures.looked.quiet (λ e. absurd (cc e))) c.behind.ensures.looked

@@ -24,8 +24,8 @@ each-preserved g c =
     let step = subst (IsStep (g.D.Disk.now c.each.disk).reads c.args.bits c.each.blocks.items c.each.ids.items c.each.place c.read_next.new.blocks.items c.read_next.new.ids.items) c.in-On.is c.in_ok-step.ensures.step in
     record {
       room = c.in_ok-step.ensures.room;
-      looks = looks_then (g.D.Disk.now c.args.disk.now) (g.D.Disk.now c.each.disk) (g.D.Disk.now c.read_next.new.disk) (g.met.D.Disk.is_moment c.args.disk.now) c.each.invariant.looks c.in_ok-step.ensures.looks;
-      same_count = c.in_ok-step.ensures.quiet (no_fault _ _) ∙ c.each.invariant.same_count;
+      looks = looks_then (g.D.Disk.now c.args.disk.now) (g.D.Disk.now c.each.disk) (g.D.Disk.now c.read_next.new.disk) (g.met.D.Disk.is_moment c.args.disk.now) c.each.invariant.looks c.in_ok-step.ensures.looked.looks;
+      same_count = c.in_ok-step.ensures.looked.quiet (no_fault _ _) ∙ c.each.invariant.same_count;
       read = read_more _ c.args.bits c.args.ids.now.items c.args.start c.each.blocks.items c.each.ids.items c.each.place _ c.each.invariant.looks.reads c.each.invariant.read
           c.read_next.new.blocks.items c.read_next.new.ids.items c.in-On.next step;
     }
@@ -33,29 +33,33 @@ each-preserved g c =
 pub returns-in-End : goal.returns-in-End
 returns-in-End g c =
     let step = subst (IsStep (g.D.Disk.now c.each.disk).reads c.args.bits c.each.blocks.items c.each.ids.items c.each.place c.read_next.new.blocks.items c.read_next.new.ids.items) c.in-End.is c.in_ok-step.ensures.step in
-    let same : (g.D.Disk.now c.read_next.new.disk).faults ≡ (g.D.Disk.now c.args.disk.now).faults = c.in_ok-step.ensures.quiet (no_fault _ _) ∙ c.each.invariant.same_count in
+    let same : (g.D.Disk.now c.read_next.new.disk).faults ≡ (g.D.Disk.now c.args.disk.now).faults = c.in_ok-step.ensures.looked.quiet (no_fault _ _) ∙ c.each.invariant.same_count in
     record {
       says = read_end _ c.args.bits c.args.ids.now.items c.args.start c.each.blocks.items c.each.ids.items c.each.place _ c.each.invariant.looks.reads c.each.invariant.read step.0 c.read_next.new.blocks.items step.1;
       ends = subst (λ (blocks : List ReadBlock). EndsAt c.args.start blocks c.each.place) (sym step.1) c.each.invariant.read.ends;
       good = subst (InTurn (IsGood c.args.bits) id_behind c.args.ids.now.items) (sym step.1) c.each.invariant.read.good;
       plain = tt;
-      looks = looks_then (g.D.Disk.now c.args.disk.now) (g.D.Disk.now c.each.disk) (g.D.Disk.now c.read_next.new.disk) (g.met.D.Disk.is_moment c.args.disk.now) c.each.invariant.looks c.in_ok-step.ensures.looks;
-      fault = λ e. absurd (no_fault _ _ e);
-      later = omega (arith, same);
-      quiet = λ other. same;
+      looked = record {
+        looks = looks_then (g.D.Disk.now c.args.disk.now) (g.D.Disk.now c.each.disk) (g.D.Disk.now c.read_next.new.disk) (g.met.D.Disk.is_moment c.args.disk.now) c.each.invariant.looks c.in_ok-step.ensures.looked.looks;
+        fault = λ e. absurd (no_fault _ _ e);
+        later = omega (arith, same);
+        quiet = λ other. same;
+      };
     }
 
 pub returns-in-Faulty : goal.returns-in-Faulty
 returns-in-Faulty g c =
     let step = subst (IsStep (g.D.Disk.now c.each.disk).reads c.args.bits c.each.blocks.items c.each.ids.items c.each.place c.read_next.new.blocks.items c.read_next.new.ids.items) c.in-Faulty.is c.in_ok-step.ensures.step in
-    let same : (g.D.Disk.now c.read_next.new.disk).faults ≡ (g.D.Disk.now c.args.disk.now).faults = c.in_ok-step.ensures.quiet (no_fault _ _) ∙ c.each.invariant.same_count in
+    let same : (g.D.Disk.now c.read_next.new.disk).faults ≡ (g.D.Disk.now c.args.disk.now).faults = c.in_ok-step.ensures.looked.quiet (no_fault _ _) ∙ c.each.invariant.same_count in
     record {
       says = read_faulty _ c.args.bits c.args.ids.now.items c.args.start c.each.blocks.items c.each.ids.items c.each.place _ c.each.invariant.looks.reads c.each.invariant.read step;
       ends = tt;
       good = tt;
       plain = tt;
-      looks = looks_then (g.D.Disk.now c.args.disk.now) (g.D.Disk.now c.each.disk) (g.D.Disk.now c.read_next.new.disk) (g.met.D.Disk.is_moment c.args.disk.now) c.each.invariant.looks c.in_ok-step.ensures.looks;
-      fault = λ e. absurd (no_fault _ _ e);
-      later = omega (arith, same);
-      quiet = λ other. same;
+      looked = record {
+        looks = looks_then (g.D.Disk.now c.args.disk.now) (g.D.Disk.now c.each.disk) (g.D.Disk.now c.read_next.new.disk) (g.met.D.Disk.is_moment c.args.disk.now) c.each.invariant.looks c.in_ok-step.ensures.looked.looks;
+        fault = λ e. absurd (no_fault _ _ e);
+        later = omega (arith, same);
+        quiet = λ other. same;
+      };
     }

@@ -1,7 +1,7 @@
 use Rattle.std.proofs.Common.{true, [], ◌∷◌, ◌++◌, refl, ap, ◌∙◌}
 use Rattle.sp_block.specs.Block.{parts_of, ReadBlock}
 use Rattle.sp_journal.specs.Journal.{head_body}
-use Rattle.sp_journal.proofs.JudgedLaws.{spelled_block}
+use Rattle.sp_block.proofs.Judged.{spelled_block}
 use Rattle.sp_journal.proofs.Vacant.{create_moments, create_stands}
 use Rattle.sp_journal.proofs.journal.Journal.create.Goals as goal
 

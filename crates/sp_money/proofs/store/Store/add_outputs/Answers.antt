@@ -4,7 +4,7 @@ use Rattle.std.proofs.lemmas.List.{take_all}
 use Rattle.sp_ids.specs.declared.outpoint.Outpoint.{Outpoint}
 use Rattle.sp_carry.specs.Lookups.{spenders_in}
 use Rattle.sp_carry.specs.Money.{Coin, coins_from}
-use Rattle.sp_money.specs.Accepted.{is_set}
+use Rattle.sp_carry.specs.Flags.{is_set}
 use Rattle.sp_money.specs.Held.{Held}
 use Rattle.sp_money.specs.Kept.{held_of}
 use Rattle.sp_money.specs.Growth.{set_spenders, with_outputs}

@@ -1,5 +1,5 @@
-use Rattle.sp_journal.proofs.JudgedLaws.{block_is_spelled, work_is_met}
-use Rattle.sp_journal.proofs.laws.blocks_are_judged.Goals as goal
+use Rattle.sp_block.proofs.Judged.{block_is_spelled, work_is_met}
+use Rattle.sp_block.proofs.laws.blocks_are_judged.Goals as goal
 
 pub returns-clause-spelled : goal.returns-clause-spelled
 returns-clause-spelled c = block_is_spelled

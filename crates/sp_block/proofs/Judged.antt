@@ -1,7 +1,6 @@
--- The tests on the bytes of a record are what they stand for.
-use Rattle.std.proofs.Common.{◌≡◌, ℕ, zero, suc, ◌+◌, ◌<◌, ◌≤◌, Bool, true, false, leb, eqb, ◌&&◌, List, length, Result, Ok, Err, inl, inr, refl, sym, ap, ◌∙◌, arith}
-use Rattle.std.specs.List.{list_all, range_with_len}
-use Rattle.std.proofs.lemmas.Bool.{and_from, and_parts, cases_lt, le-leb, lt-leb, leb-true, eq-eqb, eqb-true, ne_eqb}
+-- The tests on bytes and on ids are what they stand for.
+use Rattle.std.proofs.Common.{◌≡◌, ℕ, ◌<◌, ◌≤◌, Bool, true, false, leb, eqb, ◌&&◌, List, length, Result, Ok, Err, refl, ap, ◌∙◌, arith}
+use Rattle.std.proofs.lemmas.Bool.{and_parts, le-leb, lt-leb, leb-true, eq-eqb, eqb-true, ne_eqb}
 use Rattle.sp_form.specs.Reading.{read}
 use Rattle.sp_form.proofs.FormLaws.{reads_fault, reads_spelled}
 use Rattle.sp_form.proofs.Texts.{reads_all}
@@ -11,8 +10,8 @@ use Rattle.sp_block.specs.Format.{block_form, Parts}
 use Rattle.sp_block.specs.Spelling.{behind, HasBlockFault, inside, long, SpellsBlock}
 use Rattle.sp_block.specs.declared.fault.BlockFault.{BlockFault}
 use Rattle.sp_block.proofs.Whole.{all_spelled}
-use Rattle.sp_journal.specs.Judged.{is_block, is_read_to_end, meets}
-use Rattle.sp_journal.specs.Laws.{BlockIsSpelled, WorkIsMet}
+use Rattle.sp_block.proofs.Ranges.{all_range, range_all}
+use Rattle.sp_block.specs.Judged.{BlockIsSpelled, is_block, is_read_to_end, meets, WorkIsMet}
 
 abbrev Read : Type 0
 Read = Result (Parts × List ℕ) BlockFault
@@ -39,20 +38,6 @@ faulty_block genesis bytes fault (behind text rest parts few s e some) =
     not_both (leb (length bytes) 65536) (is_read_to_end (read (block_form genesis) bytes))
     (rw (ap (read (block_form genesis)) e ∙ reads_spelled (block_form genesis) text parts rest s) (some_left parts rest some))
 
-all_range : (p : ℕ → Bool) (a n : ℕ) → ((k : ℕ) → a ≤ k → k < a + n → p k ≡ true) → list_all p (range_with_len a n) ≡ true
-all_range p a zero h = refl
-all_range p a (suc n) h =
-    and_from (p a) (list_all p (range_with_len (a + 1) n)) (h a (omega arith) (omega arith)) (all_range p (a + 1) n (λ k low high. h k (omega arith) (omega arith)))
-
-range_all : (p : ℕ → Bool) (a n k : ℕ) → list_all p (range_with_len a n) ≡ true → a ≤ k → k < a + n → p k ≡ true
-range_all p a zero k h low high = absurd (omega arith)
-range_all p a (suc n) k h low high =
-    let parts = and_parts (p a) (list_all p (range_with_len (a + 1) n)) h in
-    elim (cases_lt a k) [
-      | inl less ↦ range_all p (a + 1) n k parts.1 (omega arith) (omega arith)
-      | inr le ↦ (let same : a ≡ k = omega arith in ap p (sym same) ∙ parts.0)
-    ]
-
 pub meets_zeros : (id bits : ℕ) → BeginsWithZeros id bits → meets id bits ≡ true
 unfolding meets
 meets_zeros id bits h = all_range (λ place. eqb (bit_at (bytes_of id) place) 0) 0 bits (λ k low high. eq-eqb (bit_at (bytes_of id) k) 0 (h k (omega arith)))
@@ -64,11 +49,18 @@ zeros_met id bits e place le = eqb-true (bit_at (bytes_of id) place) 0 (range_al
 pub work_is_met : WorkIsMet
 work_is_met id bits = (λ e. zeros_met id bits e, λ h. meets_zeros id bits h)
 
+pub misses : (id bits : ℕ) → (BeginsWithZeros id bits → ⊥) → meets id bits ≡ false
+misses id bits lacks = at (meets id bits) (zeros_met id bits)
+  where
+    at : (c : Bool) → (c ≡ true → BeginsWithZeros id bits) → c ≡ false
+    at true h = absurd (lacks (h refl))
+    at false h = refl
+
 spelled_by : (genesis : Bool) (bytes : List ℕ) (r : Read) → length bytes ≤ 65536 → read (block_form genesis) bytes ≡ r → is_read_to_end r ≡ true → (parts : Parts) × SpellsBlock bytes genesis parts
 spelled_by genesis bytes (Ok found) few e end = (found.0, all_spelled bytes genesis found.0 found.1 few e (eqb-true (length found.1) 0 end))
 spelled_by genesis bytes (Err fault) few e end = absurd cc
 
-block_spelled : (genesis : Bool) (bytes : List ℕ) → is_block genesis bytes ≡ true → (parts : Parts) × SpellsBlock bytes genesis parts
+pub block_spelled : (genesis : Bool) (bytes : List ℕ) → is_block genesis bytes ≡ true → (parts : Parts) × SpellsBlock bytes genesis parts
 unfolding is_block
 block_spelled genesis bytes e =
     let t = and_parts (leb (length bytes) 65536) (is_read_to_end (read (block_form genesis) bytes)) e in
