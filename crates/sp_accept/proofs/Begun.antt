@@ -18,7 +18,7 @@ use Rattle.sp_carry.specs.Flags.{is_set}
 use Rattle.sp_accept.specs.Acceptance.{Acceptance, first_blocks, IsRight}
 use Rattle.sp_accept.specs.Changes.{carriers_below, TellsChanges}
 use Rattle.sp_accept.specs.Pass.{has_source, inputs_at, is_lost, is_next}
-use Rattle.sp_accept.specs.Todo.{AreDue, AreSettledBut, is_due}
+use Rattle.sp_accept.specs.Todo.{AreDue, AreSettledBut, is_contested, is_due}
 use Rattle.sp_accept.specs.Rows.{payment_at, row_at, AreOf}
 use Rattle.sp_accept.specs.Standing.{is_before, is_below}
 use Rattle.sp_accept.proofs.Carriers.{AreRows, rows_are}
@@ -126,9 +126,9 @@ module _ (table : Numbered) (k : Carried) (carried : IsCarried k) (of : AreOf ta
 
   -- no later carrier stands in the way of one whose block isn't noted
   no_new : (d : ℕ) → d < length k.rows → has todo (block_of d) ≡ false → block_of d < n → (e : ℕ) → e < length k.rows → n ≤ block_of e → (row_at k.rows e).sound ≡ true
-      → related (graph_of table) (block_of e) (block_of d) ≡ false → eqb (block_of e) (block_of d) ≡ false → is_before table (block_of d) (block_of e) ≡ false → ⊥
-  no_new d ld off old e le ge valid apart other behind =
-      false≢true (sym off ∙ due.beside (block_of d) e old le ge valid (unrelated_parts (block_of e) (block_of d) other apart).1 behind)
+      → is_contested k (row_at k.rows e).tx ≡ true → related (graph_of table) (block_of e) (block_of d) ≡ false → eqb (block_of e) (block_of d) ≡ false → is_before table (block_of d) (block_of e) ≡ false → ⊥
+  no_new d ld off old e le ge valid rival apart other behind =
+      false≢true (sym off ∙ due.beside (block_of d) e old le ge valid rival (unrelated_parts (block_of e) (block_of d) other apart).1 behind)
 
   -- a pair on which the vote turned is noted
   pair_noted : (x y : ℕ) → x < y → y < n → related (graph_of table) x y ≡ false

@@ -1,26 +1,31 @@
 -- Carriers on which the blocks that joined the set don't bear: what the old flags say of them is what the flags below them give.
-use Rattle.std.proofs.Common.{◌≡◌, ◌<◌, ◌≤◌, ◌∙◌, ◌&&◌, not, ℕ, Bool, true, false, List, inl, inr, arith, sym, ap, length, eqb}
+use Rattle.std.proofs.Common.{◌≡◌, ◌<◌, ◌≤◌, ◌∙◌, ◌&&◌, not, ℕ, Bool, true, false, List, [], ◌∷◌, inl, inr, arith, refl, sym, ap, length, eqb}
 use Rattle.std.specs.Prelude.{negsuc, ℤ}
 use Rattle.std.specs.Ordering.{int_eq}
-use Rattle.std.proofs.lemmas.Bool.{and_from, and_parts, cases_lt, lt-ltb, not-true}
+use Rattle.std.proofs.lemmas.Bool.{and_from, and_parts, cases_lt, eq-eqb, false≢true, lt-ltb, not-true}
+use Rattle.sp_tx.specs.Parts.{of_parts}
 use Rattle.sp_tx.specs.declared.parts.Input.{Input}
 use Rattle.sp_model.specs.Graph.{anticone, has, keys, related}
 use Rattle.sp_model.specs.Votes.{virt}
 use Rattle.sp_model.proofs.Sets.{has-filter, has-filter_from, same_truth}
 use Rattle.sp_dag.specs.Numbered.{Numbered, AreInOrder, graph_of}
 use Rattle.sp_dag.proofs.Ranked.{key_in, ancestors_lower}
-use Rattle.sp_carry.specs.Payment.{Payment}
+use Rattle.sp_carry.specs.Payment.{Payment, is_same_outpoint}
 use Rattle.sp_carry.specs.Ledger.{accepts, has_sources, is_alone, is_first, is_rival, is_sound, some_carrier}
 use Rattle.sp_carry.specs.Carried.{AreSound, Carried, ledger_of}
 use Rattle.sp_carry.proofs.Acceptance.{accepts_is, carrier_found, found_carrier}
-use Rattle.sp_carry.proofs.Members.{IsIn}
+use Rattle.sp_carry.specs.Lookups.{spenders_in}
+use Rattle.sp_ids.specs.declared.outpoint.Outpoint.{Outpoint}
+use Rattle.sp_carry.proofs.Members.{IsIn, any_of_member, member_of_any}
 use Rattle.sp_carry.specs.Flags.{is_set}
 use Rattle.sp_accept.specs.Acceptance.{first_blocks, is_accepted_carrier}
-use Rattle.sp_accept.specs.Pass.{is_next}
+use Rattle.sp_accept.specs.Pass.{inputs_at, is_next}
 use Rattle.sp_accept.specs.Rows.{payment_at, row_at}
 use Rattle.sp_accept.specs.Standing.{is_before, is_below}
-use Rattle.sp_accept.proofs.Carriers.{AreRows, carried_at, carries}
+use Rattle.sp_accept.proofs.Carriers.{AreRows, carried_at, carries, same_turned}
 use Rattle.sp_accept.proofs.Decided.{IsRivalAt, next_is, rival_at, whole}
+use Rattle.sp_accept.specs.Todo.{is_contested, is_shared}
+use Rattle.sp_accept.proofs.Numbers.{of_spender}
 use Rattle.sp_accept.proofs.StillRight.{first_in, of_first}
 
 module _ (table : Numbered) (k : Carried) (kept : AreRows k) (blocks : length table.parents ≡ k.blocks) (order : AreInOrder table.parents) (sound : AreSound table k) where
@@ -36,10 +41,41 @@ module _ (table : Numbered) (k : Carried) (kept : AreRows k) (blocks : length ta
   abbrev set : List ℕ
   set = keys (graph_of table)
 
+  -- a rival's transaction is contested
+  contested_from : (c e : ℕ) (i : Input) → c < length k.rows → e < length k.rows → IsRivalAt table k kept blocks order sound (λ w u. false) c i e → is_contested k (tx_of e) ≡ true
+  contested_from c e i lc le r =
+      let j : (j : Input) × IsIn (inputs_at k (tx_of e)) j × (is_same_outpoint i.from j.from ≡ true) =
+      member_of_any (λ (j : Input). is_same_outpoint i.from j.from) (inputs_at k (tx_of e)) r.spent in
+      any_of_member (is_shared k) (inputs_at k (tx_of e)) j.0 j.1
+      (lt-ltb 1 (length (spenders_in k.txs j.0.from))
+      (two_there (spenders_in k.txs j.0.from) (tx_of e) (tx_of c) r.apart
+      (of_spender k.txs (of_parts [] []) j.0.from (tx_of e) (kept.known e le)
+      (any_of_member (λ (l : Input). is_same_outpoint j.0.from l.from) (inputs_at k (tx_of e)) j.0 j.1 (itself j.0.from)))
+      (of_spender k.txs (of_parts [] []) j.0.from (tx_of c) (kept.known c lc)
+      (any_of_member (λ (l : Input). is_same_outpoint j.0.from l.from) (inputs_at k (tx_of c)) i r.input (same_turned j.0.from i.from ∙ j.2)))))
+    where
+      itself : (o : Outpoint) → is_same_outpoint o o ≡ true
+      itself o = and_from (eqb o.tx o.tx) (eqb o.index o.index) (eq-eqb o.tx o.tx refl) (eq-eqb o.index o.index refl)
+
+      one_there : (xs : List ℕ) (x : ℕ) → IsIn xs x → 0 < length xs
+      one_there [] x h = absurd h
+      one_there (y ∷ xs) x h = omega arith
+
+      two_there : (xs : List ℕ) (x y : ℕ) → eqb x y ≡ false → IsIn xs x → IsIn xs y → 1 < length xs
+      two_there [] x y e a b = absurd a
+      two_there (z ∷ xs) x y e a b =
+          elim a [
+            | inl here ↦ elim b [
+              | inl too ↦ absurd (false≢true (sym e ∙ eq-eqb x y (omega (arith, here, too))))
+              | inr there ↦ (let some = one_there xs y there in omega (arith, some))
+            ]
+            | inr there ↦ (let some = one_there xs x there in omega (arith, some))
+          ]
+
   -- ---- one carrier of the first n blocks
 
   module _ (n : ℕ) (few : n ≤ k.blocks) (c : ℕ) (lc : c < length k.rows) (old : block_of c < n)
-      (no_new : (e : ℕ) → e < length k.rows → n ≤ block_of e → (row_at k.rows e).sound ≡ true → related (graph_of table) (block_of e) (block_of c) ≡ false
+      (no_new : (e : ℕ) → e < length k.rows → n ≤ block_of e → (row_at k.rows e).sound ≡ true → is_contested k (tx_of e) ≡ true → related (graph_of table) (block_of e) (block_of c) ≡ false
       → eqb (block_of e) (block_of c) ≡ false → is_before table (block_of c) (block_of e) ≡ false → ⊥)
       (stays : (e : ℕ) → e < length k.rows → block_of e < n → related (graph_of table) (block_of e) (block_of c) ≡ false → eqb (block_of e) (block_of c) ≡ false
       → virt (graph_of table) (first_blocks n) (block_of c) (block_of e) ≡ virt (graph_of table) set (block_of c) (block_of e)) where
@@ -50,7 +86,7 @@ module _ (table : Numbered) (k : Carried) (kept : AreRows k) (blocks : length ta
     is_apart w = not (eqb w (block_of c)) && not (related (graph_of table) w (block_of c))
 
     -- a rival in an unrelated block stands in the way in the one set where it does in the other
-    moved : (one other : List ℕ) → ((e : ℕ) → e < length k.rows → has one (block_of e) ≡ true → (row_at k.rows e).sound ≡ true → is_apart (block_of e) ≡ true
+    moved : (one other : List ℕ) → ((e : ℕ) → e < length k.rows → has one (block_of e) ≡ true → (row_at k.rows e).sound ≡ true → is_contested k (tx_of e) ≡ true → is_apart (block_of e) ≡ true
         → not (int_eq (virt (graph_of table) one (block_of c) (block_of e)) (negsuc 0)) ≡ true
         → (has other (block_of e) ≡ true) × (virt (graph_of table) other (block_of c) (block_of e) ≡ virt (graph_of table) one (block_of c) (block_of e)))
         → some_carrier (ledger_of table k) (anticone (graph_of table) one (block_of c)) (beside_in one) ≡ true
@@ -71,7 +107,7 @@ module _ (table : Numbered) (k : Carried) (kept : AreRows k) (blocks : length ta
             and_parts (is_rival (ledger_of table k) (carried_by c) (block_of e) (carried_by e)) _ stands in
             let i : (i : Input) × IsRivalAt table k kept blocks order sound (λ w u. false) c i e = rival_at table k kept blocks order sound (λ w u. false) c e lc le p.0 in
             let s : (has other (block_of e) ≡ true) × (virt (graph_of table) other (block_of c) (block_of e) ≡ virt (graph_of table) one (block_of c) (block_of e)) =
-            same e le there i.1.valid apart p.1 in
+            same e le there i.1.valid (contested_from c e i.0 lc le i.1) apart p.1 in
             found_carrier (ledger_of table k) (anticone (graph_of table) other (block_of c)) (beside_in other) (block_of e) (carried_by e)
             (has-filter_from is_apart other (block_of e) s.0 apart) (carries k kept e le)
             (and_from (is_rival (ledger_of table k) (carried_by c) (block_of e) (carried_by e)) (not (int_eq (virt (graph_of table) other (block_of c) (block_of e)) (negsuc 0)))
@@ -86,20 +122,20 @@ module _ (table : Numbered) (k : Carried) (kept : AreRows k) (blocks : length ta
     unfolding beside_in
     first_same = ap (λ (b : Bool). not b) (same_truth _ _ (moved set (first_blocks n) forth) (moved (first_blocks n) set back))
       where
-        forth : (e : ℕ) → e < length k.rows → has set (block_of e) ≡ true → (row_at k.rows e).sound ≡ true → is_apart (block_of e) ≡ true
+        forth : (e : ℕ) → e < length k.rows → has set (block_of e) ≡ true → (row_at k.rows e).sound ≡ true → is_contested k (tx_of e) ≡ true → is_apart (block_of e) ≡ true
             → not (int_eq (virt (graph_of table) set (block_of c) (block_of e)) (negsuc 0)) ≡ true
             → (has (first_blocks n) (block_of e) ≡ true) × (virt (graph_of table) (first_blocks n) (block_of c) (block_of e) ≡ virt (graph_of table) set (block_of c) (block_of e))
-        forth e le there valid apart stands =
+        forth e le there valid rival apart stands =
             (let parts = apart_parts (block_of e) apart in
             elim (cases_lt (block_of e) n) [
               | inl less ↦ (first_in n (block_of e) less, stays e le less parts.1 parts.0)
-              | inr ge ↦ absurd (no_new e le ge valid parts.1 parts.0 (not-true (is_before table (block_of c) (block_of e)) stands))
+              | inr ge ↦ absurd (no_new e le ge valid rival parts.1 parts.0 (not-true (is_before table (block_of c) (block_of e)) stands))
             ])
 
-        back : (e : ℕ) → e < length k.rows → has (first_blocks n) (block_of e) ≡ true → (row_at k.rows e).sound ≡ true → is_apart (block_of e) ≡ true
+        back : (e : ℕ) → e < length k.rows → has (first_blocks n) (block_of e) ≡ true → (row_at k.rows e).sound ≡ true → is_contested k (tx_of e) ≡ true → is_apart (block_of e) ≡ true
             → not (int_eq (virt (graph_of table) (first_blocks n) (block_of c) (block_of e)) (negsuc 0)) ≡ true
             → (has set (block_of e) ≡ true) × (virt (graph_of table) set (block_of c) (block_of e) ≡ virt (graph_of table) (first_blocks n) (block_of c) (block_of e))
-        back e le there valid apart _ =
+        back e le there valid _ apart _ =
             (let less : block_of e < n = of_first n (block_of e) there in
             let parts = apart_parts (block_of e) apart in
             (key_in table (block_of e) (omega (arith, less, few, blocks)), sym (stays e le less parts.1 parts.0)))

@@ -100,11 +100,11 @@ impl Accepted {
     /// lower number first; it may have more pairs, which cost time alone.
     ///
     /// It looks again at the carriers of whole blocks, block by block and ascending, at each once: of the
-    /// new blocks with a sound carrier, of the older blocks that don't come before one of these, of both
-    /// blocks of each pair, and of each block above one in which a carrier turned. Each carrier takes the
-    /// look-ups of one step of `rebuild`. The order is asked of each older block beside each new one with
-    /// a sound carrier, and of each block above one in which a carrier turned. Memory is taken for the
-    /// flags, for what turned, and for the answer.
+    /// new blocks with a sound carrier, of the older blocks that don't come before a new one with a sound
+    /// carrier that has rivals, of both blocks of each pair, and of each block above one in which a carrier
+    /// turned. Each carrier takes the look-ups of one step of `rebuild`. The order is asked of each older
+    /// block beside each such new one, and of each block above one in which a carrier turned. Memory is
+    /// taken for the flags, for what turned, and for the answer.
     ///
     /// # Errors
     ///

@@ -1,19 +1,21 @@
 //! Which blocks' carriers may turn where blocks joined the set: those of the new blocks, those of older
-//! blocks that don't come before a new one, and those of both blocks of each pair on which the vote
-//! turned. They are a row of blocks, so that nothing is noted carrier by carrier.
+//! blocks that don't come before a new one with contested payments, and those of both blocks of each
+//! pair on which the vote turned. They are a row of blocks, so that nothing is noted carrier by carrier.
 
 ghost use Rattle.std.specs.Prelude.{◌≡◌, ◌<◌, ◌≤◌, ℕ, length, slice_get, Some, IsFalse, IsTrue};
+ghost use Rattle.std.specs.List.{list_any};
 ghost use Rattle.sp_model.specs.Graph.{has};
 ghost use Rattle.sp_dag.specs.Numbered.{AreInOrder};
 ghost use Rattle.sp_accept.specs.Changes.{carriers_below};
 ghost use Rattle.sp_accept.specs.Rows.{row_at, AreOf};
 ghost use Rattle.sp_accept.specs.Standing.{is_before, is_below};
-ghost use Rattle.sp_accept.specs.Todo.{AreDue};
+ghost use Rattle.sp_accept.specs.Todo.{AreDue, is_contested, is_shared};
 
-use crate::lookups::carrier_at;
+use crate::lookups::{carrier_at, spenders_of};
 use crate::order::Order;
 use sp_bits::Row;
 use sp_carry::Carriers;
+use sp_tx::Input;
 
 /// Notes a block.
 pub(crate) fn note(todo: &mut Row, block: u16)
@@ -41,6 +43,51 @@ fn new_blocks(carriers: &Carriers, from: u32) -> Row
         }
     }
     news
+}
+
+/// Whether more than one transaction spends what the input does.
+fn is_shared(carriers: &Carriers, input: &Input) -> bool
+    ensures { result ≡ is_shared carriers.now input.now }
+{
+    spenders_of(carriers, &input.from).len() > 1
+}
+
+/// Whether that is so for one of the inputs.
+fn is_any_shared(carriers: &Carriers, inputs: &[Input]) -> bool
+    ensures { result ≡ list_any (is_shared carriers.now) inputs.now }
+{
+    'inputs: for input in inputs {
+        if is_shared(carriers, input) {
+            return true;
+        }
+    }
+    false
+}
+
+/// Whether another transaction spends what one of the inputs of this one does.
+fn is_contested(carriers: &Carriers, tx: u32) -> bool
+    requires { tx < length carriers.now.txs }
+    ensures { result ≡ is_contested carriers.now tx }
+{
+    is_any_shared(carriers, carriers.tx(tx).inputs.as_slice())
+}
+
+/// The blocks of those of the sound carriers from a number on whose transactions are contested.
+fn contested_blocks(carriers: &Carriers, from: u32) -> Row
+    ensures { (c : ℕ) → from ≤ c → c < length carriers.now.rows →
+        IsTrue (row_at carriers.now.rows c).sound → IsTrue (is_contested carriers.now (row_at carriers.now.rows c).tx) →
+        IsTrue (has result (row_at carriers.now.rows c).block) }
+{
+    // Tells the proof that there are at most 512 blocks.
+    let _blocks = carriers.block_count();
+    let mut blocks = Row::empty();
+    'carriers: for c in from..carriers.carrier_count() {
+        let row = carrier_at(carriers, c);
+        if row.sound && is_contested(carriers, row.tx) {
+            note(&mut blocks, row.block);
+        }
+    }
+    blocks
 }
 
 /// Notes each of the first blocks that isn't below a later one and doesn't come before it.
@@ -118,9 +165,9 @@ pub(crate) fn todo_of<O: Order>(
     ensures { AreDue (O.table order.now) carriers.now blocks changed.now result }
 {
     let count = carriers.block_count();
-    let news = new_blocks(carriers, from);
-    let mut todo = news;
-    note_all_beside(&mut todo, order, &news, blocks, count);
+    let mut todo = new_blocks(carriers, from);
+    let contested = contested_blocks(carriers, from);
+    note_all_beside(&mut todo, order, &contested, blocks, count);
     note_pairs(&mut todo, changed, blocks);
     todo
 }
