@@ -67,6 +67,8 @@ RUNS = [
     votes("two chains of 255 and 256", graphs.two_chains(511)),
     votes("341 blocks on genesis, 170 on 64 of them each", graphs.crowd(511)),
     votes("layers of 64, each on all of the one below", graphs.layers(511)),
+    votes("a chain takes in 255 blocks on genesis", graphs.taken_in(511)),
+    ("votes: a chain takes in 255 blocks on genesis, children first", ["replay"], lambda: feeds.taken_in_at_once(511)),
     *(
         each
         for count in COUNTS
@@ -77,6 +79,18 @@ RUNS = [
     payments("1000 spends that turn 25 times", lambda: feeds.turning(250, 4, 49, True)),
     payments("4000 spends that turn 25 times", lambda: feeds.turning(250, 16, 49, True)),
     payments("the blocks of these spends, without them", lambda: feeds.turning(250, 4, 49, False)),
+    payments(
+        "two chains in turns, 255 blocks with the same 256 spends or their rivals",
+        lambda: feeds.contested(graphs.in_turns(255), graphs.turn, 256, 1),
+    ),
+    payments(
+        "128 blocks in a chain, and 128 on genesis with the rivals of their 102 payments of 16 coins",
+        lambda: feeds.contested(graphs.chain_and_star(256), lambda block: block > 128, 102, 16),
+    ),
+    payments(
+        "255 blocks at width 128, each with rivals of all others' 256 spends",
+        lambda: feeds.contested(graphs.broad(255, 128), lambda block: block, 256, 1),
+    ),
 ]
 
 

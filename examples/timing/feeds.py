@@ -2,7 +2,7 @@
 
 from dataclasses import dataclass, field
 
-from .graphs import in_step, pasts
+from .graphs import in_step, pasts, taken_in
 from .payer import CARRIED, GRANTED, GRANTS, Payer, payee, spending
 from .texts import block, frame, head, sha256, transaction
 
@@ -91,6 +91,15 @@ def children_first(count):
     return Feed(text, lines, ledger, accepted_in_step(ledger, seconds))
 
 
+def taken_in_at_once(count):
+    """The blocks of `taken_in` without payments in reverse order. With block 1, which comes last, the whole
+    chain is present."""
+    ledger, leaves = plain(taken_in(count)), (count - 1) // 2
+    answers = {number: "waiting" for number in range(leaves + 1, count + 1)} | {1: f"present {count - leaves + 1}"}
+    text, lines = sent(ledger, range(count, 0, -1), answers)
+    return Feed(text, lines, ledger)
+
+
 def turning(length, width, turns, is_paying):
     """A tree of spends of which the first one turns.
 
@@ -125,6 +134,24 @@ def turning(length, width, turns, is_paying):
         asked[tops[on]] = coins[-1].tx, "accepted" if side % 4 == 0 else "rejected"
     assert turns % 4 == 1
     return in_order(ledger, ledger.txs.keys() - {second.id}, asked if is_paying else None)
+
+
+def contested(graph, payee_of, count, width):
+    """A graph whose blocks all spend the same coins, which genesis grants: `count` transactions in each, with
+    `width` coins each. Two blocks carry the same transactions where `payee_of` is the same of both, and
+    rivals of one another elsewhere. Which ones are accepted isn't worked out."""
+    pays = [(GRANTED + number, b"a") for number in range(count * width)]
+    grants = [transaction([], pays[first : first + 16]) for first in range(0, len(pays), 16)]
+    coins = [coin for grant in grants for coin in grant.coins]
+    spends = [coins[first : first + width] for first in range(0, len(coins), width)]
+    ledger, made = Ledger(), {}
+    ledger.add([], grants)
+    for number, parents in list(enumerate(graph))[1:]:
+        word = b"%d" % payee_of(number)
+        if word not in made:
+            made[word] = [transaction(each, [(1, word)]) for each in spends]
+        ledger.add(parents, made[word])
+    return in_order(ledger)
 
 
 def paid_in_step(count):

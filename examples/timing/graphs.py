@@ -23,6 +23,39 @@ def layers(count):
     return [[], *([0] for _ in range(64)), *(list(each) for each in below)]
 
 
+def taken_in(count):
+    """Half of them on genesis, and a chain that takes them in one by one: its first block is on the first of
+    them, and each other one on the next and on the block before."""
+    leaves = (count - 1) // 2
+    chain = ([leaf, block - 1] if leaf > 1 else [1] for leaf, block in enumerate(range(leaves + 1, 2 * leaves + 1), 1))
+    return [[], *([0] for _ in range(leaves)), *chain, *([block - 1] for block in range(2 * leaves + 1, count + 1))]
+
+
+def in_turns(count):
+    """Two chains on genesis that take the lead from one another: the first block is of the first chain, two of
+    the other, two of the first and so on."""
+    graph, tops = [[]], [0, 0]
+    for block in range(1, count + 1):
+        graph.append([tops[turn(block)]])
+        tops[turn(block)] = block
+    return graph
+
+
+def turn(block):
+    """Which of the two chains of `in_turns` a block is of."""
+    return block // 2 % 2
+
+
+def chain_and_star(count):
+    """The first half a chain, and each of the others on genesis."""
+    return [[], *([block - 1 if block <= count // 2 else 0] for block in range(1, count + 1))]
+
+
+def broad(count, width):
+    """Each on the one that stands so many before it."""
+    return [[], *([max(0, block - width)] for block in range(1, count + 1))]
+
+
 def in_step(count):
     """Four blocks are under way at any time: each sees all but the three before it, and stands on the tips
     of what it sees. So block n is on n - 7 to n - 4, the first four are on genesis, and n stands side by
