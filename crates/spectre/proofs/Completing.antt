@@ -1,21 +1,20 @@
 -- Where nothing failed, and neither the input nor what the disk held has a fault, a run is done, or memory was refused.
-use Rattle.std.proofs.Common.{◌≡◌, ◌⊎◌, inl, inr, ℕ, ◌<◌, ◌≤◌, Bool, true, false, List, [], length, Option, Some, None, IfSome, IsNone, IsSome, refl, sym, subst, ◌∙◌, arith}
+use Rattle.std.proofs.Common.{◌≡◌, ◌⊎◌, inl, inr, ℕ, ◌<◌, ◌≤◌, true, false, List, [], length, Option, Some, None, IfSome, IsNone, IsSome, refl, sym, ◌∙◌, arith}
 use Rattle.std.specs.Io.KnownBytes.{Appends}
 use Rattle.sp_feed.specs.Feed.{End, Malformed, TooLong, Truncated, Whole}
-use Rattle.sp_feed.specs.Format.{Head}
 use Rattle.sp_journal.specs.Journal.{Contents}
 use Rattle.sp_journal.specs.Records.{Damaged, Found, NoJournal, Records, records}
 use Rattle.sp_make.specs.Made.{made}
 use Rattle.sp_play.specs.Scene.{scene}
 use Rattle.spectre.specs.Faults.{EndsMalformed, EndsTooLong, EndsTruncated, EndsWhole, IsDamaged, IsFaultless, IsMalformed, IsNoJournal, IsOtherChain, IsTooLong, IsTruncated}
 use Rattle.spectre.specs.JobEnds.{WritesBy}
-use Rattle.spectre.specs.Journals.{Fits, FitsHead, HasOtherChain}
 use Rattle.spectre.specs.Output.{OnDisk, output_by}
 use Rattle.spectre.specs.Replay.{fed}
 use Rattle.spectre.specs.declared.job.Job.{Job}
 use Rattle.spectre.specs.declared.job.Job.TheVariants as jobs
 use Rattle.spectre.specs.declared.status.Status.{Status}
 use Rattle.spectre.specs.declared.status.Status.TheVariants as status
+use Rattle.spectre.proofs.KeptExits.{other_misfits}
 use Rattle.spectre.proofs.KeptRuns.{damaged_says, none_says}
 use Rattle.spectre.proofs.TopCall.{if_all, on_all}
 
@@ -105,14 +104,10 @@ damaged (Some jobs.Build) disk input bad good = bad
 damaged (Some (jobs.Make n seed width)) disk input bad good = bad
 damaged (Some (jobs.Drill n seed width)) disk input bad good = bad
 
-other_fits : (fresh : Bool) (disk input : List ℕ) → HasOtherChain disk input → Fits fresh disk input → ⊥
-other_fits fresh disk input h fits =
-    h.other (subst (λ (o : Option Head). FitsHead fresh disk (Found h.contents) o) h.begins (subst (λ (r : Records). FitsHead fresh disk r (fed input).head) h.found fits))
-
 other_chain : (job : Option Job) (disk input : List ℕ) → IsOtherChain job disk input → IsFaultless job disk input → ⊥
 other_chain None disk input bad good = bad
 other_chain (Some jobs.Replay) disk input bad good = bad
-other_chain (Some (jobs.Keep path fresh)) disk input bad good = other_fits fresh disk input bad good.0
+other_chain (Some (jobs.Keep path fresh)) disk input bad good = other_misfits fresh disk input bad good.0
 other_chain (Some (jobs.Show path)) disk input bad good = bad
 other_chain (Some jobs.Play) disk input bad good = bad
 other_chain (Some jobs.Build) disk input bad good = bad

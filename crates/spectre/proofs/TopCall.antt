@@ -3,7 +3,9 @@ use Rattle.std.proofs.Common.{◌≡◌, ℕ, Bool, List, [], Option, Some, None
 use Rattle.sp_disk.specs.Moments.{IsMoment, Moment}
 use Rattle.sp_io.specs.Whole.{AppendsFront}
 use Rattle.sp_io.proofs.Writing.{wrote_none}
+use Rattle.spectre.specs.Chains.{EndsAtHead}
 use Rattle.spectre.specs.Crashes.{Recovery}
+use Rattle.spectre.specs.Faults.{IsOtherChain}
 use Rattle.spectre.specs.JobEnds.{JobEnds, WritesBy}
 use Rattle.spectre.specs.Kept.{EndsBy, KeptEnds}
 use Rattle.spectre.specs.Output.{blocks_before, OnDisk, OnKeep, output_by}
@@ -13,7 +15,7 @@ use Rattle.spectre.specs.declared.job.Job.TheVariants as jobs
 use Rattle.spectre.specs.declared.status.Status.{Status}
 use Rattle.spectre.specs.declared.status.Status.TheVariants as status
 use Rattle.spectre.proofs.Keeping.{looks_same}
-use Rattle.spectre.proofs.KeptExits.{exit_early, nothing_taken, silent_memory}
+use Rattle.spectre.proofs.KeptExits.{exit_early, nothing_headed, nothing_taken, silent_memory}
 
 -- what holds by a status
 pub ends_at : {job : Option Job} {reads before after old new : Option (List ℕ)} {first last : Moment} {s : Status} (t : Status) → s ≡ t → JobEnds job reads before after old new first last s → WritesBy job reads before after old new t
@@ -60,6 +62,7 @@ kept_ends path fresh reads before after old new first last s k = record {
   by = kept_by path fresh reads before after old new s k.by;
   taken = λ takes. absurd takes;
   taken_fed = λ _. k.taken;
+  chain = k.chain;
   crash = k.recovery;
 }
 
@@ -89,6 +92,10 @@ nothing_written job left reads a = if_all left _ (λ input. on_all job reads _ (
 -- nor taken
 pub nothing_fed : (job : Option Job) (left reads a : Option (List ℕ)) → OnDisk job reads (λ bytes. TakesFeed (blocks_before job bytes) left left a a)
 nothing_fed job left reads a = on_all job reads _ (λ bytes. nothing_taken (blocks_before job bytes) left a)
+
+-- nor behind a head
+pub nothing_behind : (job : Option Job) (left reads : Option (List ℕ)) → IfSome left (λ input. OnDisk job reads (λ bytes. IsOtherChain job bytes input → EndsAtHead left left status.Memory))
+nothing_behind job left reads = if_all left _ (λ input. on_all job reads _ (λ bytes other. nothing_headed left status.Memory tt))
 
 -- nor asked of the disk
 pub nothing_asked : (job : Option Job) (left a : Option (List ℕ)) (m : Moment) → IsMoment m → OnKeep job (λ fresh. IfSome left (λ input. IfSome m.reads (λ bytes. Recovery fresh bytes input left a a m m status.Memory)))

@@ -4,6 +4,7 @@ use Rattle.std.specs.Io.KnownBytes.{Appends, Consumes}
 use Rattle.sp_disk.specs.Moments.{Moment}
 use Rattle.sp_io.specs.Whole.{AppendsFront, ConsumesUpTo}
 use Rattle.sp_play.specs.Source.{scenario_limit}
+use Rattle.spectre.specs.Chains.{EndsAtHead}
 use Rattle.spectre.specs.Crashes.{Recovery}
 use Rattle.spectre.specs.Faults.{beyond, IsDamaged, IsFaultless, IsMalformed, IsNoJournal, IsOtherChain, IsTooLong, IsTruncated, unread}
 use Rattle.spectre.specs.Jobs.{AnswersFeed, TakesScenario}
@@ -52,4 +53,5 @@ pub record JobEnds (job : Option Job) (reads before after old new : Option (List
   pub by : WritesBy job reads before after old new s
   pub taken : TakesScenario job → ConsumesUpTo before after scenario_limit
   pub taken_fed : AnswersFeed job → OnDisk job reads (λ bytes. TakesFeed (blocks_before job bytes) before after old new)
+  pub chain : IfSome before (λ input. OnDisk job reads (λ bytes. IsOtherChain job bytes input → EndsAtHead before after s))
   pub crash : OnKeep job (λ fresh. IfSome before (λ input. IfSome reads (λ bytes. Recovery fresh bytes input after old new first last s)))

@@ -29,6 +29,7 @@ use Rattle.sp_node.specs.declared.start.StartFault.{StartFault}
 use Rattle.sp_node.specs.declared.start.StartFault.TheVariants as starts
 use Rattle.sp_node.specs.declared.stored.Stored.{Stored}
 use Rattle.sp_node.specs.declared.stored.Stored.TheVariants.{Empty, Found}
+use Rattle.spectre.specs.Chains.{EndAtHead}
 use Rattle.spectre.specs.Crashes.{all_of, contents_of, HoldsAcknowledged, HoldsAtLeast, HoldsFoundOrMore}
 use Rattle.spectre.specs.Journals.{blocks_in, IsChainOf, other_chain_text}
 use Rattle.spectre.specs.Replay.{fed, feed_limit}
@@ -123,6 +124,7 @@ pub record IsUntried (stored : Stored) (start now : Moment) (old new : Option (L
   pub given : List ℕ
   pub took : Took feed_limit start now given
   pub needed : AreNeeded given
+  pub headed : EndAtHead given
   pub answered : AreAnswered (bytes_of stored) old old given
   pub silent : new ≡ old
   pub why : UntriedBy stored start now given first last result

@@ -11,6 +11,7 @@ pub mod Crashes
 pub mod Faults
 pub mod Heads
 pub mod Taken
+pub mod Chains
 pub mod Replaying
 pub mod Running
 pub mod Keeping

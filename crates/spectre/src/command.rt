@@ -6,6 +6,7 @@ ghost use Rattle.sp_disk.specs.Moments.{Looks};
 ghost use Rattle.sp_io.specs.Causes.{Rose};
 ghost use Rattle.sp_io.specs.Whole.{AppendsFront, ConsumesUpTo};
 ghost use Rattle.sp_play.specs.Source.{scenario_limit};
+ghost use Rattle.spectre.specs.Chains.{EndsByChain, TakesHead};
 ghost use Rattle.spectre.specs.Crashes.{Recovery};
 ghost use Rattle.spectre.specs.Ends.{Comes, EndsByDisk};
 ghost use Rattle.spectre.specs.Faults.{beyond, IsDamaged, IsDiskAtFault, IsFaultless, IsMalformed, IsNoJournal, IsOtherChain, IsTooLong, IsTruncated, unread};
@@ -88,6 +89,14 @@ pub fn run<S: Source, K: Sink, D: Disk>(
     // it is taken.
     ensures disk_first { OnDisk (job_in (texts words.now)) (D.now disk.old).reads (λ bytes.
         IsDiskAtFault (job_in (texts words.now)) bytes → EndsByDisk result × (source.new ≡ source.old)) }
+
+    // Where it holds the journal of another chain than that of the feed's whole head, the run ends by
+    // that, whatever follows in the feed, and nothing behind the head is taken; or it ends by a failed
+    // read or write or for want of memory, or before that, with nothing taken, since the disk failed.
+    ensures chain_first { IfSome (S.left source.old) (λ input.
+        OnDisk (job_in (texts words.now)) (D.now disk.old).reads (λ bytes.
+        IsOtherChain (job_in (texts words.now)) bytes input
+        → EndsByChain result × TakesHead (S.left source.old) (S.left source.new) result)) }
 
     // However the run ends, of a scenario 16,777,216 bytes were taken at most. Of a feed no more
     // were than its limit, and none that wasn't needed: each front of them that isn't all ends too

@@ -7,7 +7,7 @@ use Rattle.spectre.specs.declared.status.Status.TheVariants as status
 use Rattle.spectre.proofs.Completing.{completes}
 use Rattle.spectre.proofs.DiskFirst.{first_of, refused_first}
 use Rattle.spectre.proofs.Resting.{if_some, order_is_no_matter}
-use Rattle.spectre.proofs.TopCall.{asked_ends, ends_at, nothing_asked, nothing_fed, nothing_written}
+use Rattle.spectre.proofs.TopCall.{asked_ends, ends_at, nothing_asked, nothing_behind, nothing_fed, nothing_written}
 use Rattle.spectre.proofs.command.run.Goals as goal
 
 pub returns-in-Ok-clause-done : goal.returns-in-Ok-clause-done
@@ -112,3 +112,9 @@ returns-in-Ok-clause-disk_first g c = first_of _ _ (g.D.Disk.now c.args.disk.now
 
 pub returns-in-Err-Memory-clause-disk_first : goal.returns-in-Err-Memory-clause-disk_first
 returns-in-Err-Memory-clause-disk_first g c = refused_first _ (g.D.Disk.now c.args.disk.now).reads _ refl
+
+pub returns-in-Ok-clause-chain_first : goal.returns-in-Ok-clause-chain_first
+returns-in-Ok-clause-chain_first g c = (asked_ends c.in-Ok.ensures.job c.do_job.ensures.ends).chain
+
+pub returns-in-Err-Memory-clause-chain_first : goal.returns-in-Err-Memory-clause-chain_first
+returns-in-Err-Memory-clause-chain_first g c = nothing_behind _ (g.S.Source.left c.args.source.now) (g.D.Disk.now c.args.disk.now).reads

@@ -34,6 +34,7 @@ returns-in-Replay-clause-ends g c =
           (λ s. (e.too_long s, e.too_long_end s));
       taken = λ takes. absurd takes;
       taken_fed = λ _. e.taken;
+      chain = if_some _ before (λ input other. absurd other);
       crash = tt;
     }
 
@@ -77,6 +78,7 @@ returns-in-Show-clause-ends g c =
           (λ s. absurd (subst Shows s e.among));
       taken = λ takes. absurd takes;
       taken_fed = λ fed. absurd fed;
+      chain = if_some _ before (λ input. if_some _ first.reads (λ bytes other. absurd other));
       crash = tt;
     }
 
@@ -109,6 +111,7 @@ returns-in-Play-clause-ends g c =
           (λ s. (e.too_long s, e.too_long_end s));
       taken = λ _. e.taken;
       taken_fed = λ fed. absurd fed;
+      chain = if_some _ before (λ input other. absurd other);
       crash = tt;
     }
 
@@ -141,6 +144,7 @@ returns-in-Build-clause-ends g c =
           (λ s. (e.too_long s, e.too_long_end s));
       taken = λ _. e.taken;
       taken_fed = λ fed. absurd fed;
+      chain = if_some _ before (λ input other. absurd other);
       crash = tt;
     }
 
@@ -173,6 +177,7 @@ returns-in-Make-clause-ends g c =
           (λ s. absurd (subst Makes s e.among));
       taken = λ takes. absurd takes;
       taken_fed = λ fed. absurd fed;
+      chain = if_some _ before (λ input other. absurd other);
       crash = tt;
     }
 
@@ -208,6 +213,7 @@ returns-in-Drill-clause-ends g c =
           (λ s. absurd (subst Makes s e.among));
       taken = λ takes. absurd takes;
       taken_fed = λ fed. absurd fed;
+      chain = if_some _ before (λ input other. absurd other);
       crash = tt;
     }
 
