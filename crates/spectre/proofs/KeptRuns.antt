@@ -79,13 +79,13 @@ module _ (fresh : Bool) (disk : List ℕ) where
   is_new (inl none) = let e : (length disk == 0) ≡ true = eq-eqb (length disk) 0 none in ap (λ (b : Bool). fresh || b) e ∙ or_right fresh
   is_new (inr new) = ap (λ (b : Bool). b || (length disk == 0)) new
 
-  chain_yes : (c : Contents) (head : Head) → IsChainOf c head → is_chain_of c head ≡ true
+  pub chain_yes : (c : Contents) (head : Head) → IsChainOf c head → is_chain_of c head ≡ true
   chain_yes c head is =
       let one : (c.bits == head.bits) ≡ true = eq-eqb c.bits head.bits is.bits in
       let two : bytes_eq c.genesis head.genesis ≡ true = (bytes_eq-Decides c.genesis head.genesis).1 is.genesis in
       rw (one, two) refl
 
-  chain_no : (c : Contents) (head : Head) → (IsChainOf c head → ⊥) → is_chain_of c head ≡ false
+  pub chain_no : (c : Contents) (head : Head) → (IsChainOf c head → ⊥) → is_chain_of c head ≡ false
   chain_no c head other = by (c.bits == head.bits) (bytes_eq c.genesis head.genesis) refl refl
     where
       by : (a b : Bool) → (c.bits == head.bits) ≡ a → bytes_eq c.genesis head.genesis ≡ b → is_chain_of c head ≡ false

@@ -13,3 +13,5 @@ pub mod Resting
 pub mod Played
 pub mod Tallies
 pub mod DiskFirst
+pub mod WholeLines
+pub mod LastLines

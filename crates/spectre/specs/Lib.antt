@@ -17,6 +17,7 @@ pub mod Running
 pub mod Keeping
 pub mod Kept
 pub mod JobEnds
+pub mod LastLine
 pub mod Ends
 pub mod Codes
 pub mod Rests

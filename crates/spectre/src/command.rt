@@ -11,6 +11,7 @@ ghost use Rattle.spectre.specs.Crashes.{Recovery};
 ghost use Rattle.spectre.specs.Ends.{Comes, EndsByDisk};
 ghost use Rattle.spectre.specs.Faults.{beyond, IsDamaged, IsDiskAtFault, IsFaultless, IsMalformed, IsNoJournal, IsOtherChain, IsTooLong, IsTruncated, unread};
 ghost use Rattle.spectre.specs.Jobs.{AnswersFeed, job_in, NamesFile, Shows, TakesNothing, TakesScenario, texts};
+ghost use Rattle.spectre.specs.LastLine.{EndsInLine, NamesFault};
 ghost use Rattle.spectre.specs.Output.{blocks_before, OnDisk, OnKeep, output};
 ghost use Rattle.spectre.specs.Replay.{replied, replied_but_last};
 ghost use Rattle.spectre.specs.Rests.{AnswersAgree, KeptAgree, OrderIsNoMatter};
@@ -84,6 +85,11 @@ pub fn run<S: Source, K: Sink, D: Disk>(
         OnDisk (job_in (texts words.now)) (D.now disk.old).reads (λ bytes.
         Appends (K.taken sink.old) (K.taken sink.new) (output (texts words.now) bytes input)
         × IsDamaged (job_in (texts words.now)) bytes)) }
+
+    // With each of these, that fault's own line is the last one: the sink took some lines, and then it.
+    ensures last_line { NamesFault result → IfSome (S.left source.old) (λ input.
+        OnDisk (job_in (texts words.now)) (D.now disk.old).reads (λ bytes.
+        EndsInLine (job_in (texts words.now)) bytes input result (K.taken sink.old) (K.taken sink.new))) }
 
     // Where what the disk holds is at fault, the run ends by that, whatever the feed is, and nothing of
     // it is taken.

@@ -6,6 +6,7 @@ use Rattle.spectre.specs.declared.job.Job.{Job}
 use Rattle.spectre.specs.declared.status.Status.TheVariants as status
 use Rattle.spectre.proofs.Completing.{completes}
 use Rattle.spectre.proofs.DiskFirst.{first_of, refused_first}
+use Rattle.spectre.proofs.LastLines.{last_line}
 use Rattle.spectre.proofs.Resting.{if_some, order_is_no_matter}
 use Rattle.spectre.proofs.TopCall.{asked_ends, ends_at, nothing_asked, nothing_behind, nothing_fed, nothing_written}
 use Rattle.spectre.proofs.command.run.Goals as goal
@@ -118,3 +119,8 @@ returns-in-Ok-clause-chain_first g c = (asked_ends c.in-Ok.ensures.job c.do_job.
 
 pub returns-in-Err-Memory-clause-chain_first : goal.returns-in-Err-Memory-clause-chain_first
 returns-in-Err-Memory-clause-chain_first g c = nothing_behind _ (g.S.Source.left c.args.source.now) (g.D.Disk.now c.args.disk.now).reads
+
+pub returns-in-Ok-clause-last_line : goal.returns-in-Ok-clause-last_line
+returns-in-Ok-clause-last_line g c = λ names.
+    let ends = asked_ends c.in-Ok.ensures.job c.do_job.ensures.ends in
+    last_line _ _ _ _ _ _ _ c.do_job.result names ends.by (first_of _ _ (g.D.Disk.now c.args.disk.now).reads _ c.in-Ok.ensures.job c.do_job.ensures.disk_first) ends.chain
