@@ -27,7 +27,7 @@ use Rattle.sp_node.specs.Answers.{answers}
 use Rattle.sp_node.specs.Stored.{Tells}
 use Rattle.sp_node.specs.declared.stored.Stored.{Stored}
 use Rattle.sp_node.specs.declared.stored.Stored.TheVariants.{Empty, Found}
-use Rattle.spectre.specs.Chains.{EndsAtHead, EndsByChain}
+use Rattle.spectre.specs.Chains.{EndAtHead, EndsAtHead, EndsByChain}
 use Rattle.spectre.specs.Codes.{code_of}
 use Rattle.spectre.specs.Crashes.{all_of, contents_by, EndsEarly, contents_of, contents_under, HoldsAcknowledged, HoldsAtLeast, HoldsFoundOrMore, IsSure, Recovers, Recovery}
 use Rattle.spectre.specs.Faults.{EndsMalformed, EndsTooLong, EndsTruncated, EndsWhole, feed_fault_text, status_of}
@@ -148,7 +148,7 @@ module _ (fresh : Bool) (stored : Stored) {start now : Moment} (old : Option (Li
     taken = subst (λ (o : Option (List ℕ)). IfSome first.reads (λ disk. TakesFeed (found_blocks disk) start.left now.left old o)) (sym u.silent) (feed_taken fresh stored start.left first.reads tells now.left old old (untried_takes u));
     chain = untried_chain stored first.reads status.Memory u tt (λ e. cc);
     recovery = on_both start.left first.reads _ (λ disk input l r.
-        early_recovery fresh disk input now.left old new first last status.Memory law last_law r u.given (subst (λ (o : Option (List ℕ)). Consumes o now.left u.given) l u.took.consumed) u.why (appends_same old new u.silent) tt);
+        early_recovery fresh disk input now.left old new first last status.Memory law last_law r u.given (subst (λ (o : Option (List ℕ)). Consumes o now.left u.given) l u.took.consumed) u.why (appends_same old new u.silent) tt u.headed (λ e. cc));
   }
   exit_memory {new = new} (inr t) = record {
     by = front_of_text fresh stored start.left first.reads tells old new (fitting fresh stored start.left first.reads tells t.1.fits) (memory_text t.0);
@@ -159,7 +159,7 @@ module _ (fresh : Bool) (stored : Stored) {start now : Moment} (old : Option (Li
 
 -- ---- the disk failed
 
-module _ (fresh : Bool) (first last : DiskMoment) (law : IsMoment first) (last_law : IsMoment last) (old : Option (List ℕ)) (given : List ℕ) (m : IsAmiss given first last) where
+module _ (fresh : Bool) (first last : DiskMoment) (law : IsMoment first) (last_law : IsMoment last) (old : Option (List ℕ)) (given : List ℕ) (headed : EndAtHead given) (m : IsAmiss given first last) where
   amiss_head : (fed given).head ≡ Some (head_of m.bits m.genesis.bytes)
   amiss_head = ap (λ (l : List ℕ). (fed l).head) (sym (append-nil given)) ∙ m.whole []
 
@@ -193,7 +193,7 @@ module _ (fresh : Bool) (first last : DiskMoment) (law : IsMoment first) (last_l
         now = λ fit sure image l.
             let synced = sure_synced first old new status.DiskFault (appends_same old new silent) (λ e. cc) sure in
             subst (λ (x : Records). Recovers x given old new status.DiskFault image) (sym none)
-            (⊎_elim (λ (no_one : records image ≡ NoJournal). inl (no_one, record { ends = tt; silent = appends_same old new silent })) (λ one. inr (amiss_holds new image one))
+            (⊎_elim (λ (no_one : records image ≡ NoJournal). inl (no_one, record { ends = tt; silent = appends_same old new silent; headed = headed; unstarted = λ e. cc })) (λ one. inr (amiss_holds new image one))
             (ends first last (HoldsNoneOrNew (contents m.bits m.genesis.bytes [])) last_law (run synced) image l));
         whole = λ fit done. absurd (let no : status.DiskFault ≡ status.Done = done in cc);
         any_moment = λ fit synced. subst (λ (x : Records). Leaves first last (HoldsFoundOrMore x given)) (sym none)
@@ -206,12 +206,12 @@ exit_amiss : (fresh : Bool) (gate : Gate) {start now : Moment} (old : Option (Li
     → IsUntried (Empty gate) start now old new first last (Err DiskFault) → KeptEnds fresh first.reads start.left now.left old new first last status.DiskFault
 exit_amiss fresh gate {start = start} {now = now} old first last law last_law tells {new = new} u = record {
   by = same_found fresh (Empty gate) start.left first.reads tells (λ (l : List (List ℕ)). (given : List ℕ) × Consumes start.left now.left given × Appends old new (replied_but_last l given))
-      (u.given, u.took.consumed, subst (λ (x : List ℕ). Appends old new x) (sym (amiss_silent fresh first last law last_law old u.given u.why)) (appends_same old new u.silent));
+      (u.given, u.took.consumed, subst (λ (x : List ℕ). Appends old new x) (sym (amiss_silent fresh first last law last_law old u.given u.headed u.why)) (appends_same old new u.silent));
   taken = subst (λ (o : Option (List ℕ)). IfSome first.reads (λ disk. TakesFeed (found_blocks disk) start.left now.left old o)) (sym u.silent) (feed_taken fresh (Empty gate) start.left first.reads tells now.left old old (untried_takes fresh (Empty gate) old first last law last_law tells u));
   chain = on_both start.left first.reads _ (λ disk input l r other. (
       let no : NoJournal ≡ found other.contents = sym (at_one (λ (d : List ℕ). Tells fresh d (Ok (Empty gate))) r tells).0.none ∙ other.found in absurd cc));
   recovery = on_both start.left first.reads _ (λ disk input l r.
-      amiss_recovery fresh first last law last_law old u.given u.why gate disk input now.left new r (at_one (λ (d : List ℕ). Tells fresh d (Ok (Empty gate))) r tells) (subst (λ (o : Option (List ℕ)). Consumes o now.left u.given) l u.took.consumed) u.silent);
+      amiss_recovery fresh first last law last_law old u.given u.headed u.why gate disk input now.left new r (at_one (λ (d : List ℕ). Tells fresh d (Ok (Empty gate))) r tells) (subst (λ (o : Option (List ℕ)). Consumes o now.left u.given) l u.took.consumed) u.silent);
 }
 
 pub exit_disk : (fresh : Bool) (stored : Stored) {start now : Moment} (old : Option (List ℕ)) (first last : DiskMoment) → IsMoment first → IsMoment last → IfSome first.reads (λ disk. Tells fresh disk (Ok stored)) → {new : Option (List ℕ)}
@@ -258,6 +258,13 @@ looked stored start now given first last (faults.Malformed at) w = w.1
 looked stored start now given first last (faults.Truncated at) w = w.2
 looked stored start now given first last faults.ReadFault w = w.2
 looked stored start now given first last (faults.TooLong taken) w = w.1
+
+-- where a read failed, no whole head had come
+unheaded : (stored : Stored) (start now : Moment) (given : List ℕ) (first last : DiskMoment) (e : FeedFault) → e ≡ faults.ReadFault → UntriedBy stored start now given first last (Err (Feed e)) → (fed given).head ≡ None
+unheaded stored start now given first last (faults.Malformed at) is w = absurd cc
+unheaded stored start now given first last (faults.Truncated at) is w = absurd cc
+unheaded stored start now given first last faults.ReadFault is w = ap (λ (f : FeedOf). f.head) w.0
+unheaded stored start now given first last (faults.TooLong taken) is w = absurd cc
 
 is_read : (e : FeedFault) → (e ≡ faults.ReadFault) ⊎ (e ≡ faults.ReadFault → ⊥)
 is_read (faults.Malformed at) = inr (λ x. cc)
@@ -340,7 +347,7 @@ exit_feed fresh stored {start = start} {now = now} old first last law last_law t
         | inl u ↦ elim (is_read e) [
           | inl is ↦ (let silent : Appends old new [] = (let b = subst (λ (f : FeedFault). Appends mid new (feed_fault_text f)) is (text (λ h. let no : status.WriteFault ≡ status.ReadFault = sym h ∙ read is in cc)) in subst (λ (o : Option (List ℕ)). Appends o new []) u.silent b) in
               subst (Recovery fresh disk input now.left old new first last) (sym (read is))
-              (early_recovery fresh disk input now.left old new first last status.ReadFault law last_law x u.given (subst (λ (o : Option (List ℕ)). Consumes o now.left u.given) l u.took.consumed) (looked stored start now u.given first last e u.why) silent tt))
+              (early_recovery fresh disk input now.left old new first last status.ReadFault law last_law x u.given (subst (λ (o : Option (List ℕ)). Consumes o now.left u.given) l u.took.consumed) (looked stored start now u.given first last e u.why) silent tt u.headed (λ f. unheaded stored start now u.given first last e is u.why)))
           | inr other ↦ other_recovery fresh disk input now.left old new first last result law last_law x u.given (subst (λ (o : Option (List ℕ)). Consumes o now.left u.given) l u.took.consumed) (looked stored start now u.given first last e u.why)
               (λ fits. let none = at_one (λ (i : List ℕ). (fed i).head ≡ None) l (headless stored start now u.given first last e other u.took.consumed u.why) in
               let no : FitsStored stored None = subst (FitsStored stored) none (fits_here fresh disk stored input t fits) in absurd no)
@@ -461,13 +468,17 @@ module _ (fresh : Bool) (left old : Option (List ℕ)) (first last : DiskMoment)
   none_consumed : (input : List ℕ) → left ≡ Some input → Consumes (Some input) left []
   none_consumed input l = subst (λ (o : Option (List ℕ)). Consumes (Some input) o []) (sym l) refl
 
+  nothing_begun : (fed []).head ≡ None
+  unfolding feed placed head_form bind
+  nothing_begun = refl
+
   -- an early end
   pub exit_early : (s : Status) → EndsEarly s → EndsBy fresh first.reads left left old old s → KeptEnds fresh first.reads left left old old first last s
   exit_early s early by = record {
     by = by;
     taken = on_one first.reads _ (λ disk r. nothing_taken (found_blocks disk) left old);
     chain = on_both left first.reads _ (λ disk input l r other. nothing_headed left s (early_chain s early));
-    recovery = on_both left first.reads _ (λ disk input l r. early_recovery fresh disk input left old old first last s law last_law r [] (none_consumed input l) looks (appends_none old) early);
+    recovery = on_both left first.reads _ (λ disk input l r. early_recovery fresh disk input left old old first last s law last_law r [] (none_consumed input l) looks (appends_none old) early none_ends (λ e. nothing_begun));
   }
 
   pub silent_memory : EndsBy fresh first.reads left left old old status.Memory

@@ -24,6 +24,7 @@ use Rattle.sp_node.specs.declared.stored.Stored.TheVariants.{Empty, Found}
 use Rattle.sp_block.specs.Block.{ReadBlock}
 use Rattle.sp_block.specs.declared.fault.BlockFault.{BlockFault}
 use Rattle.sp_engine.specs.Blocks.{block_in}
+use Rattle.spectre.specs.Chains.{EndAtHead}
 use Rattle.spectre.specs.Crashes.{all_of, contents_by, contents_of, contents_under, EndsEarly, HoldsAcknowledged, HoldsAtLeast, HoldsFoundOrMore, IsSure, Recovery, TookMore}
 use Rattle.spectre.specs.Journals.{blocks_in, chained, Fits, FitsHead, found_blocks, IsChainOf, is_chain_of, damaged_text, HasNoJournal, kept_by, kept_output, may_be_new, not_journal_text, other_chain_text}
 use Rattle.spectre.specs.Keeping.{bytes_of, FitsStored, records_in, Tries}
@@ -161,11 +162,11 @@ early_done s early is = let e : EndsEarly status.Done = subst EndsEarly is early
 
 module _ (fresh : Bool) (disk input : List ℕ) (left old new : Option (List ℕ)) (first last : DiskMoment) (s : Status) (law : IsMoment first) (last_law : IsMoment last) (reads : first.reads ≡ Some disk) (given : List ℕ) (consumed : Consumes (Some input) left given) where
   -- an early end
-  pub early_recovery : Looks first last → Appends old new [] → EndsEarly s → Recovery fresh disk input left old new first last s
-  early_recovery looks silent early = record {
+  pub early_recovery : Looks first last → Appends old new [] → EndsEarly s → EndAtHead given → (s ≡ status.ReadFault → (fed given).head ≡ None) → Recovery fresh disk input left old new first last s
+  early_recovery looks silent early headed unstarted = record {
     given = given;
     consumed = consumed;
-    now = λ fits sure image l. inl (looked_now first last law disk reads looks (sure_synced first old new s silent (early_done s early) sure) image l, record { ends = early; silent = silent });
+    now = λ fits sure image l. inl (looked_now first last law disk reads looks (sure_synced first old new s silent (early_done s early) sure) image l, record { ends = early; silent = silent; headed = headed; unstarted = unstarted });
     whole = λ fits done. absurd (early_done s early done);
     any_moment = λ fits synced. weaker first last (λ image. records image ≡ records disk) (HoldsFoundOrMore (records disk) given) (looked_since first last law disk reads looks synced) (λ image h. inl h);
     other = λ no. looks;

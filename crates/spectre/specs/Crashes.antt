@@ -17,6 +17,7 @@ use Rattle.sp_journal.specs.Prefixes.{HoldsFront}
 use Rattle.sp_journal.specs.Records.{Found, Records, records}
 use Rattle.sp_node.specs.Answers.{arrivals_of}
 use Rattle.sp_node.specs.Journalled.{journal_in}
+use Rattle.spectre.specs.Chains.{EndAtHead}
 use Rattle.spectre.specs.Journals.{blocks_in, Fits, found_blocks}
 use Rattle.spectre.specs.Replay.{fed, lines_under}
 use Rattle.spectre.specs.declared.status.Status.{Status}
@@ -64,15 +65,19 @@ EndsEarly status.Memory = Unit {0}
 EndsEarly status.Damaged = ⊥
 EndsEarly status.TooLong = ⊥
 
-pub record IsEarly (old new : Option (List ℕ)) (s : Status) : Type 0 where
+-- such a run, before a journal was made or opened for it: nothing behind the feed's head was taken, and no whole head came
+-- where a read failed
+pub record IsEarly (given : List ℕ) (old new : Option (List ℕ)) (s : Status) : Type 0 where
   pub ends : EndsEarly s
   pub silent : Appends old new []
+  pub headed : EndAtHead given
+  pub unstarted : s ≡ status.ReadFault → (fed given).head ≡ None
 
--- The image holds a front of what is kept, and in it all that was found and all that was acknowledged. After an early
--- end it may hold just what was found: that journal, or none.
+-- The image holds a front of what is kept, and in it all that was found and all that was acknowledged: so there is a
+-- journal once one was made. After an early end it may hold just what was found: that journal, or none.
 abbrev pub Recovers : Records → List ℕ → Option (List ℕ) → Option (List ℕ) → Status → List ℕ → Type 0
 Recovers r given old new s image =
-    ((records image ≡ r) × IsEarly old new s)
+    ((records image ≡ r) × IsEarly given old new s)
     ⊎ (HoldsAtLeast (length (blocks_in r)) (blocks_in r) given image × HoldsAcknowledged (blocks_in r) given old new image)
 
 -- the image holds just what was found, or a front of what is kept with all of it
