@@ -20,7 +20,7 @@ use Rattle.spectre.specs.Rests.{arrived, HasMessage, IsAnswered, OrderIsNoMatter
 -- ---- all that is kept of a feed's blocks are kept blocks
 
 -- bytes that arrive with a message are those of a block
-brings : (m : Said) (bytes : List ℕ) → IsIn (arrivals_of m) bytes → m ≡ SaysBlock bytes
+pub brings : (m : Said) (bytes : List ℕ) → IsIn (arrivals_of m) bytes → m ≡ SaysBlock bytes
 brings (SaysBlock b) bytes (inl same) = ap SaysBlock same
 brings (SaysBlock b) bytes (inr there) = absurd there
 brings (SaysVote x y) bytes there = absurd there

@@ -21,3 +21,4 @@ pub mod LastLine
 pub mod Ends
 pub mod Codes
 pub mod Rests
+pub mod Talks

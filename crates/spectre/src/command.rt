@@ -14,12 +14,13 @@ ghost use Rattle.spectre.specs.Jobs.{AnswersFeed, job_in, NamesFile, Shows, Take
 ghost use Rattle.spectre.specs.LastLine.{EndsInLine, NamesFault};
 ghost use Rattle.spectre.specs.Output.{blocks_before, OnDisk, OnKeep, output};
 ghost use Rattle.spectre.specs.Replay.{replied, replied_but_last};
-ghost use Rattle.spectre.specs.Rests.{AnswersAgree, KeptAgree, OrderIsNoMatter};
+ghost use Rattle.spectre.specs.Rests.{KeptAgree};
 ghost use Rattle.spectre.specs.Taken.{TakesFeed};
+ghost use Rattle.spectre.specs.Talks.{JobAgrees, JobAnswersAlike};
 
 use crate::doing::do_job;
 use crate::job::{Job, JobFault, read_job};
-use crate::laws::{answers_agree, kept_agree};
+use crate::laws::{jobs_agree, kept_agree};
 use crate::status::Status;
 use sp_disk::Disk;
 use sp_io::{Sink, Source};
@@ -169,14 +170,17 @@ pub fn run<S: Source, K: Sink, D: Disk>(
     ensures looks { Shows (job_in (texts words.now)) → Looks (D.now disk.old) (D.now disk.new) }
     ensures uncalled { (NamesFile (job_in (texts words.now)) → ⊥) → disk.new ≡ disk.old }
 
-    // Of the kept blocks on which each answer to a feed rests: no two accepted transactions conflict,
-    // each accepted one has accepted inputs, and no more is left than genesis grants. And in another
-    // feed that brought the same blocks in another order each question is answered by the same bytes.
-    ensures agree { job_in (texts words.now) ≡ Some Job.Replay
-        → IfSome (S.left source.old) AnswersAgree }
+    // Of the kept blocks on which each answer of a command rests: no two accepted transactions conflict,
+    // each accepted one has accepted inputs, and no more is left than genesis grants. And a question that
+    // another command is asked too, once the same blocks have arrived for it in another order, is answered
+    // by the same bytes.
+    ensures agree { IfSome (S.left source.old) (λ input.
+        OnDisk (job_in (texts words.now)) (D.now disk.old).reads (λ bytes.
+        JobAgrees (job_in (texts words.now)) bytes input)) }
     ensures kept_agree { KeptAgree }
-    ensures order { job_in (texts words.now) ≡ Some Job.Replay
-        → IfSome (S.left source.old) (λ input. (other : List ℕ) → OrderIsNoMatter input other) }
+    ensures order { IfSome (S.left source.old) (λ input.
+        OnDisk (job_in (texts words.now)) (D.now disk.old).reads (λ bytes.
+        JobAnswersAlike (job_in (texts words.now)) bytes input)) }
 
     // Where nothing failed and neither the input nor what the disk held has a fault, the run is done, or
     // memory was refused.
@@ -190,8 +194,8 @@ pub fn run<S: Source, K: Sink, D: Disk>(
     // The other statuses never come.
     ensures among { Comes (job_in (texts words.now)) result }
 {
-    // Tells the proof what every answer to a feed rests on.
-    answers_agree();
+    // Tells the proof what every answer rests on.
+    jobs_agree();
     kept_agree();
     match read_job(alloc, words) {
         Ok(job) => do_job(alloc, &job, source, sink, disk),

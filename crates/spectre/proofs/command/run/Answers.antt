@@ -1,13 +1,13 @@
 use Rattle.std.proofs.Common.{List, ℕ, Option, refl, sym, subst}
+use Rattle.sp_journal.proofs.Looking.{told_bytes}
 use Rattle.spectre.specs.Ends.{Comes}
 use Rattle.spectre.specs.Jobs.{NamesFile, Shows, TakesNothing, TakesScenario}
-use Rattle.spectre.specs.Rests.{AnswersAgree, OrderIsNoMatter}
 use Rattle.spectre.specs.declared.job.Job.{Job}
 use Rattle.spectre.specs.declared.status.Status.TheVariants as status
 use Rattle.spectre.proofs.Completing.{completes}
 use Rattle.spectre.proofs.DiskFirst.{first_of, refused_first}
 use Rattle.spectre.proofs.LastLines.{last_line}
-use Rattle.spectre.proofs.Resting.{if_some, order_is_no_matter}
+use Rattle.spectre.proofs.Talking.{all_agree, all_alike}
 use Rattle.spectre.proofs.TopCall.{asked_ends, ends_at, nothing_asked, nothing_behind, nothing_fed, nothing_written}
 use Rattle.spectre.proofs.command.run.Goals as goal
 
@@ -84,11 +84,25 @@ pub returns-in-Ok-clause-uncalled : goal.returns-in-Ok-clause-uncalled
 returns-in-Ok-clause-uncalled g c = λ none. c.do_job.ensures.uncalled (λ names. none (subst NamesFile (sym c.in-Ok.ensures.job) names))
 
 pub returns-in-Ok-clause-agree : goal.returns-in-Ok-clause-agree
-returns-in-Ok-clause-agree g c = λ replay. if_some AnswersAgree (g.S.Source.left c.args.source.now) c.answers_agree.ensures
+returns-in-Ok-clause-agree g c =
+    let disk = g.D.Disk.now c.args.disk.now in all_agree _ (g.S.Source.left c.args.source.now) disk.reads (told_bytes disk (g.met.D.Disk.is_moment c.args.disk.now)) c.jobs_agree.ensures
 
 pub returns-in-Ok-clause-order : goal.returns-in-Ok-clause-order
-returns-in-Ok-clause-order g c = λ replay.
-    if_some (λ (input : List ℕ). (other : List ℕ) → OrderIsNoMatter input other) (g.S.Source.left c.args.source.now) order_is_no_matter
+returns-in-Ok-clause-order g c = all_alike _ (g.S.Source.left c.args.source.now) (g.D.Disk.now c.args.disk.now).reads
+
+pub returns-in-Err-Usage-clause-agree : goal.returns-in-Err-Usage-clause-agree
+returns-in-Err-Usage-clause-agree g c =
+    let disk = g.D.Disk.now c.args.disk.now in all_agree _ (g.S.Source.left c.args.source.now) disk.reads (told_bytes disk (g.met.D.Disk.is_moment c.args.disk.now)) c.jobs_agree.ensures
+
+pub returns-in-Err-Usage-clause-order : goal.returns-in-Err-Usage-clause-order
+returns-in-Err-Usage-clause-order g c = all_alike _ (g.S.Source.left c.args.source.now) (g.D.Disk.now c.args.disk.now).reads
+
+pub returns-in-Err-Memory-clause-agree : goal.returns-in-Err-Memory-clause-agree
+returns-in-Err-Memory-clause-agree g c =
+    let disk = g.D.Disk.now c.args.disk.now in all_agree _ (g.S.Source.left c.args.source.now) disk.reads (told_bytes disk (g.met.D.Disk.is_moment c.args.disk.now)) c.jobs_agree.ensures
+
+pub returns-in-Err-Memory-clause-order : goal.returns-in-Err-Memory-clause-order
+returns-in-Err-Memory-clause-order g c = all_alike _ (g.S.Source.left c.args.source.now) (g.D.Disk.now c.args.disk.now).reads
 
 pub returns-in-Ok-clause-complete : goal.returns-in-Ok-clause-complete
 returns-in-Ok-clause-complete g c = λ read write disk.
