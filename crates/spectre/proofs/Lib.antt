@@ -9,9 +9,7 @@ pub mod Completing
 pub mod Securing
 pub mod Replies
 pub mod Replayed
-pub mod Resting
 pub mod Talking
-pub mod Implied
 pub mod Played
 pub mod Tallies
 pub mod DiskFirst

@@ -13,7 +13,7 @@ use Rattle.sp_carry.proofs.Members.{contains_from_in, in_append, in_append_left,
 use Rattle.sp_engine.specs.Arrivals.{kept_by_all}
 use Rattle.sp_engine.specs.Blocks.{block_in}
 use Rattle.sp_feed.specs.Format.{Head}
-use Rattle.sp_feed.specs.Kinds.{Said, SaysBlock, SaysReport}
+use Rattle.sp_feed.specs.Kinds.{Said, SaysBlock, SaysVote, SaysTx, SaysBalance, SaysPairs, SaysReport}
 use Rattle.sp_feed.proofs.PayloadBytes.{genesis_is_bytes, payloads_are_bytes}
 use Rattle.sp_journal.specs.Format.{name, set}
 use Rattle.sp_journal.specs.Journal.{Contents, front, record_text}
@@ -32,10 +32,19 @@ use Rattle.spectre.specs.Scenes.{lines_by}
 use Rattle.spectre.specs.Talks.{arrived_by, BringsBytes, feed_talk, HasQuestion, IsAnsweredIn, IsOfBytes, JobAgrees, JobAnswersAlike, journal_talk, Talk, talk_by, TalksAnswerAlike}
 use Rattle.spectre.specs.declared.job.Job.{Job}
 use Rattle.spectre.specs.declared.job.Job.TheVariants as jobs
-use Rattle.spectre.proofs.Resting.{brings}
 use Rattle.spectre.proofs.TopCall.{if_all, on_all}
 
 -- ---- what is read from bytes is bytes
+
+-- bytes that arrive with a message are those of a block
+brings : (m : Said) (bytes : List ℕ) → IsIn (arrivals_of m) bytes → m ≡ SaysBlock bytes
+brings (SaysBlock b) bytes (inl same) = ap SaysBlock same
+brings (SaysBlock b) bytes (inr there) = absurd there
+brings (SaysVote x y) bytes there = absurd there
+brings (SaysTx id) bytes there = absurd there
+brings (SaysBalance lock) bytes there = absurd there
+brings SaysPairs bytes there = absurd there
+brings SaysReport bytes there = absurd there
 
 -- the blocks of the messages of a feed
 sent : (input : List ℕ) → IsBytes input → (bytes : List ℕ) → IsIn (arrived (fed input).messages) bytes → IsBytes bytes
