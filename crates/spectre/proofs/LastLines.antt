@@ -25,7 +25,7 @@ use Rattle.spectre.specs.JobEnds.{WritesBy}
 use Rattle.spectre.specs.Journals.{chained, found_blocks, blocks_in, HasNoJournal, HasOtherChain, is_chain_of, kept_by, kept_output, may_be_new, not_journal_text, other_chain_text, shown_by, shown_output}
 use Rattle.spectre.specs.LastLine.{AreLines, EndsInLine, IsLineOf, NamesFault}
 use Rattle.spectre.specs.Lines.{fault_text}
-use Rattle.spectre.specs.Output.{OnDisk, output_by}
+use Rattle.spectre.specs.Output.{OnDisk, OnInput, output_by}
 use Rattle.spectre.specs.Replay.{end_text, fed, lines_under, replayed, replied}
 use Rattle.spectre.specs.Scenes.{built, drilled, played, scene_lines, summary_in, unless_faulty}
 use Rattle.spectre.specs.declared.job.Job.{Job}
@@ -36,7 +36,7 @@ use Rattle.spectre.specs.declared.status.Status.TheVariants as status
 use Rattle.spectre.proofs.KeptRuns.{chain_no, chain_yes, damaged_says, none_says}
 use Rattle.spectre.proofs.Outputs.{is_long, is_short, output_long, output_short}
 use Rattle.spectre.proofs.Replayed.{text_is}
-use Rattle.spectre.proofs.TopCall.{if_all, on_all}
+use Rattle.spectre.proofs.TopCall.{in_all, on_all}
 use Rattle.spectre.proofs.WholeLines.{all_lines}
 
 -- ---- what was written, in two parts
@@ -235,6 +235,16 @@ if_two : (o : Option (List ℕ)) (P Q R : List ℕ → Type 0) → ((x : List �
 if_two None P Q R f p q = tt
 if_two (Some x) P Q R f p q = f x p q
 
+in_two : (job : Option Job) (left : Option (List ℕ)) (P Q R : List ℕ → Type 0) → ((x : List ℕ) → P x → Q x → R x) → OnInput job left P → OnInput job left Q → OnInput job left R
+in_two None left P Q R f p q = f [] p q
+in_two (Some jobs.Replay) left P Q R f p q = if_two left P Q R f p q
+in_two (Some (jobs.Keep path fresh)) left P Q R f p q = if_two left P Q R f p q
+in_two (Some (jobs.Show path)) left P Q R f p q = f [] p q
+in_two (Some jobs.Play) left P Q R f p q = if_two left P Q R f p q
+in_two (Some jobs.Build) left P Q R f p q = if_two left P Q R f p q
+in_two (Some (jobs.Make n seed width)) left P Q R f p q = f [] p q
+in_two (Some (jobs.Drill n seed width)) left P Q R f p q = f [] p q
+
 on_two : (job : Option Job) (reads : Option (List ℕ)) (P Q R : List ℕ → Type 0) → ((disk : List ℕ) → P disk → Q disk → R disk) → OnDisk job reads P → OnDisk job reads Q → OnDisk job reads R
 on_two None reads P Q R f p q = f [] p q
 on_two (Some jobs.Replay) reads P Q R f p q = f [] p q
@@ -250,23 +260,23 @@ abbrev pub First : Option Job → Option (List ℕ) → Status → Type 0 → Ty
 First job reads s Q = OnDisk job reads (λ disk. IsDiskAtFault job disk → EndsByDisk s × Q)
 
 abbrev pub Chain : Option Job → Option (List ℕ) → Option (List ℕ) → Option (List ℕ) → Status → Type 0
-Chain job reads before after s = IfSome before (λ input. OnDisk job reads (λ disk. IsOtherChain job disk input → EndsAtHead before after s))
+Chain job reads before after s = OnInput job before (λ input. OnDisk job reads (λ disk. IsOtherChain job disk input → EndsAtHead before after s))
 
 abbrev pub Ends : Option Job → Option (List ℕ) → Option (List ℕ) → Option (List ℕ) → Option (List ℕ) → Status → Type 0
-Ends job reads before old new s = IfSome before (λ input. OnDisk job reads (λ disk. EndsInLine job disk input s old new))
+Ends job reads before old new s = OnInput job before (λ input. OnDisk job reads (λ disk. EndsInLine job disk input s old new))
 
 module _ (job : Option Job) (reads before after old new : Option (List ℕ)) (Q : Type 0) where
   -- a status by which neither the disk nor the chain ends a run
   of_feed : (s : Status) (Bad : List ℕ → List ℕ → Type 0) → (EndsByDisk s → ⊥) → (EndsByChain s → ⊥)
       → ((disk input : List ℕ) → Appends old new (output_by job disk input) → Bad disk input → (IsDiskAtFault job disk → ⊥) → (IsOtherChain job disk input → ⊥) → EndsInLine job disk input s old new)
-      → IfSome before (λ input. OnDisk job reads (λ disk. Appends old new (output_by job disk input) × Bad disk input)) → First job reads s Q → Chain job reads before after s → Ends job reads before old new s
-  of_feed s Bad no_disk no_chain f by first chain = if_two before _ _ _ (λ input wrote other. on_two job reads (λ disk. (IsOtherChain job disk input → ⊥) → EndsInLine job disk input s old new) (λ disk. IsOtherChain job disk input → EndsAtHead before after s) _
+      → OnInput job before (λ input. OnDisk job reads (λ disk. Appends old new (output_by job disk input) × Bad disk input)) → First job reads s Q → Chain job reads before after s → Ends job reads before old new s
+  of_feed s Bad no_disk no_chain f by first chain = in_two job before _ _ _ (λ input wrote other. on_two job reads (λ disk. (IsOtherChain job disk input → ⊥) → EndsInLine job disk input s old new) (λ disk. IsOtherChain job disk input → EndsAtHead before after s) _
       (λ disk told at_chain. told (λ of. no_chain (at_chain of).0))
       (on_two job reads (λ disk. Appends old new (output_by job disk input) × Bad disk input) (λ disk. IsDiskAtFault job disk → EndsByDisk s × Q) _ (λ disk took at_disk same. f disk input took.0 took.1 (λ fault. no_disk (at_disk fault).0) same) wrote first) other) by chain
 
   of_disk : (s : Status) (Bad : List ℕ → List ℕ → Type 0) → ((disk input : List ℕ) → Appends old new (output_by job disk input) → Bad disk input → EndsInLine job disk input s old new)
-      → IfSome before (λ input. OnDisk job reads (λ disk. Appends old new (output_by job disk input) × Bad disk input)) → Ends job reads before old new s
-  of_disk s Bad f by = if_two before _ (λ input. Unit {0}) _ (λ input b u. on_two job reads _ (λ disk. Unit {0}) _ (λ disk wrote v. f disk input wrote.0 wrote.1) b (on_all job reads _ (λ disk. tt))) by (if_all before _ (λ input. tt))
+      → OnInput job before (λ input. OnDisk job reads (λ disk. Appends old new (output_by job disk input) × Bad disk input)) → Ends job reads before old new s
+  of_disk s Bad f by = in_two job before _ (λ input. Unit {0}) _ (λ input b u. on_two job reads _ (λ disk. Unit {0}) _ (λ disk wrote v. f disk input wrote.0 wrote.1) b (on_all job reads _ (λ disk. tt))) by (in_all job before _ (λ input. tt))
 
   pub last_line : (s : Status) → NamesFault s → WritesBy job reads before after old new s → First job reads s Q → Chain job reads before after s → Ends job reads before old new s
   last_line status.Done names by first chain = absurd names

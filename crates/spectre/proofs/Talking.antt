@@ -25,14 +25,14 @@ use Rattle.sp_node.proofs.AnswerLists.{answers-append}
 use Rattle.sp_node.proofs.SameReplies.{order_is_no_matter as same_replies}
 use Rattle.sp_play.specs.Scene.{scene}
 use Rattle.spectre.specs.Journals.{blocks_in, found_blocks}
-use Rattle.spectre.specs.Output.{OnDisk}
+use Rattle.spectre.specs.Output.{OnDisk, OnInput}
 use Rattle.spectre.specs.Replay.{fed, feed_limit}
 use Rattle.spectre.specs.Rests.{arrived}
 use Rattle.spectre.specs.Scenes.{lines_by}
 use Rattle.spectre.specs.Talks.{arrived_by, BringsBytes, feed_talk, HasQuestion, IsAnsweredIn, IsOfBytes, JobAgrees, JobAnswersAlike, journal_talk, Talk, talk_by, TalksAnswerAlike}
 use Rattle.spectre.specs.declared.job.Job.{Job}
 use Rattle.spectre.specs.declared.job.Job.TheVariants as jobs
-use Rattle.spectre.proofs.TopCall.{if_all, on_all}
+use Rattle.spectre.proofs.TopCall.{in_all, on_all}
 
 -- ---- what is read from bytes is bytes
 
@@ -169,8 +169,8 @@ on_bytes (Some (jobs.Drill n seed width)) reads P told f = f [] none_bytes
 pub job_alike : (job : Option Job) (disk input : List ℕ) → JobAnswersAlike job disk input
 job_alike job disk input talk other says = alike talk other
 
-pub all_agree : (job : Option Job) (left reads : Option (List ℕ)) → IfSome reads IsBytes → ((job : Option Job) (disk input : List ℕ) → IsBytes disk → JobAgrees job disk input) → IfSome left (λ input. OnDisk job reads (λ disk. JobAgrees job disk input))
-all_agree job left reads told law = if_all left _ (λ input. on_bytes job reads _ told (λ disk bytes. law job disk input bytes))
+pub all_agree : (job : Option Job) (left reads : Option (List ℕ)) → IfSome reads IsBytes → ((job : Option Job) (disk input : List ℕ) → IsBytes disk → JobAgrees job disk input) → OnInput job left (λ input. OnDisk job reads (λ disk. JobAgrees job disk input))
+all_agree job left reads told law = in_all job left _ (λ input. on_bytes job reads _ told (λ disk bytes. law job disk input bytes))
 
-pub all_alike : (job : Option Job) (left reads : Option (List ℕ)) → IfSome left (λ input. OnDisk job reads (λ disk. JobAnswersAlike job disk input))
-all_alike job left reads = if_all left _ (λ input. on_all job reads _ (λ disk. job_alike job disk input))
+pub all_alike : (job : Option Job) (left reads : Option (List ℕ)) → OnInput job left (λ input. OnDisk job reads (λ disk. JobAnswersAlike job disk input))
+all_alike job left reads = in_all job left _ (λ input. on_all job reads _ (λ disk. job_alike job disk input))

@@ -8,7 +8,7 @@ use Rattle.spectre.specs.Crashes.{Recovery}
 use Rattle.spectre.specs.Faults.{IsOtherChain}
 use Rattle.spectre.specs.JobEnds.{JobEnds, WritesBy}
 use Rattle.spectre.specs.Kept.{EndsBy, KeptEnds}
-use Rattle.spectre.specs.Output.{blocks_before, OnDisk, OnKeep, output_by}
+use Rattle.spectre.specs.Output.{blocks_before, OnDisk, OnInput, OnKeep, output_by}
 use Rattle.spectre.specs.Taken.{TakesFeed}
 use Rattle.spectre.specs.declared.job.Job.{Job}
 use Rattle.spectre.specs.declared.job.Job.TheVariants as jobs
@@ -85,17 +85,27 @@ on_all (Some jobs.Build) reads P f = f []
 on_all (Some (jobs.Make n seed width)) reads P f = f []
 on_all (Some (jobs.Drill n seed width)) reads P f = f []
 
+pub in_all : (job : Option Job) (left : Option (List ℕ)) (P : List ℕ → Type 0) → ((input : List ℕ) → P input) → OnInput job left P
+in_all None left P f = f []
+in_all (Some jobs.Replay) left P f = if_all left P f
+in_all (Some (jobs.Keep path fresh)) left P f = if_all left P f
+in_all (Some (jobs.Show path)) left P f = f []
+in_all (Some jobs.Play) left P f = if_all left P f
+in_all (Some jobs.Build) left P f = if_all left P f
+in_all (Some (jobs.Make n seed width)) left P f = f []
+in_all (Some (jobs.Drill n seed width)) left P f = f []
+
 -- nothing was written
-pub nothing_written : (job : Option Job) (left reads a : Option (List ℕ)) → IfSome left (λ input. OnDisk job reads (λ bytes. AppendsFront a a (output_by job bytes input)))
-nothing_written job left reads a = if_all left _ (λ input. on_all job reads _ (λ bytes. (output_by job bytes input, wrote_none a (output_by job bytes input))))
+pub nothing_written : (job : Option Job) (left reads a : Option (List ℕ)) → OnInput job left (λ input. OnDisk job reads (λ bytes. AppendsFront a a (output_by job bytes input)))
+nothing_written job left reads a = in_all job left _ (λ input. on_all job reads _ (λ bytes. (output_by job bytes input, wrote_none a (output_by job bytes input))))
 
 -- nor taken
 pub nothing_fed : (job : Option Job) (left reads a : Option (List ℕ)) → OnDisk job reads (λ bytes. TakesFeed (blocks_before job bytes) left left a a)
 nothing_fed job left reads a = on_all job reads _ (λ bytes. nothing_taken (blocks_before job bytes) left a)
 
 -- nor behind a head
-pub nothing_behind : (job : Option Job) (left reads : Option (List ℕ)) → IfSome left (λ input. OnDisk job reads (λ bytes. IsOtherChain job bytes input → EndsAtHead left left status.Memory))
-nothing_behind job left reads = if_all left _ (λ input. on_all job reads _ (λ bytes other. nothing_headed left status.Memory tt))
+pub nothing_behind : (job : Option Job) (left reads : Option (List ℕ)) → OnInput job left (λ input. OnDisk job reads (λ bytes. IsOtherChain job bytes input → EndsAtHead left left status.Memory))
+nothing_behind job left reads = in_all job left _ (λ input. on_all job reads _ (λ bytes other. nothing_headed left status.Memory tt))
 
 -- nor asked of the disk
 pub nothing_asked : (job : Option Job) (left a : Option (List ℕ)) (m : Moment) → IsMoment m → OnKeep job (λ fresh. IfSome left (λ input. IfSome m.reads (λ bytes. Recovery fresh bytes input left a a m m status.Memory)))

@@ -12,7 +12,7 @@ ghost use Rattle.spectre.specs.Ends.{Comes, EndsByDisk};
 ghost use Rattle.spectre.specs.Faults.{beyond, IsDamaged, IsDiskAtFault, IsFaultless, IsMalformed, IsNoJournal, IsOtherChain, IsTooLong, IsTruncated, unread};
 ghost use Rattle.spectre.specs.Jobs.{AnswersFeed, job_in, NamesFile, Shows, TakesNothing, TakesScenario, texts};
 ghost use Rattle.spectre.specs.LastLine.{EndsInLine, NamesFault};
-ghost use Rattle.spectre.specs.Output.{blocks_before, OnDisk, OnKeep, output};
+ghost use Rattle.spectre.specs.Output.{blocks_before, OnDisk, OnInput, OnKeep, output};
 ghost use Rattle.spectre.specs.Replay.{replied, replied_but_last};
 ghost use Rattle.spectre.specs.Rests.{KeptAgree};
 ghost use Rattle.spectre.specs.Taken.{TakesFeed};
@@ -47,7 +47,7 @@ pub fn run<S: Source, K: Sink, D: Disk>(
     // Where the run is done, the sink took the output and nothing else, neither the input nor what the
     // disk held has a fault, and what stays of the input is what follows a feed's end, and nothing of a
     // scenario.
-    ensures done { result ≡ Status.Done → IfSome (S.left source.old) (λ input.
+    ensures done { result ≡ Status.Done → OnInput (job_in (texts words.now)) (S.left source.old) (λ input.
         OnDisk (job_in (texts words.now)) (D.now disk.old).reads (λ bytes.
         Appends (K.taken sink.old) (K.taken sink.new) (output (texts words.now) bytes input)
         × IsFaultless (job_in (texts words.now)) bytes input)) }
@@ -62,33 +62,33 @@ pub fn run<S: Source, K: Sink, D: Disk>(
 
     // Where the input or what the disk held is at fault, ends too early or is too long, the sink took
     // the output, which ends with that fault's line.
-    ensures malformed { result ≡ Status.Malformed → IfSome (S.left source.old) (λ input.
+    ensures malformed { result ≡ Status.Malformed → OnInput (job_in (texts words.now)) (S.left source.old) (λ input.
         OnDisk (job_in (texts words.now)) (D.now disk.old).reads (λ bytes.
         Appends (K.taken sink.old) (K.taken sink.new) (output (texts words.now) bytes input)
         × IsMalformed (job_in (texts words.now)) input)) }
-    ensures truncated { result ≡ Status.Truncated → IfSome (S.left source.old) (λ input.
+    ensures truncated { result ≡ Status.Truncated → OnInput (job_in (texts words.now)) (S.left source.old) (λ input.
         OnDisk (job_in (texts words.now)) (D.now disk.old).reads (λ bytes.
         Appends (K.taken sink.old) (K.taken sink.new) (output (texts words.now) bytes input)
         × IsTruncated (job_in (texts words.now)) input)) }
-    ensures too_long { result ≡ Status.TooLong → IfSome (S.left source.old) (λ input.
+    ensures too_long { result ≡ Status.TooLong → OnInput (job_in (texts words.now)) (S.left source.old) (λ input.
         OnDisk (job_in (texts words.now)) (D.now disk.old).reads (λ bytes.
         Appends (K.taken sink.old) (K.taken sink.new) (output (texts words.now) bytes input)
         × IsTooLong (job_in (texts words.now)) input)) }
-    ensures not_journal { result ≡ Status.NotJournal → IfSome (S.left source.old) (λ input.
+    ensures not_journal { result ≡ Status.NotJournal → OnInput (job_in (texts words.now)) (S.left source.old) (λ input.
         OnDisk (job_in (texts words.now)) (D.now disk.old).reads (λ bytes.
         Appends (K.taken sink.old) (K.taken sink.new) (output (texts words.now) bytes input)
         × IsNoJournal (job_in (texts words.now)) bytes)) }
-    ensures other_chain { result ≡ Status.OtherChain → IfSome (S.left source.old) (λ input.
+    ensures other_chain { result ≡ Status.OtherChain → OnInput (job_in (texts words.now)) (S.left source.old) (λ input.
         OnDisk (job_in (texts words.now)) (D.now disk.old).reads (λ bytes.
         Appends (K.taken sink.old) (K.taken sink.new) (output (texts words.now) bytes input)
         × IsOtherChain (job_in (texts words.now)) bytes input)) }
-    ensures damaged { result ≡ Status.Damaged → IfSome (S.left source.old) (λ input.
+    ensures damaged { result ≡ Status.Damaged → OnInput (job_in (texts words.now)) (S.left source.old) (λ input.
         OnDisk (job_in (texts words.now)) (D.now disk.old).reads (λ bytes.
         Appends (K.taken sink.old) (K.taken sink.new) (output (texts words.now) bytes input)
         × IsDamaged (job_in (texts words.now)) bytes)) }
 
     // With each of these, that fault's own line is the last one: the sink took some lines, and then it.
-    ensures last_line { NamesFault result → IfSome (S.left source.old) (λ input.
+    ensures last_line { NamesFault result → OnInput (job_in (texts words.now)) (S.left source.old) (λ input.
         OnDisk (job_in (texts words.now)) (D.now disk.old).reads (λ bytes.
         EndsInLine (job_in (texts words.now)) bytes input result (K.taken sink.old) (K.taken sink.new))) }
 
@@ -100,7 +100,7 @@ pub fn run<S: Source, K: Sink, D: Disk>(
     // Where it holds the journal of another chain than that of the feed's whole head, the run ends by
     // that, whatever follows in the feed, and nothing behind the head is taken; or it ends by a failed
     // read or write or for want of memory, or before that, with nothing taken, since the disk failed.
-    ensures chain_first { IfSome (S.left source.old) (λ input.
+    ensures chain_first { OnInput (job_in (texts words.now)) (S.left source.old) (λ input.
         OnDisk (job_in (texts words.now)) (D.now disk.old).reads (λ bytes.
         IsOtherChain (job_in (texts words.now)) bytes input
         → EndsByChain result × TakesHead (S.left source.old) (S.left source.new) result)) }
@@ -147,11 +147,11 @@ pub fn run<S: Source, K: Sink, D: Disk>(
         → Rose (D.now disk.old).faults (D.now disk.new).faults × NamesFile (job_in (texts words.now)) }
 
     // Where a write failed or memory was refused, the sink took a front of the output.
-    ensures write_fault { result ≡ Status.WriteFault → IfSome (S.left source.old) (λ input.
+    ensures write_fault { result ≡ Status.WriteFault → OnInput (job_in (texts words.now)) (S.left source.old) (λ input.
         OnDisk (job_in (texts words.now)) (D.now disk.old).reads (λ bytes.
         AppendsFront (K.taken sink.old) (K.taken sink.new) (output (texts words.now) bytes input))) }
     ensures write_cause { result ≡ Status.WriteFault → Rose (K.faults sink.old) (K.faults sink.new) }
-    ensures memory { result ≡ Status.Memory → IfSome (S.left source.old) (λ input.
+    ensures memory { result ≡ Status.Memory → OnInput (job_in (texts words.now)) (S.left source.old) (λ input.
         OnDisk (job_in (texts words.now)) (D.now disk.old).reads (λ bytes.
         AppendsFront (K.taken sink.old) (K.taken sink.new) (output (texts words.now) bytes input))) }
 
@@ -174,11 +174,11 @@ pub fn run<S: Source, K: Sink, D: Disk>(
     // each accepted one has accepted inputs, and no more is left than genesis grants. And a question that
     // another command is asked too, once the same blocks have arrived for it in another order, is answered
     // by the same bytes.
-    ensures agree { IfSome (S.left source.old) (λ input.
+    ensures agree { OnInput (job_in (texts words.now)) (S.left source.old) (λ input.
         OnDisk (job_in (texts words.now)) (D.now disk.old).reads (λ bytes.
         JobAgrees (job_in (texts words.now)) bytes input)) }
     ensures kept_agree { KeptAgree }
-    ensures order { IfSome (S.left source.old) (λ input.
+    ensures order { OnInput (job_in (texts words.now)) (S.left source.old) (λ input.
         OnDisk (job_in (texts words.now)) (D.now disk.old).reads (λ bytes.
         JobAnswersAlike (job_in (texts words.now)) bytes input)) }
 
@@ -187,7 +187,8 @@ pub fn run<S: Source, K: Sink, D: Disk>(
     ensures complete { ¬ Rose (S.faults source.old) (S.faults source.new)
         → ¬ Rose (K.faults sink.old) (K.faults sink.new)
         → ¬ Rose (D.now disk.old).faults (D.now disk.new).faults
-        → IfSome (S.left source.old) (λ input. OnDisk (job_in (texts words.now)) (D.now disk.old).reads
+        → OnInput (job_in (texts words.now)) (S.left source.old) (λ input.
+        OnDisk (job_in (texts words.now)) (D.now disk.old).reads
         (λ bytes. IsFaultless (job_in (texts words.now)) bytes input
         → (result ≡ Status.Done) ⊎ (result ≡ Status.Memory))) }
 

@@ -63,21 +63,21 @@ returns-in-Show-clause-ends g c =
     let job = jobs.Show c.in-Show.path in
     subst (λ (j : Job). JobEnds (Some j) first.reads before after old new first last c.show.result) (sym c.in-Show.is) record {
       by = on_status (WritesBy (Some job) first.reads before after old new) c.show.result
-          (λ s. (if_all before _ (λ input. e.done s), left_whole before))
+          (λ s. (e.done s, left_whole before))
           (λ s. absurd (subst Shows s e.among))
           (λ s. absurd (subst Shows s e.among))
           (λ s. absurd (subst Shows s e.among))
           (λ s. absurd (subst Shows s e.among))
-          (λ s. if_all before _ (λ input. e.write_fault s))
+          (λ s. e.write_fault s)
           (λ s. λ fed. absurd fed)
-          (λ s. if_all before _ (λ input. e.not_journal s))
+          (λ s. e.not_journal s)
           (λ s. absurd (subst Shows s e.among))
-          (λ s. if_all before _ (λ input. e.memory s))
-          (λ s. if_all before _ (λ input. e.damaged s))
+          (λ s. e.memory s)
+          (λ s. e.damaged s)
           (λ s. absurd (subst Shows s e.among));
       taken = λ takes. absurd takes;
       taken_fed = λ fed. absurd fed;
-      chain = if_all before _ (λ input. if_all first.reads _ (λ bytes other. absurd other));
+      chain = if_all first.reads _ (λ bytes other. absurd other);
       crash = tt;
     }
 
@@ -162,21 +162,21 @@ returns-in-Make-clause-ends g c =
     let job = jobs.Make c.in-Make.n c.in-Make.seed c.in-Make.width in
     subst (λ (j : Job). JobEnds (Some j) first.reads before after old new first last c.make_text.result) (sym c.in-Make.is) record {
       by = on_status (WritesBy (Some job) first.reads before after old new) c.make_text.result
-          (λ s. (if_all before _ (λ input. (e.done s, tt)), left_whole before))
+          (λ s. ((e.done s, tt), left_whole before))
           (λ s. absurd (subst Makes s e.among))
           (λ s. absurd (e.whole s))
           (λ s. absurd (subst Makes s e.among))
           (λ s. absurd (subst Makes s e.among))
-          (λ s. if_all before _ (λ input. e.write_fault s))
+          (λ s. e.write_fault s)
           (λ s. absurd (subst Makes s e.among))
           (λ s. absurd (subst Makes s e.among))
           (λ s. absurd (subst Makes s e.among))
-          (λ s. if_all before _ (λ input. e.memory s))
+          (λ s. e.memory s)
           (λ s. absurd (subst Makes s e.among))
           (λ s. absurd (subst Makes s e.among));
       taken = λ takes. absurd takes;
       taken_fed = λ fed. absurd fed;
-      chain = if_all before _ (λ input other. absurd other);
+      chain = λ other. absurd other;
       crash = tt;
     }
 
@@ -198,21 +198,21 @@ returns-in-Drill-clause-ends g c =
     let job = jobs.Drill c.in-Drill.n c.in-Drill.seed c.in-Drill.width in
     subst (λ (j : Job). JobEnds (Some j) first.reads before after old new first last c.drill_text.result) (sym c.in-Drill.is) record {
       by = on_status (WritesBy (Some job) first.reads before after old new) c.drill_text.result
-          (λ s. (if_all before _ (λ input. e.done s), left_whole before))
+          (λ s. (e.done s, left_whole before))
           (λ s. absurd (subst Makes s e.among))
-          (λ s. (if_all before _ (λ input. e.malformed s), λ takes. absurd takes))
-          (λ s. absurd (subst Makes s e.among))
-          (λ s. absurd (subst Makes s e.among))
-          (λ s. if_all before _ (λ input. e.write_fault s))
+          (λ s. (e.malformed s, λ takes. absurd takes))
           (λ s. absurd (subst Makes s e.among))
           (λ s. absurd (subst Makes s e.among))
+          (λ s. e.write_fault s)
           (λ s. absurd (subst Makes s e.among))
-          (λ s. if_all before _ (λ input. e.memory s))
+          (λ s. absurd (subst Makes s e.among))
+          (λ s. absurd (subst Makes s e.among))
+          (λ s. e.memory s)
           (λ s. absurd (subst Makes s e.among))
           (λ s. absurd (subst Makes s e.among));
       taken = λ takes. absurd takes;
       taken_fed = λ fed. absurd fed;
-      chain = if_all before _ (λ input other. absurd other);
+      chain = λ other. absurd other;
       crash = tt;
     }
 
