@@ -187,6 +187,14 @@ module _ (stored : Stored) {start mid now : Moment} {old new : Option (List ℕ)
       subst (λ (m : DiskMoment). Leaves m last (HoldsFoundOrMore (records_in (Found o)) given)) (sym (same_disk tt))
       (weaker here last (HoldsAtLeast (length (bytes_of (Found o))) (bytes_of (Found o)) given) (HoldsFoundOrMore (records_in (Found o)) given) (run (told.0 is)) (λ image h. inr h))
 
+  from_found : (s : Stored) → ((image : List ℕ) → records image ≡ found (journal_in bits kept) → HoldsAtLeast (length (bytes_of s)) (bytes_of s) given image) → kept ≡ head.genesis ∷ stored_blocks s → IsOfSame s head
+      → IsFound s → (image : List ℕ) → records image ≡ records_in s → HoldsAtLeast (length (bytes_of s)) (bytes_of s) given image
+  from_found (Empty gate) from k same is image e = absurd is
+  from_found (Found o) from k same is image e =
+      let made : journal_in bits kept ≡ contents head.bits head.genesis.bytes (bytes_of (Found o)) = (λ i. journal_in (b i) (k i)) in
+      let here : contents o.bits o.genesis.bytes (bytes_of (Found o)) ≡ contents head.bits head.genesis.bytes (bytes_of (Found o)) = (λ i. contents (same.bits i) (same.genesis i) (bytes_of (Found o))) in
+      from image (e ∙ ap found (here ∙ sym made))
+
   whole_by : (r : Result (Unit {0}) ReplayFault) → OnAll r (HoldsOn w last (λ image. records image ≡ found (contents_of (bytes_of stored) given (all_of given))))
       → OnAll r (IsTold first → Among (λ image. records image ≡ found (contents_of (bytes_of stored) given (all_of given))) last.images)
   whole_by (Ok u) h = λ is. if_told w last (λ image. records image ≡ found (contents_of (bytes_of stored) given (all_of given))) has h (told_then.0 (told.0 is))
@@ -200,6 +208,7 @@ module _ (stored : Stored) {start mid now : Moment} {old new : Option (List ℕ)
     rest.0,
     record {
       fits = with_input (λ input. FitsStored stored (fed input).head) start.left mid.left g.given g.took.consumed (λ more e. subst (FitsStored stored) (sym (head_whole g more)) (chain_fits stored head same));
+      from = from_found stored from_here k same;
       any_moment = any_by stored leaves found_same run_here from_here k;
       now = λ is image left. (ends here last _ law (run_here (told.0 is)) image left, if_told w last (HoldsAcknowledged (bytes_of stored) given old new) has rest.1.acknowledged (told_then.0 (told.0 is)) image left);
       whole = whole_by result rest.1.whole;

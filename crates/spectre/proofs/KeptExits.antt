@@ -29,7 +29,7 @@ use Rattle.sp_node.specs.declared.stored.Stored.{Stored}
 use Rattle.sp_node.specs.declared.stored.Stored.TheVariants.{Empty, Found}
 use Rattle.spectre.specs.Chains.{EndAtHead, EndsAtHead, EndsByChain}
 use Rattle.spectre.specs.Codes.{code_of}
-use Rattle.spectre.specs.Crashes.{all_of, contents_by, EndsEarly, contents_of, contents_under, HoldsAcknowledged, HoldsAtLeast, HoldsFoundOrMore, IsSure, Recovers, Recovery}
+use Rattle.spectre.specs.Crashes.{all_of, contents_by, EndsEarly, contents_of, contents_under, HoldsAcknowledged, HoldsAtLeast, HoldsFoundOrMore, HoldsOnward, IsSure, Recovers, Recovery}
 use Rattle.spectre.specs.Faults.{EndsMalformed, EndsTooLong, EndsTruncated, EndsWhole, feed_fault_text, status_of}
 use Rattle.spectre.specs.Journals.{Fits, FitsHead, found_blocks, HasOtherChain, kept_output, other_chain_text}
 use Rattle.spectre.specs.Keeping.{bytes_of, FitsStored, IsAmiss, IsUntried, KeepAnswers, NamesBothOf, UntriedBy}
@@ -44,6 +44,7 @@ use Rattle.spectre.specs.declared.status.Status.{Status}
 use Rattle.spectre.specs.declared.status.Status.TheVariants as status
 use Rattle.spectre.proofs.KeptRuns.{Accepts, answered_recovery, at_one, early_recovery, feed_taken, fits_here, fits_there, fitting, front_of_text, holds_all, looked_since, on_both, on_one, other_is, other_recovery, same_found, stopped_recovery, sure_synced, told_by, whole_text}
 use Rattle.spectre.proofs.Keeping.{none_ends}
+use Rattle.spectre.proofs.Onward.{answered_stays, looked_stays}
 use Rattle.spectre.proofs.Replayed.{done_rest, done_text, Ends, fault_front, fault_written, is_malformed, is_too_long, is_truncated, limit_taken, memory_text, nothing_left, takes, takes_then, with_input, write_text}
 use Rattle.spectre.proofs.Replies.{appends_none, fault_says, lines_are}
 use Rattle.spectre.proofs.Running.{whole_front}
@@ -127,6 +128,7 @@ module _ (fresh : Bool) (stored : Stored) {start now : Moment} (old : Option (Li
       done_rest t.0,
     );
     taken = feed_taken fresh stored start.left first.reads tells now.left old new (takes t.0);
+    onward = answered_stays fresh stored first last law tells {result = Ok tt} (inr t);
     chain = fitting_chain fresh stored start.left first.reads now.left status.Done tells t.1.fits;
     recovery = on_both start.left first.reads _ (λ disk input l r. answered_recovery fresh disk input stored (at_one (λ (d : List ℕ). Tells fresh d (Ok stored)) r tells) new first last law r l t (t.1.whole (told_by first disk r)) status.Done);
   }
@@ -137,6 +139,7 @@ module _ (fresh : Bool) (stored : Stored) {start now : Moment} (old : Option (Li
   exit_write {new = new} (inr t) = record {
     by = front_of_text fresh stored start.left first.reads tells old new (fitting fresh stored start.left first.reads tells t.1.fits) (write_text t.0);
     taken = feed_taken fresh stored start.left first.reads tells now.left old new (takes t.0);
+    onward = answered_stays fresh stored first last law tells {result = Err WriteFault} (inr t);
     chain = fitting_chain fresh stored start.left first.reads now.left status.WriteFault tells t.1.fits;
     recovery = on_both start.left first.reads _ (λ disk input l r. stopped_recovery fresh disk input stored (at_one (λ (d : List ℕ). Tells fresh d (Ok stored)) r tells) first last law r l t status.WriteFault (λ e. cc));
   }
@@ -146,6 +149,7 @@ module _ (fresh : Bool) (stored : Stored) {start now : Moment} (old : Option (Li
   exit_memory {new = new} (inl u) = record {
     by = front_none start.left first.reads old new (kept_output fresh) u.silent;
     taken = subst (λ (o : Option (List ℕ)). IfSome first.reads (λ disk. TakesFeed (found_blocks disk) start.left now.left old o)) (sym u.silent) (feed_taken fresh stored start.left first.reads tells now.left old old (untried_takes u));
+    onward = answered_stays fresh stored first last law tells {result = Err Memory} (inl u);
     chain = untried_chain stored first.reads status.Memory u tt (λ e. cc);
     recovery = on_both start.left first.reads _ (λ disk input l r.
         early_recovery fresh disk input now.left old new first last status.Memory law last_law r u.given (subst (λ (o : Option (List ℕ)). Consumes o now.left u.given) l u.took.consumed) u.why (appends_same old new u.silent) tt u.headed (λ e. cc));
@@ -153,6 +157,7 @@ module _ (fresh : Bool) (stored : Stored) {start now : Moment} (old : Option (Li
   exit_memory {new = new} (inr t) = record {
     by = front_of_text fresh stored start.left first.reads tells old new (fitting fresh stored start.left first.reads tells t.1.fits) (memory_text t.0);
     taken = feed_taken fresh stored start.left first.reads tells now.left old new (takes t.0);
+    onward = answered_stays fresh stored first last law tells {result = Err Memory} (inr t);
     chain = fitting_chain fresh stored start.left first.reads now.left status.Memory tells t.1.fits;
     recovery = on_both start.left first.reads _ (λ disk input l r. stopped_recovery fresh disk input stored (at_one (λ (d : List ℕ). Tells fresh d (Ok stored)) r tells) first last law r l t status.Memory (λ e. cc));
   }
@@ -208,6 +213,7 @@ exit_amiss fresh gate {start = start} {now = now} old first last law last_law te
   by = same_found fresh (Empty gate) start.left first.reads tells (λ (l : List (List ℕ)). (given : List ℕ) × Consumes start.left now.left given × Appends old new (replied_but_last l given))
       (u.given, u.took.consumed, subst (λ (x : List ℕ). Appends old new x) (sym (amiss_silent fresh first last law last_law old u.given u.headed u.why)) (appends_same old new u.silent));
   taken = subst (λ (o : Option (List ℕ)). IfSome first.reads (λ disk. TakesFeed (found_blocks disk) start.left now.left old o)) (sym u.silent) (feed_taken fresh (Empty gate) start.left first.reads tells now.left old old (untried_takes fresh (Empty gate) old first last law last_law tells u));
+  onward = answered_stays fresh (Empty gate) first last law tells {result = Err DiskFault} (inl u);
   chain = on_both start.left first.reads _ (λ disk input l r other. (
       let no : NoJournal ≡ found other.contents = sym (at_one (λ (d : List ℕ). Tells fresh d (Ok (Empty gate))) r tells).0.none ∙ other.found in absurd cc));
   recovery = on_both start.left first.reads _ (λ disk input l r.
@@ -219,6 +225,7 @@ pub exit_disk : (fresh : Bool) (stored : Stored) {start now : Moment} (old : Opt
 exit_disk fresh stored {start = start} {now = now} old first last law last_law tells {new = new} (inr t) = record {
   by = same_found fresh stored start.left first.reads tells (λ (l : List (List ℕ)). (given : List ℕ) × Consumes start.left now.left given × Appends old new (replied_but_last l given)) (t.0.given, t.0.took.consumed, t.0.says.0);
   taken = feed_taken fresh stored start.left first.reads tells now.left old new (takes t.0);
+  onward = answered_stays fresh stored first last law tells {result = Err DiskFault} (inr t);
   chain = fitting_chain fresh stored start.left first.reads now.left status.DiskFault tells t.1.fits;
   recovery = on_both start.left first.reads _ (λ disk input l r. stopped_recovery fresh disk input stored (at_one (λ (d : List ℕ). Tells fresh d (Ok stored)) r tells) first last law r l t status.DiskFault (λ e. cc));
 }
@@ -333,6 +340,7 @@ exit_feed fresh stored {start = start} {now = now} old first last law last_law t
     | inr no_write ↦ subst (EndsBy fresh first.reads start.left now.left old new) (sym (same no_write)) (by_fault fresh stored old first last law last_law tells new e a (text no_write) front)
   ];
   taken = feed_taken_now fresh stored old first last law last_law tells new e a result same text front read;
+  onward = answered_stays fresh stored first last law tells a;
   chain = elim a [
     | inr t ↦ fitting_chain fresh stored start.left first.reads now.left result tells t.1.fits
     | inl u ↦ elim (is_read e) [
@@ -375,6 +383,7 @@ exit_other fresh stored {start = start} {now = now} old first last law last_law 
   ];
   taken = feed_taken fresh stored start.left first.reads tells now.left old new (takes_then (bytes_of stored) start.left now.left old mid new (other_chain_text b c d e)
       (subst (λ (o : Option (List ℕ)). TakesFeed (bytes_of stored) start.left now.left old o) (sym u.silent) (untried_takes fresh stored old first last law last_law tells u)) front);
+  onward = answered_stays fresh stored first last law tells {result = Err (OtherChain b c d e)} (inl u);
   chain = untried_chain stored first.reads result u (line_ends EndsByChain result status.OtherChain same tt tt) (line_ends (λ s. s ≡ status.DiskFault → ⊥) result status.OtherChain same (λ e. cc) (λ e. cc));
   recovery = on_both start.left first.reads _ (λ disk input l x. other_recovery fresh disk input now.left old new first last result law last_law x u.given (subst (λ (o : Option (List ℕ)). Consumes o now.left u.given) l u.took.consumed) u.why.1
       (λ fits. u.why.0.other (subst (FitsStored stored) (head_is disk input l) (fits_here fresh disk stored input (at_one (λ (y : List ℕ). Tells fresh y (Ok stored)) x tells) fits))));
@@ -422,6 +431,8 @@ pub ends_on : (fresh : Bool) (before after old new : Option (List ℕ)) (first m
 ends_on fresh before after old new first mid last s law looks k = record {
   by = subst (λ (o : Option (List ℕ)). EndsBy fresh o before after old new s) looks.reads k.by;
   taken = subst (λ (o : Option (List ℕ)). IfSome o (λ disk. TakesFeed (found_blocks disk) before after old new)) looks.reads k.taken;
+  onward = on_one first.reads _ (λ disk r synced. joined first mid last (λ image. records image ≡ records disk) (HoldsOnward (records disk)) (HoldsOnward (records disk)) (looked_since first mid law disk r looks synced)
+      (at_one (λ (d : List ℕ). IsSynced mid → Leaves mid last (HoldsOnward (records d))) (looks.reads ∙ r) k.onward (synced_on first mid looks synced)) (λ image h. inl h) (λ image h. h));
   chain = subst (λ (o : Option (List ℕ)). OnBoth before o (λ disk input. HasOtherChain disk input → EndsAtHead before after s)) looks.reads k.chain;
   recovery = on_map before first.reads _ _ (λ disk input l r h. recovery_on fresh disk input after old new first mid last s law r looks h)
       (subst (λ (o : Option (List ℕ)). OnBoth before o (λ disk input. Recovery fresh disk input after old new mid last s)) looks.reads k.recovery);
@@ -477,6 +488,7 @@ module _ (fresh : Bool) (left old : Option (List ℕ)) (first last : DiskMoment)
   exit_early s early by = record {
     by = by;
     taken = on_one first.reads _ (λ disk r. nothing_taken (found_blocks disk) left old);
+    onward = looked_stays first last law looks;
     chain = on_both left first.reads _ (λ disk input l r other. nothing_headed left s (early_chain s early));
     recovery = on_both left first.reads _ (λ disk input l r. early_recovery fresh disk input left old old first last s law last_law r [] (none_consumed input l) looks (appends_none old) early none_ends (λ e. nothing_begun));
   }
@@ -508,6 +520,7 @@ module _ (fresh : Bool) (left old : Option (List ℕ)) (first last : DiskMoment)
       | inr no_write ↦ subst (EndsBy fresh first.reads left left old new) (sym (same no_write)) (ends_by (on_both left first.reads _ (λ disk input l r. subst (λ (t : List ℕ). Appends old new t) (sym (says disk input r).0) (whole no_write))))
     ];
     taken = on_one first.reads _ (λ disk r. takes_then (found_blocks disk) left left old old new text (nothing_taken (found_blocks disk) left old) front);
+    onward = looked_stays first last law looks;
     chain = on_both left first.reads _ (λ disk input l r other. absurd (unfound disk other.contents r other.found));
     recovery = on_both left first.reads _ (λ disk input l r. other_recovery fresh disk input left old new first last result law last_law r [] (none_consumed input l) looks (says disk input r).1);
   }

@@ -2,6 +2,7 @@ pub mod Outputs
 pub mod Running
 pub mod Keeping
 pub mod KeptRuns
+pub mod Onward
 pub mod KeptExits
 pub mod Shown
 pub mod TopCall

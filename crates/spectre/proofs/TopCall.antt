@@ -1,10 +1,12 @@
 -- What the top call says of a run with a journal, and of one that wasn't begun for want of memory.
 use Rattle.std.proofs.Common.{◌≡◌, ℕ, Bool, List, [], Option, Some, None, IfSome, refl, sym, subst}
-use Rattle.sp_disk.specs.Moments.{IsMoment, Moment}
+use Rattle.sp_disk.specs.Moments.{IsMoment, Leaves, Moment}
 use Rattle.sp_io.specs.Whole.{AppendsFront}
 use Rattle.sp_io.proofs.Writing.{wrote_none}
+use Rattle.sp_journal.specs.Creation.{IsSynced}
+use Rattle.sp_journal.specs.Records.{records}
 use Rattle.spectre.specs.Chains.{EndsAtHead}
-use Rattle.spectre.specs.Crashes.{Recovery}
+use Rattle.spectre.specs.Crashes.{HoldsOnward, Recovery}
 use Rattle.spectre.specs.Faults.{IsOtherChain}
 use Rattle.spectre.specs.JobEnds.{JobEnds, WritesBy}
 use Rattle.spectre.specs.Kept.{EndsBy, KeptEnds}
@@ -15,6 +17,7 @@ use Rattle.spectre.specs.declared.job.Job.TheVariants as jobs
 use Rattle.spectre.specs.declared.status.Status.{Status}
 use Rattle.spectre.specs.declared.status.Status.TheVariants as status
 use Rattle.spectre.proofs.Keeping.{looks_same}
+use Rattle.spectre.proofs.Onward.{looked_stays}
 use Rattle.spectre.proofs.KeptExits.{exit_early, nothing_headed, nothing_taken, silent_memory}
 
 -- what holds by a status
@@ -63,6 +66,7 @@ kept_ends path fresh reads before after old new first last s k = record {
   taken = λ takes. absurd takes;
   taken_fed = λ _. k.taken;
   chain = k.chain;
+  onward = k.onward;
   crash = k.recovery;
 }
 
@@ -117,3 +121,14 @@ nothing_asked (Some jobs.Play) left a m law = tt
 nothing_asked (Some jobs.Build) left a m law = tt
 nothing_asked (Some (jobs.Make n seed width)) left a m law = tt
 nothing_asked (Some (jobs.Drill n seed width)) left a m law = tt
+
+-- so what was found stays
+pub nothing_lost : (job : Option Job) (m : Moment) → IsMoment m → OnKeep job (λ fresh. IfSome m.reads (λ bytes. IsSynced m → Leaves m m (HoldsOnward (records bytes))))
+nothing_lost None m law = tt
+nothing_lost (Some jobs.Replay) m law = tt
+nothing_lost (Some (jobs.Keep path fresh)) m law = looked_stays m m law (looks_same m)
+nothing_lost (Some (jobs.Show path)) m law = tt
+nothing_lost (Some jobs.Play) m law = tt
+nothing_lost (Some jobs.Build) m law = tt
+nothing_lost (Some (jobs.Make n seed width)) m law = tt
+nothing_lost (Some (jobs.Drill n seed width)) m law = tt

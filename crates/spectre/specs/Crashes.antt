@@ -14,7 +14,7 @@ use Rattle.sp_io.specs.Whole.{AppendsAtLeast}
 use Rattle.sp_journal.specs.Creation.{IsSynced}
 use Rattle.sp_journal.specs.Journal.{Contents, contents}
 use Rattle.sp_journal.specs.Prefixes.{HoldsFront}
-use Rattle.sp_journal.specs.Records.{Found, Records, records}
+use Rattle.sp_journal.specs.Records.{Damaged, Found, NoJournal, Records, records}
 use Rattle.sp_node.specs.Answers.{arrivals_of}
 use Rattle.sp_node.specs.Journalled.{journal_in}
 use Rattle.spectre.specs.Chains.{EndAtHead}
@@ -83,6 +83,16 @@ Recovers r given old new s image =
 -- the image holds just what was found, or a front of what is kept with all of it
 abbrev pub HoldsFoundOrMore : Records → List ℕ → List ℕ → Type 0
 HoldsFoundOrMore r given image = (records image ≡ r) ⊎ HoldsAtLeast (length (blocks_in r)) (blocks_in r) given image
+
+-- a journal goes on from what was found: it has the bits, the genesis block and, in front, all the blocks
+abbrev pub GoesOn : Records → Contents → Type 0
+GoesOn NoJournal c = Unit {0}
+GoesOn (Damaged at) c = ⊥
+GoesOn (Found f) c = (c.bits ≡ f.bits) × (c.genesis ≡ f.genesis) × ((more : List (List ℕ)) × (c.blocks ≡ f.blocks ++ more))
+
+-- the image holds just what was found, or a journal that goes on from it, whatever the feed is
+abbrev pub HoldsOnward : Records → List ℕ → Type 0
+HoldsOnward r image = (records image ≡ r) ⊎ ((c : Contents) × (records image ≡ Found c) × GoesOn r c)
 
 -- the sink took a byte
 pub record TookMore (old new : Option (List ℕ)) : Type 0 where

@@ -2,12 +2,14 @@
 
 ghost use Rattle.std.specs.Prelude.{◌⊎◌, ◌≡◌, ◌↔◌, ◌≢◌, ℕ, Bool, List, [], IfSome, IsNone, Some};
 ghost use Rattle.std.specs.Io.KnownBytes.{Appends, Consumes};
-ghost use Rattle.sp_disk.specs.Moments.{Looks};
+ghost use Rattle.sp_disk.specs.Moments.{Leaves, Looks};
+ghost use Rattle.sp_journal.specs.Creation.{IsSynced};
+ghost use Rattle.sp_journal.specs.Records.{records};
 ghost use Rattle.sp_io.specs.Causes.{Rose};
 ghost use Rattle.sp_io.specs.Whole.{AppendsFront, ConsumesUpTo};
 ghost use Rattle.sp_play.specs.Source.{scenario_limit};
 ghost use Rattle.spectre.specs.Chains.{EndsByChain, TakesHead};
-ghost use Rattle.spectre.specs.Crashes.{Recovery};
+ghost use Rattle.spectre.specs.Crashes.{HoldsOnward, Recovery};
 ghost use Rattle.spectre.specs.Ends.{Comes, EndsByDisk};
 ghost use Rattle.spectre.specs.Faults.{beyond, IsDamaged, IsDiskAtFault, IsFaultless, IsMalformed, IsNoJournal, IsOtherChain, IsTooLong, IsTruncated, unread};
 ghost use Rattle.spectre.specs.Jobs.{AnswersFeed, job_in, NamesFile, Shows, TakesNothing, TakesScenario, texts};
@@ -167,6 +169,11 @@ pub fn run<S: Source, K: Sink, D: Disk>(
     ensures crash { OnKeep (job_in (texts words.now)) (λ fresh. IfSome (S.left source.old) (λ input.
         IfSome (D.now disk.old).reads (λ bytes. Recovery fresh bytes input (S.left source.new)
         (K.taken sink.old) (K.taken sink.new) (D.now disk.old) (D.now disk.new) result))) }
+    // Whatever the feed is, and whether or not the source tells it: where nothing was pending at the start,
+    // a crash at any moment leaves what was found, or a journal that goes on from it.
+    ensures found_stays { OnKeep (job_in (texts words.now)) (λ fresh.
+        IfSome (D.now disk.old).reads (λ bytes. IsSynced (D.now disk.old)
+        → Leaves (D.now disk.old) (D.now disk.new) (HoldsOnward (records bytes)))) }
     ensures looks { Shows (job_in (texts words.now)) → Looks (D.now disk.old) (D.now disk.new) }
     ensures uncalled { (NamesFile (job_in (texts words.now)) → ⊥) → disk.new ≡ disk.old }
 

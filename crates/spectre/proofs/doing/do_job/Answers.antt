@@ -34,6 +34,7 @@ returns-in-Replay-clause-ends g c =
       taken = λ takes. absurd takes;
       taken_fed = λ _. e.taken;
       chain = if_all before _ (λ input other. absurd other);
+      onward = tt;
       crash = tt;
     }
 
@@ -78,6 +79,7 @@ returns-in-Show-clause-ends g c =
       taken = λ takes. absurd takes;
       taken_fed = λ fed. absurd fed;
       chain = if_all first.reads _ (λ bytes other. absurd other);
+      onward = tt;
       crash = tt;
     }
 
@@ -111,6 +113,7 @@ returns-in-Play-clause-ends g c =
       taken = λ _. e.taken;
       taken_fed = λ fed. absurd fed;
       chain = if_all before _ (λ input other. absurd other);
+      onward = tt;
       crash = tt;
     }
 
@@ -144,6 +147,7 @@ returns-in-Build-clause-ends g c =
       taken = λ _. e.taken;
       taken_fed = λ fed. absurd fed;
       chain = if_all before _ (λ input other. absurd other);
+      onward = tt;
       crash = tt;
     }
 
@@ -177,6 +181,7 @@ returns-in-Make-clause-ends g c =
       taken = λ takes. absurd takes;
       taken_fed = λ fed. absurd fed;
       chain = λ other. absurd other;
+      onward = tt;
       crash = tt;
     }
 
@@ -213,6 +218,7 @@ returns-in-Drill-clause-ends g c =
       taken = λ takes. absurd takes;
       taken_fed = λ fed. absurd fed;
       chain = λ other. absurd other;
+      onward = tt;
       crash = tt;
     }
 
