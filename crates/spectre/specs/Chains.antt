@@ -1,25 +1,15 @@
 -- How a run ends where it finds the journal of another chain than that of the feed: the feed's head decides it, whatever
 -- follows.
-use Rattle.std.specs.Prelude.{◌≡◌, ◌<◌, ℕ, List, [], ◌++◌, length, Option, None}
+use Rattle.std.specs.Prelude.{◌≡◌, ◌<◌, ℕ, List, [], ◌∷◌, ◌++◌, length, Option, None}
 use Rattle.std.specs.Io.KnownBytes.{Consumes}
 use Rattle.spectre.specs.Replay.{fed}
+use Rattle.spectre.specs.OneOf.{IsOneOf}
 use Rattle.spectre.specs.declared.status.Status.{Status}
 use Rattle.spectre.specs.declared.status.Status.TheVariants as status
 
 -- the statuses that it can end with: that fault's, or one of the outside or of memory
 abbrev pub EndsByChain : Status → Type 0
-EndsByChain status.Done = ⊥
-EndsByChain status.Usage = ⊥
-EndsByChain status.Malformed = ⊥
-EndsByChain status.Truncated = ⊥
-EndsByChain status.ReadFault = Unit {0}
-EndsByChain status.WriteFault = Unit {0}
-EndsByChain status.DiskFault = Unit {0}
-EndsByChain status.NotJournal = ⊥
-EndsByChain status.OtherChain = Unit {0}
-EndsByChain status.Memory = Unit {0}
-EndsByChain status.Damaged = ⊥
-EndsByChain status.TooLong = ⊥
+EndsByChain s = IsOneOf s (status.ReadFault ∷ status.WriteFault ∷ status.DiskFault ∷ status.OtherChain ∷ status.Memory ∷ [])
 
 -- no front of these bytes but all of them has a whole head: not a byte behind the head was taken
 abbrev pub EndAtHead : List ℕ → Type 0

@@ -1,5 +1,5 @@
 -- What a crash leaves of the disk of a node.
-use Rattle.std.specs.Prelude.{◌≡◌, ◌⊎◌, ℕ, ◌<◌, true, Bool, List, [], ◌++◌, length, Option, Some, None, IsSome, Result, Ok, Err}
+use Rattle.std.specs.Prelude.{◌≡◌, ◌⊎◌, ℕ, ◌<◌, true, Bool, List, [], ◌∷◌, ◌++◌, length, Option, Some, None, IsSome, Result, Ok, Err}
 use Rattle.std.specs.List.{flat_map}
 use Rattle.std.specs.Io.KnownBytes.{Appends, Consumes}
 use Rattle.sp_block.specs.Block.{ReadBlock}
@@ -20,6 +20,7 @@ use Rattle.sp_node.specs.Journalled.{journal_in}
 use Rattle.spectre.specs.Chains.{EndAtHead}
 use Rattle.spectre.specs.Journals.{blocks_in, Fits, found_blocks}
 use Rattle.spectre.specs.Replay.{fed, lines_under}
+use Rattle.spectre.specs.OneOf.{IsOneOf}
 use Rattle.spectre.specs.declared.status.Status.{Status}
 use Rattle.spectre.specs.declared.status.Status.TheVariants as status
 
@@ -52,18 +53,7 @@ HoldsAcknowledged before given old new image =
 
 -- a run that was ended by a fault of the outside, or for want of memory, before its sink took a byte
 abbrev pub EndsEarly : Status → Type 0
-EndsEarly status.Done = ⊥
-EndsEarly status.Usage = ⊥
-EndsEarly status.Malformed = ⊥
-EndsEarly status.Truncated = ⊥
-EndsEarly status.ReadFault = Unit {0}
-EndsEarly status.WriteFault = ⊥
-EndsEarly status.DiskFault = Unit {0}
-EndsEarly status.NotJournal = ⊥
-EndsEarly status.OtherChain = ⊥
-EndsEarly status.Memory = Unit {0}
-EndsEarly status.Damaged = ⊥
-EndsEarly status.TooLong = ⊥
+EndsEarly s = IsOneOf s (status.ReadFault ∷ status.DiskFault ∷ status.Memory ∷ [])
 
 -- such a run, before a journal was made or opened for it: nothing behind the feed's head was taken, and no whole head came
 -- where a read failed

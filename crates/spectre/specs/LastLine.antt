@@ -15,6 +15,7 @@ use Rattle.spectre.specs.Jobs.{AnswersFeed, TakesScenario}
 use Rattle.spectre.specs.Journals.{damaged_text, not_journal_text, other_chain_text}
 use Rattle.spectre.specs.Lines.{fault_line}
 use Rattle.spectre.specs.Replay.{fed}
+use Rattle.spectre.specs.OneOf.{IsOneOf}
 use Rattle.spectre.specs.declared.job.Job.{Job}
 use Rattle.spectre.specs.declared.job.Job.TheVariants as jobs
 use Rattle.spectre.specs.declared.status.Status.{Status}
@@ -83,18 +84,7 @@ IsLineOf job disk input status.TooLong line = (AnswersFeed job × TellsLongFeed 
 
 -- the statuses that name such a fault
 abbrev pub NamesFault : Status → Type 0
-NamesFault status.Done = ⊥
-NamesFault status.Usage = ⊥
-NamesFault status.Malformed = Unit {0}
-NamesFault status.Truncated = Unit {0}
-NamesFault status.ReadFault = ⊥
-NamesFault status.WriteFault = ⊥
-NamesFault status.DiskFault = ⊥
-NamesFault status.NotJournal = Unit {0}
-NamesFault status.OtherChain = Unit {0}
-NamesFault status.Memory = ⊥
-NamesFault status.Damaged = Unit {0}
-NamesFault status.TooLong = Unit {0}
+NamesFault s = IsOneOf s (status.Malformed ∷ status.Truncated ∷ status.NotJournal ∷ status.OtherChain ∷ status.Damaged ∷ status.TooLong ∷ [])
 
 -- The sink took some lines, and then that fault's own line.
 pub record EndsInLine (job : Option Job) (disk input : List ℕ) (s : Status) (old new : Option (List ℕ)) : Type 0 where

@@ -1,4 +1,6 @@
 pub mod Words
+pub mod Codes
+pub mod OneOf
 pub mod Files
 pub mod Jobs
 pub mod Lines
@@ -19,6 +21,5 @@ pub mod Kept
 pub mod JobEnds
 pub mod LastLine
 pub mod Ends
-pub mod Codes
 pub mod Rests
 pub mod Talks
