@@ -1,15 +1,12 @@
 -- A run that ends by a fault of the input, or of what the disk holds, wrote that fault's own line last: it follows from what was
 -- written by the status, since the disk comes first, then the chain of the feed, and then the feed.
-use Rattle.std.proofs.Common.{◌≡◌, ◌⊎◌, inl, inr, ℕ, ◌<◌, ◌≤◌, ◌==◌, ◌||◌, Bool, true, false, cond, nat_le, List, [], ◌∷◌, ◌++◌, length, Option, Some, None, IfSome, IsSome, refl, sym, ap, subst, ◌∙◌, arith}
+use Rattle.std.proofs.Common.{◌≡◌, inl, inr, ℕ, ◌==◌, ◌||◌, Bool, true, false, cond, List, [], ◌++◌, length, Option, Some, None, IfSome, IsSome, refl, sym, ap, subst, ◌∙◌}
 use Rattle.std.specs.Io.KnownBytes.{Appends}
 use Rattle.std.proofs.lemmas.Bool.{eq-eqb}
-use Rattle.std.proofs.lemmas.List.{append-nil}
 use Rattle.sp_ids.specs.Digest.{sha256_number}
-use Rattle.sp_block.specs.declared.fault.BlockFault.{BlockFault}
 use Rattle.sp_engine.specs.Blocks.{block_in}
 use Rattle.sp_feed.specs.Feed.{End, Malformed, TooLong, Truncated, Whole}
 use Rattle.sp_feed.specs.Format.{Head}
-use Rattle.sp_feed.specs.Kinds.{Said}
 use Rattle.sp_journal.specs.Journal.{Contents}
 use Rattle.sp_journal.specs.Records.{Damaged, Found, NoJournal, Records, records}
 use Rattle.sp_make.specs.Made.{made}
@@ -22,7 +19,7 @@ use Rattle.spectre.specs.Chains.{EndsAtHead, EndsByChain}
 use Rattle.spectre.specs.Ends.{EndsByDisk}
 use Rattle.spectre.specs.Faults.{EndsMalformed, EndsTooLong, EndsTruncated, IsDamaged, IsDiskAtFault, IsKeptAtFault, IsMalformed, IsNoJournal, IsOtherChain, IsTooLong, IsTruncated}
 use Rattle.spectre.specs.JobEnds.{WritesBy}
-use Rattle.spectre.specs.Journals.{chained, found_blocks, blocks_in, HasNoJournal, HasOtherChain, is_chain_of, kept_by, kept_output, may_be_new, not_journal_text, other_chain_text, shown_by, shown_output}
+use Rattle.spectre.specs.Journals.{chained, found_blocks, blocks_in, HasOtherChain, is_chain_of, kept_by, kept_output, may_be_new, not_journal_text, other_chain_text, shown_by, shown_output}
 use Rattle.spectre.specs.LastLine.{AreLines, EndsInLine, IsLineOf, NamesFault}
 use Rattle.spectre.specs.Lines.{fault_text}
 use Rattle.spectre.specs.Output.{OnDisk, OnInput, output_by}

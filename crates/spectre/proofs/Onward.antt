@@ -1,5 +1,5 @@
 -- What was found stays, whatever the feed is: each image holds just that, or a journal that goes on from it.
-use Rattle.std.proofs.Common.{◌≡◌, ◌⊎◌, inl, inr, ⊎_elim, ℕ, ◌≤◌, Bool, List, [], ◌++◌, drop, length, take, Option, Some, None, IfSome, Result, Ok, Err, sym, ap, subst, ◌∙◌, arith, take-append-drop}
+use Rattle.std.proofs.Common.{◌≡◌, ◌⊎◌, inl, inr, ⊎_elim, ℕ, ◌≤◌, Bool, List, [], ◌++◌, drop, length, take, Option, Some, IfSome, Result, Ok, Err, sym, ap, subst, ◌∙◌, arith, take-append-drop}
 use Rattle.std.proofs.lemmas.List.{length-take-le, take-take}
 use Rattle.sp_disk.specs.Moments.{IsMoment, Leaves, Looks, Moment as DiskMoment}
 use Rattle.sp_disk.proofs.Runs.{weaker}

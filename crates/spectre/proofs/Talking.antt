@@ -1,5 +1,5 @@
 -- What the answers of each command rest on: feeds and journals of bytes bring bytes, and so their kept blocks agree.
-use Rattle.std.proofs.Common.{◌≡◌, ◌⊎◌, inl, inr, ⊎_elim, ℕ, true, List, [], ◌∷◌, ◌++◌, Option, Some, None, IfSome, Result, Ok, Err, refl, sym, ap, subst, ◌∙◌, arith}
+use Rattle.std.proofs.Common.{◌≡◌, ◌⊎◌, inl, inr, ⊎_elim, ℕ, List, [], ◌∷◌, ◌++◌, Option, Some, None, IfSome, Result, refl, sym, ap, subst, ◌∙◌, arith}
 use Rattle.std.specs.Prelude.{Contains}
 use Rattle.std.specs.List.{flat_map}
 use Rattle.std.specs.Int.{to_le_bytes, w32}
@@ -10,8 +10,6 @@ use Rattle.sp_form.proofs.Taking.{IsBytes-append_left, IsBytes-append_right}
 use Rattle.sp_block.specs.Block.{ReadBlock}
 use Rattle.sp_block.specs.declared.fault.BlockFault.{BlockFault}
 use Rattle.sp_carry.proofs.Members.{contains_from_in, in_append, in_append_left, in_append_right, in_flat_map, in_from_contains, IsIn}
-use Rattle.sp_engine.specs.Arrivals.{kept_by_all}
-use Rattle.sp_engine.specs.Blocks.{block_in}
 use Rattle.sp_feed.specs.Format.{Head}
 use Rattle.sp_feed.specs.Kinds.{Said, SaysBlock, SaysVote, SaysTx, SaysBalance, SaysPairs, SaysReport}
 use Rattle.sp_feed.proofs.PayloadBytes.{genesis_is_bytes, payloads_are_bytes}
@@ -19,11 +17,9 @@ use Rattle.sp_journal.specs.Format.{name, set}
 use Rattle.sp_journal.specs.Journal.{Contents, front, record_text}
 use Rattle.sp_journal.specs.Records.{Damaged, Found, NoJournal, Records, records}
 use Rattle.sp_journal.proofs.RecordLaws.{front_found}
-use Rattle.sp_make.specs.Made.{made}
 use Rattle.sp_node.specs.Answers.{answers, arrivals_of, reply}
 use Rattle.sp_node.proofs.AnswerLists.{answers-append}
 use Rattle.sp_node.proofs.SameReplies.{order_is_no_matter as same_replies}
-use Rattle.sp_play.specs.Scene.{scene}
 use Rattle.spectre.specs.Journals.{blocks_in, found_blocks}
 use Rattle.spectre.specs.Output.{OnDisk, OnInput}
 use Rattle.spectre.specs.Replay.{fed, feed_limit}

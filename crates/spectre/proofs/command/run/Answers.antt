@@ -1,4 +1,4 @@
-use Rattle.std.proofs.Common.{List, ℕ, Option, refl, sym, subst}
+use Rattle.std.proofs.Common.{Option, refl, sym, subst}
 use Rattle.sp_journal.proofs.Looking.{told_bytes}
 use Rattle.spectre.specs.Ends.{Comes}
 use Rattle.spectre.specs.Jobs.{NamesFile, Shows, TakesNothing, TakesScenario}
