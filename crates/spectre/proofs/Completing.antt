@@ -1,23 +1,23 @@
 -- Where nothing failed, and neither the input nor what the disk held has a fault, a run is done, or memory was refused.
-use Rattle.std.proofs.Common.{◌≡◌, ◌⊎◌, inl, inr, ℕ, ◌<◌, ◌≤◌, Bool, true, false, List, [], length, Option, Some, None, IfSome, IsNone, IsSome, refl, sym, subst, ◌∙◌, arith}
+use Rattle.std.proofs.Common.{◌≡◌, ◌⊎◌, inl, inr, ℕ, ◌<◌, ◌≤◌, true, false, List, [], length, Option, Some, None, IfSome, IsNone, IsSome, refl, sym, ◌∙◌, arith}
 use Rattle.std.specs.Io.KnownBytes.{Appends}
 use Rattle.sp_feed.specs.Feed.{End, Malformed, TooLong, Truncated, Whole}
-use Rattle.sp_feed.specs.Format.{Head}
 use Rattle.sp_journal.specs.Journal.{Contents}
 use Rattle.sp_journal.specs.Records.{Damaged, Found, NoJournal, Records, records}
 use Rattle.sp_make.specs.Made.{made}
 use Rattle.sp_play.specs.Scene.{scene}
 use Rattle.spectre.specs.Faults.{EndsMalformed, EndsTooLong, EndsTruncated, EndsWhole, IsDamaged, IsFaultless, IsMalformed, IsNoJournal, IsOtherChain, IsTooLong, IsTruncated}
 use Rattle.spectre.specs.JobEnds.{WritesBy}
-use Rattle.spectre.specs.Journals.{Fits, FitsHead, HasOtherChain}
-use Rattle.spectre.specs.Output.{OnDisk, output_by}
+use Rattle.spectre.specs.Jobs.{TakesNothing}
+use Rattle.spectre.specs.Output.{OnDisk, OnInput, output_by}
 use Rattle.spectre.specs.Replay.{fed}
 use Rattle.spectre.specs.declared.job.Job.{Job}
 use Rattle.spectre.specs.declared.job.Job.TheVariants as jobs
 use Rattle.spectre.specs.declared.status.Status.{Status}
 use Rattle.spectre.specs.declared.status.Status.TheVariants as status
+use Rattle.spectre.proofs.KeptExits.{other_misfits}
 use Rattle.spectre.proofs.KeptRuns.{damaged_says, none_says}
-use Rattle.spectre.proofs.TopCall.{if_all, on_all}
+use Rattle.spectre.proofs.TopCall.{if_all, in_all, on_all}
 
 -- ---- what has a fault isn't faultless
 
@@ -105,14 +105,10 @@ damaged (Some jobs.Build) disk input bad good = bad
 damaged (Some (jobs.Make n seed width)) disk input bad good = bad
 damaged (Some (jobs.Drill n seed width)) disk input bad good = bad
 
-other_fits : (fresh : Bool) (disk input : List ℕ) → HasOtherChain disk input → Fits fresh disk input → ⊥
-other_fits fresh disk input h fits =
-    h.other (subst (λ (o : Option Head). FitsHead fresh disk (Found h.contents) o) h.begins (subst (λ (r : Records). FitsHead fresh disk r (fed input).head) h.found fits))
-
 other_chain : (job : Option Job) (disk input : List ℕ) → IsOtherChain job disk input → IsFaultless job disk input → ⊥
 other_chain None disk input bad good = bad
 other_chain (Some jobs.Replay) disk input bad good = bad
-other_chain (Some (jobs.Keep path fresh)) disk input bad good = other_fits fresh disk input bad good.0
+other_chain (Some (jobs.Keep path fresh)) disk input bad good = other_misfits fresh disk input bad good.0
 other_chain (Some (jobs.Show path)) disk input bad good = bad
 other_chain (Some jobs.Play) disk input bad good = bad
 other_chain (Some jobs.Build) disk input bad good = bad
@@ -135,16 +131,38 @@ on_each (Some jobs.Build) reads P Q f h = f [] h
 on_each (Some (jobs.Make n seed width)) reads P Q f h = f [] h
 on_each (Some (jobs.Drill n seed width)) reads P Q f h = f [] h
 
+in_each : (job : Option Job) (left : Option (List ℕ)) (P Q : List ℕ → Type 0) → ((input : List ℕ) → P input → Q input) → OnInput job left P → OnInput job left Q
+in_each None left P Q f h = f [] h
+in_each (Some jobs.Replay) left P Q f h = if_each left P Q f h
+in_each (Some (jobs.Keep path fresh)) left P Q f h = if_each left P Q f h
+in_each (Some (jobs.Show path)) left P Q f h = f [] h
+in_each (Some jobs.Play) left P Q f h = if_each left P Q f h
+in_each (Some jobs.Build) left P Q f h = if_each left P Q f h
+in_each (Some (jobs.Make n seed width)) left P Q f h = f [] h
+in_each (Some (jobs.Drill n seed width)) left P Q f h = f [] h
+
+-- What is said of a job that takes nothing is said of any input, where it says nothing of it
+pub whatever_input : (job : Option Job) (reads before old new : Option (List ℕ)) (P : List ℕ → List ℕ → Type 0) → (TakesNothing job → (disk input : List ℕ) → P disk [] → P disk input)
+    → OnInput job before (λ input. OnDisk job reads (λ disk. Appends old new (output_by job disk input) × P disk input)) → IfSome before (λ input. OnDisk job reads (λ disk. Appends old new (output_by job disk input) × P disk input))
+whatever_input None reads before old new P any h = if_all before _ (λ input. (h.0, any tt [] input h.1))
+whatever_input (Some jobs.Replay) reads before old new P any h = h
+whatever_input (Some (jobs.Keep path fresh)) reads before old new P any h = h
+whatever_input (Some (jobs.Show path)) reads before old new P any h = if_all before _ (λ input. if_each reads _ _ (λ disk x. (x.0, any tt disk input x.1)) h)
+whatever_input (Some jobs.Play) reads before old new P any h = h
+whatever_input (Some jobs.Build) reads before old new P any h = h
+whatever_input (Some (jobs.Make n seed width)) reads before old new P any h = if_all before _ (λ input. (h.0, any tt [] input h.1))
+whatever_input (Some (jobs.Drill n seed width)) reads before old new P any h = if_all before _ (λ input. (h.0, any tt [] input h.1))
+
 -- where nothing is at fault, the status is one of these two
 abbrev pub Completes : Option Job → Option (List ℕ) → Option (List ℕ) → Status → Type 0
-Completes job reads before s = IfSome before (λ input. OnDisk job reads (λ disk. IsFaultless job disk input → (s ≡ status.Done) ⊎ (s ≡ status.Memory)))
+Completes job reads before s = OnInput job before (λ input. OnDisk job reads (λ disk. IsFaultless job disk input → (s ≡ status.Done) ⊎ (s ≡ status.Memory)))
 
 at_fault : (job : Option Job) (reads before old new : Option (List ℕ)) (s : Status) (Bad : List ℕ → List ℕ → Type 0) → ((disk input : List ℕ) → Bad disk input → IsFaultless job disk input → ⊥)
-    → IfSome before (λ input. OnDisk job reads (λ disk. Appends old new (output_by job disk input) × Bad disk input)) → Completes job reads before s
-at_fault job reads before old new s Bad refuted h = if_each before _ _ (λ input. on_each job reads _ _ (λ disk ends good. absurd (refuted disk input ends.1 good))) h
+    → OnInput job before (λ input. OnDisk job reads (λ disk. Appends old new (output_by job disk input) × Bad disk input)) → Completes job reads before s
+at_fault job reads before old new s Bad refuted h = in_each job before _ _ (λ input. on_each job reads _ _ (λ disk ends good. absurd (refuted disk input ends.1 good))) h
 
 at_rest : (job : Option Job) (reads before : Option (List ℕ)) (s : Status) → (s ≡ status.Done) ⊎ (s ≡ status.Memory) → Completes job reads before s
-at_rest job reads before s e = if_all before _ (λ input. on_all job reads _ (λ disk good. e))
+at_rest job reads before s e = in_all job before _ (λ input. on_all job reads _ (λ disk good. e))
 
 pub completes : (job : Option Job) (reads before after old new : Option (List ℕ)) (s : Status) → (s ≡ status.ReadFault → ⊥) → (s ≡ status.WriteFault → ⊥) → (s ≡ status.DiskFault → ⊥)
     → WritesBy job reads before after old new s → Completes job reads before s

@@ -1,6 +1,7 @@
 -- The start of a node with a journal, and what its disk holds from then on.
-use Rattle.std.proofs.Common.{◌≡◌, ◌⊎◌, inl, inr, ⊎_elim, ℕ, ◌≤◌, true, List, [], ◌∷◌, ◌++◌, length, map, Option, Some, None, IsSome, Result, Ok, Err, refl, sym, ap, subst, ◌∙◌, arith}
+use Rattle.std.proofs.Common.{◌≡◌, ◌⊎◌, inl, inr, ⊎_elim, ℕ, ◌≤◌, true, List, [], ◌∷◌, ◌++◌, length, map, Option, Some, None, IsSome, Result, Ok, Err, refl, sym, ap, subst, ◌∙◌, arith, length-append}
 use Rattle.std.proofs.lemmas.List.{append-nil}
+use Rattle.std.specs.Io.KnownBytes.{Consumes}
 use Rattle.sp_ids.specs.Digest.{sha256_number}
 use Rattle.sp_block.specs.Block.{ReadBlock}
 use Rattle.sp_disk.specs.Images.{Among}
@@ -9,6 +10,7 @@ use Rattle.sp_disk.proofs.Runs.{ends, joined, weaker}
 use Rattle.sp_engine.specs.Blocks.{block_in}
 use Rattle.sp_feed.specs.Calls.{GivesHead}
 use Rattle.sp_feed.specs.Feed.{Feed as FeedOf, rest_of, with_head}
+use Rattle.sp_feed.specs.Format.{Head}
 use Rattle.sp_feed.specs.Genesis.{ReadHead}
 use Rattle.sp_feed.specs.Reader.{head_in}
 use Rattle.sp_feed.specs.Reads.{Moment}
@@ -27,6 +29,7 @@ use Rattle.sp_node.specs.declared.start.StartFault.{StartFault}
 use Rattle.sp_node.specs.declared.start.StartFault.TheVariants as starts
 use Rattle.sp_node.specs.declared.stored.Stored.{Stored}
 use Rattle.sp_node.specs.declared.stored.Stored.TheVariants.{Empty, Found}
+use Rattle.spectre.specs.Chains.{EndAtHead}
 use Rattle.spectre.specs.Crashes.{all_of, contents_of, HoldsAcknowledged, HoldsAtLeast, HoldsFoundOrMore}
 use Rattle.spectre.specs.Keeping.{bytes_of, FitsStored, IsAmissOn, IsUntried, KeepAnswers, of_answers, of_head, of_start, records_in, TriedBy, Tries, UntriedBy}
 use Rattle.spectre.specs.Replay.{fed, feed_limit}
@@ -36,7 +39,7 @@ use Rattle.spectre.specs.declared.keep.KeepFault.TheVariants.{DiskFault, Memory,
 use Rattle.spectre.specs.declared.replay.ReplayFault.{ReplayFault}
 use Rattle.spectre.specs.declared.replay.ReplayFault.TheVariants as replays
 use Rattle.spectre.proofs.Replayed.{with_input}
-use Rattle.spectre.proofs.Replies.{head_answered, head_needed, nothing_read, rest_none}
+use Rattle.spectre.proofs.Replies.{head_answered, head_needed, rest_none}
 
 -- a disk of which nothing was asked
 pub looks_same : (m : DiskMoment) → Looks m m
@@ -53,6 +56,13 @@ module _ {start now : Moment} {head : ReadHead} (g : GivesHead feed_limit start 
 
   pub none_read : all_of g.given ≡ []
   none_read = ap (λ (f : FeedOf). f.messages) head_alone ∙ rest_none feed_limit now.taken
+
+-- nothing behind the head was taken
+pub head_ends : {start now : Moment} {X : Type 0} {view : X → Head} {r : Result X HeadFault} (g : GivesHead feed_limit start now view r) → EndAtHead g.given
+head_ends g front rest e l = ap (λ (f : FeedOf). f.head) (g.needs front rest e l)
+
+pub none_ends : EndAtHead []
+none_ends front rest e l = absurd (omega (arith, ap length e, length-append front rest, l))
 
 -- the same chain, as the definitions of the command have it
 pub chain_fits : (stored : Stored) (head : ReadHead) → IsOfSame stored head → FitsStored stored (Some (head_in head))
@@ -82,16 +92,27 @@ untried_head stored old first e g = record {
   given = g.given;
   took = g.took;
   needed = head_needed g;
+  headed = head_ends g;
   answered = head_answered (bytes_of stored) old g;
   silent = refl;
   why = silent_head stored first e g;
 }
 
 -- nothing was read
+nothing_consumed : (left : Option (List ℕ)) → Consumes left left []
+nothing_consumed None = tt
+nothing_consumed (Some xs) = refl
+
 pub untried_none : (stored : Stored) (start : Moment) (old : Option (List ℕ)) (first : DiskMoment) → start.taken ≤ feed_limit → KeepAnswers stored start start old old first first (Err Memory)
-untried_none stored start old first few =
-    let r = nothing_read (bytes_of stored) start old few in
-    inl (record { given = r.given; took = r.took; needed = r.needed; answered = r.answered; silent = refl; why = looks_same first })
+untried_none stored start old first few = inl (record {
+  given = [];
+  took = record { consumed = nothing_consumed start.left; counted = omega arith; within = few; later = omega arith };
+  needed = λ front rest e l. absurd (omega (arith, ap length e, length-append front rest, l));
+  headed = none_ends;
+  answered = λ front rest e l. absurd (omega (arith, ap length e, length-append front rest, l));
+  silent = refl;
+  why = looks_same first;
+})
 
 -- the start failed
 abbrev pub StartFails : Stored → ReadHead → StartFault → Type 0
@@ -123,6 +144,7 @@ module _ (stored : Stored) {start now : Moment} (old : Option (List ℕ)) (first
     given = g.given;
     took = g.took;
     needed = head_needed g;
+    headed = head_ends g;
     answered = head_answered (bytes_of stored) old g;
     silent = refl;
     why = by_start fault fails created leaves at_found memory;
@@ -165,6 +187,14 @@ module _ (stored : Stored) {start mid now : Moment} {old new : Option (List ℕ)
       subst (λ (m : DiskMoment). Leaves m last (HoldsFoundOrMore (records_in (Found o)) given)) (sym (same_disk tt))
       (weaker here last (HoldsAtLeast (length (bytes_of (Found o))) (bytes_of (Found o)) given) (HoldsFoundOrMore (records_in (Found o)) given) (run (told.0 is)) (λ image h. inr h))
 
+  from_found : (s : Stored) → ((image : List ℕ) → records image ≡ found (journal_in bits kept) → HoldsAtLeast (length (bytes_of s)) (bytes_of s) given image) → kept ≡ head.genesis ∷ stored_blocks s → IsOfSame s head
+      → IsFound s → (image : List ℕ) → records image ≡ records_in s → HoldsAtLeast (length (bytes_of s)) (bytes_of s) given image
+  from_found (Empty gate) from k same is image e = absurd is
+  from_found (Found o) from k same is image e =
+      let made : journal_in bits kept ≡ contents head.bits head.genesis.bytes (bytes_of (Found o)) = (λ i. journal_in (b i) (k i)) in
+      let here : contents o.bits o.genesis.bytes (bytes_of (Found o)) ≡ contents head.bits head.genesis.bytes (bytes_of (Found o)) = (λ i. contents (same.bits i) (same.genesis i) (bytes_of (Found o))) in
+      from image (e ∙ ap found (here ∙ sym made))
+
   whole_by : (r : Result (Unit {0}) ReplayFault) → OnAll r (HoldsOn w last (λ image. records image ≡ found (contents_of (bytes_of stored) given (all_of given))))
       → OnAll r (IsTold first → Among (λ image. records image ≡ found (contents_of (bytes_of stored) given (all_of given))) last.images)
   whole_by (Ok u) h = λ is. if_told w last (λ image. records image ≡ found (contents_of (bytes_of stored) given (all_of given))) has h (told_then.0 (told.0 is))
@@ -178,6 +208,7 @@ module _ (stored : Stored) {start mid now : Moment} {old new : Option (List ℕ)
     rest.0,
     record {
       fits = with_input (λ input. FitsStored stored (fed input).head) start.left mid.left g.given g.took.consumed (λ more e. subst (FitsStored stored) (sym (head_whole g more)) (chain_fits stored head same));
+      from = from_found stored from_here k same;
       any_moment = any_by stored leaves found_same run_here from_here k;
       now = λ is image left. (ends here last _ law (run_here (told.0 is)) image left, if_told w last (HoldsAcknowledged (bytes_of stored) given old new) has rest.1.acknowledged (told_then.0 (told.0 is)) image left);
       whole = whole_by result rest.1.whole;

@@ -19,7 +19,7 @@ use Rattle.sp_feed.specs.declared.fault.FeedFault.TheVariants as faults
 use Rattle.sp_io.specs.Whole.{AppendsFront}
 use Rattle.sp_io.proofs.Writing.{appends_then, wrote_none}
 use Rattle.sp_journal.specs.Creation.{HoldsNoneOrNew, IsSynced}
-use Rattle.sp_journal.specs.Journal.{contents}
+use Rattle.sp_journal.specs.Journal.{Contents, contents}
 use Rattle.sp_journal.specs.Opening.{contents_in}
 use Rattle.sp_journal.specs.Records.{Found as found, NoJournal, Records, records}
 use Rattle.sp_journal.specs.declared.gate_kind.Gate.{Gate}
@@ -27,10 +27,11 @@ use Rattle.sp_node.specs.Answers.{answers}
 use Rattle.sp_node.specs.Stored.{Tells}
 use Rattle.sp_node.specs.declared.stored.Stored.{Stored}
 use Rattle.sp_node.specs.declared.stored.Stored.TheVariants.{Empty, Found}
+use Rattle.spectre.specs.Chains.{EndAtHead, EndsAtHead, EndsByChain}
 use Rattle.spectre.specs.Codes.{code_of}
-use Rattle.spectre.specs.Crashes.{all_of, contents_by, EndsEarly, contents_of, contents_under, HoldsAcknowledged, HoldsAtLeast, HoldsFoundOrMore, IsSure, Recovers, Recovery}
+use Rattle.spectre.specs.Crashes.{all_of, contents_by, EndsEarly, contents_of, contents_under, HoldsAcknowledged, HoldsAtLeast, HoldsFoundOrMore, HoldsOnward, IsSure, Recovers, Recovery}
 use Rattle.spectre.specs.Faults.{EndsMalformed, EndsTooLong, EndsTruncated, EndsWhole, feed_fault_text, status_of}
-use Rattle.spectre.specs.Journals.{Fits, found_blocks, HasOtherChain, kept_output, other_chain_text}
+use Rattle.spectre.specs.Journals.{Fits, FitsHead, found_blocks, HasOtherChain, kept_output, other_chain_text}
 use Rattle.spectre.specs.Keeping.{bytes_of, FitsStored, IsAmiss, IsUntried, KeepAnswers, NamesBothOf, UntriedBy}
 use Rattle.spectre.specs.Kept.{EndsBy, KeptEnds, OnBoth}
 use Rattle.spectre.specs.Replay.{but_last, fed, lines_under, replied, replied_but_last}
@@ -42,6 +43,8 @@ use Rattle.spectre.specs.declared.replay.ReplayFault.TheVariants as replays
 use Rattle.spectre.specs.declared.status.Status.{Status}
 use Rattle.spectre.specs.declared.status.Status.TheVariants as status
 use Rattle.spectre.proofs.KeptRuns.{Accepts, answered_recovery, at_one, early_recovery, feed_taken, fits_here, fits_there, fitting, front_of_text, holds_all, looked_since, on_both, on_one, other_is, other_recovery, same_found, stopped_recovery, sure_synced, told_by, whole_text}
+use Rattle.spectre.proofs.Keeping.{none_ends}
+use Rattle.spectre.proofs.Onward.{answered_stays, looked_stays}
 use Rattle.spectre.proofs.Replayed.{done_rest, done_text, Ends, fault_front, fault_written, is_malformed, is_too_long, is_truncated, limit_taken, memory_text, nothing_left, takes, takes_then, with_input, write_text}
 use Rattle.spectre.proofs.Replies.{appends_none, fault_says, lines_are}
 use Rattle.spectre.proofs.Running.{whole_front}
@@ -88,6 +91,29 @@ appends_same old new e = subst (λ (o : Option (List ℕ)). Appends old o []) (s
 front_none : (left reads : Option (List ℕ)) (old new : Option (List ℕ)) (text : List ℕ → List ℕ → List ℕ) → new ≡ old → OnBoth left reads (λ disk input. AppendsFront old new (text disk input))
 front_none left reads old new text e = on_both left reads _ (λ disk input l r. subst (λ (o : Option (List ℕ)). AppendsFront old o (text disk input)) (sym e) (text disk input, wrote_none old (text disk input)))
 
+-- ---- the feed is of another chain
+
+-- the disk of another chain doesn't fit the feed
+pub other_misfits : (fresh : Bool) (disk input : List ℕ) → HasOtherChain disk input → Fits fresh disk input → ⊥
+other_misfits fresh disk input h fits =
+    h.other (subst (λ (r : Records). FitsHead fresh disk r (Some h.head)) h.found (subst (λ (o : Option Head). FitsHead fresh disk (records disk) o) h.begins fits))
+
+-- so the chain of a node that was started is that of the feed
+pub fitting_chain : (fresh : Bool) (stored : Stored) (left reads after : Option (List ℕ)) (s : Status) → IfSome reads (λ disk. Tells fresh disk (Ok stored)) → IfSome left (λ input. FitsStored stored (fed input).head)
+    → OnBoth left reads (λ disk input. HasOtherChain disk input → EndsAtHead left after s)
+fitting_chain fresh stored left reads after s tells fits = on_both left reads _ (λ disk input l r other.
+    absurd (other_misfits fresh disk input other (fits_there fresh disk stored input (at_one (λ (d : List ℕ). Tells fresh d (Ok stored)) r tells) (at_one (λ (i : List ℕ). FitsStored stored (fed i).head) l fits))))
+
+-- a feed without a head is of no chain
+headless_chain : (left reads after : Option (List ℕ)) (s : Status) → IfSome left (λ input. (fed input).head ≡ None) → OnBoth left reads (λ disk input. HasOtherChain disk input → EndsAtHead left after s)
+headless_chain left reads after s none = on_both left reads _ (λ disk input l r other. (
+    let no : None ≡ Some other.head = sym (at_one (λ (i : List ℕ). (fed i).head ≡ None) l none) ∙ other.begins in absurd cc))
+
+-- where none was started, the head was taken at most
+pub untried_chain : (stored : Stored) {start now : Moment} {old new : Option (List ℕ)} {first last : DiskMoment} {result : Result (Unit {0}) KeepFault} (reads : Option (List ℕ)) (s : Status) → IsUntried stored start now old new first last result → EndsByChain s → (s ≡ status.DiskFault → ⊥)
+    → OnBoth start.left reads (λ disk input. HasOtherChain disk input → EndsAtHead start.left now.left s)
+untried_chain stored {start = start} reads s u ends not_disk = on_both start.left reads _ (λ disk input l r other. (ends, record { given = u.given; consumed = u.took.consumed; needed = u.headed; opened = λ e. absurd (not_disk e) }))
+
 module _ (fresh : Bool) (stored : Stored) {start now : Moment} (old : Option (List ℕ)) (first last : DiskMoment) (law : IsMoment first) (last_law : IsMoment last) (tells : IfSome first.reads (λ disk. Tells fresh disk (Ok stored))) where
   untried_takes : {new : Option (List ℕ)} {result : Result (Unit {0}) KeepFault} → IsUntried stored start now old new first last result → TakesFeed (bytes_of stored) start.left now.left old old
   untried_takes u = record { given = u.given; consumed = u.took.consumed; within = omega (arith, u.took.counted, u.took.within); needed = u.needed; answered = u.answered }
@@ -102,6 +128,8 @@ module _ (fresh : Bool) (stored : Stored) {start now : Moment} (old : Option (Li
       done_rest t.0,
     );
     taken = feed_taken fresh stored start.left first.reads tells now.left old new (takes t.0);
+    onward = answered_stays fresh stored first last law tells {result = Ok tt} (inr t);
+    chain = fitting_chain fresh stored start.left first.reads now.left status.Done tells t.1.fits;
     recovery = on_both start.left first.reads _ (λ disk input l r. answered_recovery fresh disk input stored (at_one (λ (d : List ℕ). Tells fresh d (Ok stored)) r tells) new first last law r l t (t.1.whole (told_by first disk r)) status.Done);
   }
 
@@ -111,6 +139,8 @@ module _ (fresh : Bool) (stored : Stored) {start now : Moment} (old : Option (Li
   exit_write {new = new} (inr t) = record {
     by = front_of_text fresh stored start.left first.reads tells old new (fitting fresh stored start.left first.reads tells t.1.fits) (write_text t.0);
     taken = feed_taken fresh stored start.left first.reads tells now.left old new (takes t.0);
+    onward = answered_stays fresh stored first last law tells {result = Err WriteFault} (inr t);
+    chain = fitting_chain fresh stored start.left first.reads now.left status.WriteFault tells t.1.fits;
     recovery = on_both start.left first.reads _ (λ disk input l r. stopped_recovery fresh disk input stored (at_one (λ (d : List ℕ). Tells fresh d (Ok stored)) r tells) first last law r l t status.WriteFault (λ e. cc));
   }
 
@@ -119,18 +149,22 @@ module _ (fresh : Bool) (stored : Stored) {start now : Moment} (old : Option (Li
   exit_memory {new = new} (inl u) = record {
     by = front_none start.left first.reads old new (kept_output fresh) u.silent;
     taken = subst (λ (o : Option (List ℕ)). IfSome first.reads (λ disk. TakesFeed (found_blocks disk) start.left now.left old o)) (sym u.silent) (feed_taken fresh stored start.left first.reads tells now.left old old (untried_takes u));
+    onward = answered_stays fresh stored first last law tells {result = Err Memory} (inl u);
+    chain = untried_chain stored first.reads status.Memory u tt (λ e. cc);
     recovery = on_both start.left first.reads _ (λ disk input l r.
-        early_recovery fresh disk input now.left old new first last status.Memory law last_law r u.given (subst (λ (o : Option (List ℕ)). Consumes o now.left u.given) l u.took.consumed) u.why (appends_same old new u.silent) tt);
+        early_recovery fresh disk input now.left old new first last status.Memory law last_law r u.given (subst (λ (o : Option (List ℕ)). Consumes o now.left u.given) l u.took.consumed) u.why (appends_same old new u.silent) tt u.headed (λ e. cc));
   }
   exit_memory {new = new} (inr t) = record {
     by = front_of_text fresh stored start.left first.reads tells old new (fitting fresh stored start.left first.reads tells t.1.fits) (memory_text t.0);
     taken = feed_taken fresh stored start.left first.reads tells now.left old new (takes t.0);
+    onward = answered_stays fresh stored first last law tells {result = Err Memory} (inr t);
+    chain = fitting_chain fresh stored start.left first.reads now.left status.Memory tells t.1.fits;
     recovery = on_both start.left first.reads _ (λ disk input l r. stopped_recovery fresh disk input stored (at_one (λ (d : List ℕ). Tells fresh d (Ok stored)) r tells) first last law r l t status.Memory (λ e. cc));
   }
 
 -- ---- the disk failed
 
-module _ (fresh : Bool) (first last : DiskMoment) (law : IsMoment first) (last_law : IsMoment last) (old : Option (List ℕ)) (given : List ℕ) (m : IsAmiss given first last) where
+module _ (fresh : Bool) (first last : DiskMoment) (law : IsMoment first) (last_law : IsMoment last) (old : Option (List ℕ)) (given : List ℕ) (headed : EndAtHead given) (m : IsAmiss given first last) where
   amiss_head : (fed given).head ≡ Some (head_of m.bits m.genesis.bytes)
   amiss_head = ap (λ (l : List ℕ). (fed l).head) (sym (append-nil given)) ∙ m.whole []
 
@@ -164,7 +198,7 @@ module _ (fresh : Bool) (first last : DiskMoment) (law : IsMoment first) (last_l
         now = λ fit sure image l.
             let synced = sure_synced first old new status.DiskFault (appends_same old new silent) (λ e. cc) sure in
             subst (λ (x : Records). Recovers x given old new status.DiskFault image) (sym none)
-            (⊎_elim (λ (no_one : records image ≡ NoJournal). inl (no_one, record { ends = tt; silent = appends_same old new silent })) (λ one. inr (amiss_holds new image one))
+            (⊎_elim (λ (no_one : records image ≡ NoJournal). inl (no_one, record { ends = tt; silent = appends_same old new silent; headed = headed; unstarted = λ e. cc })) (λ one. inr (amiss_holds new image one))
             (ends first last (HoldsNoneOrNew (contents m.bits m.genesis.bytes [])) last_law (run synced) image l));
         whole = λ fit done. absurd (let no : status.DiskFault ≡ status.Done = done in cc);
         any_moment = λ fit synced. subst (λ (x : Records). Leaves first last (HoldsFoundOrMore x given)) (sym none)
@@ -177,10 +211,13 @@ exit_amiss : (fresh : Bool) (gate : Gate) {start now : Moment} (old : Option (Li
     → IsUntried (Empty gate) start now old new first last (Err DiskFault) → KeptEnds fresh first.reads start.left now.left old new first last status.DiskFault
 exit_amiss fresh gate {start = start} {now = now} old first last law last_law tells {new = new} u = record {
   by = same_found fresh (Empty gate) start.left first.reads tells (λ (l : List (List ℕ)). (given : List ℕ) × Consumes start.left now.left given × Appends old new (replied_but_last l given))
-      (u.given, u.took.consumed, subst (λ (x : List ℕ). Appends old new x) (sym (amiss_silent fresh first last law last_law old u.given u.why)) (appends_same old new u.silent));
+      (u.given, u.took.consumed, subst (λ (x : List ℕ). Appends old new x) (sym (amiss_silent fresh first last law last_law old u.given u.headed u.why)) (appends_same old new u.silent));
   taken = subst (λ (o : Option (List ℕ)). IfSome first.reads (λ disk. TakesFeed (found_blocks disk) start.left now.left old o)) (sym u.silent) (feed_taken fresh (Empty gate) start.left first.reads tells now.left old old (untried_takes fresh (Empty gate) old first last law last_law tells u));
+  onward = answered_stays fresh (Empty gate) first last law tells {result = Err DiskFault} (inl u);
+  chain = on_both start.left first.reads _ (λ disk input l r other. (
+      let no : NoJournal ≡ found other.contents = sym (at_one (λ (d : List ℕ). Tells fresh d (Ok (Empty gate))) r tells).0.none ∙ other.found in absurd cc));
   recovery = on_both start.left first.reads _ (λ disk input l r.
-      amiss_recovery fresh first last law last_law old u.given u.why gate disk input now.left new r (at_one (λ (d : List ℕ). Tells fresh d (Ok (Empty gate))) r tells) (subst (λ (o : Option (List ℕ)). Consumes o now.left u.given) l u.took.consumed) u.silent);
+      amiss_recovery fresh first last law last_law old u.given u.headed u.why gate disk input now.left new r (at_one (λ (d : List ℕ). Tells fresh d (Ok (Empty gate))) r tells) (subst (λ (o : Option (List ℕ)). Consumes o now.left u.given) l u.took.consumed) u.silent);
 }
 
 pub exit_disk : (fresh : Bool) (stored : Stored) {start now : Moment} (old : Option (List ℕ)) (first last : DiskMoment) → IsMoment first → IsMoment last → IfSome first.reads (λ disk. Tells fresh disk (Ok stored)) → {new : Option (List ℕ)}
@@ -188,6 +225,8 @@ pub exit_disk : (fresh : Bool) (stored : Stored) {start now : Moment} (old : Opt
 exit_disk fresh stored {start = start} {now = now} old first last law last_law tells {new = new} (inr t) = record {
   by = same_found fresh stored start.left first.reads tells (λ (l : List (List ℕ)). (given : List ℕ) × Consumes start.left now.left given × Appends old new (replied_but_last l given)) (t.0.given, t.0.took.consumed, t.0.says.0);
   taken = feed_taken fresh stored start.left first.reads tells now.left old new (takes t.0);
+  onward = answered_stays fresh stored first last law tells {result = Err DiskFault} (inr t);
+  chain = fitting_chain fresh stored start.left first.reads now.left status.DiskFault tells t.1.fits;
   recovery = on_both start.left first.reads _ (λ disk input l r. stopped_recovery fresh disk input stored (at_one (λ (d : List ℕ). Tells fresh d (Ok stored)) r tells) first last law r l t status.DiskFault (λ e. cc));
 }
 exit_disk fresh (Empty gate) old first last law last_law tells (inl u) = exit_amiss fresh gate old first last law last_law tells u
@@ -226,6 +265,13 @@ looked stored start now given first last (faults.Malformed at) w = w.1
 looked stored start now given first last (faults.Truncated at) w = w.2
 looked stored start now given first last faults.ReadFault w = w.2
 looked stored start now given first last (faults.TooLong taken) w = w.1
+
+-- where a read failed, no whole head had come
+unheaded : (stored : Stored) (start now : Moment) (given : List ℕ) (first last : DiskMoment) (e : FeedFault) → e ≡ faults.ReadFault → UntriedBy stored start now given first last (Err (Feed e)) → (fed given).head ≡ None
+unheaded stored start now given first last (faults.Malformed at) is w = absurd cc
+unheaded stored start now given first last (faults.Truncated at) is w = absurd cc
+unheaded stored start now given first last faults.ReadFault is w = ap (λ (f : FeedOf). f.head) w.0
+unheaded stored start now given first last (faults.TooLong taken) is w = absurd cc
 
 is_read : (e : FeedFault) → (e ≡ faults.ReadFault) ⊎ (e ≡ faults.ReadFault → ⊥)
 is_read (faults.Malformed at) = inr (λ x. cc)
@@ -294,6 +340,14 @@ exit_feed fresh stored {start = start} {now = now} old first last law last_law t
     | inr no_write ↦ subst (EndsBy fresh first.reads start.left now.left old new) (sym (same no_write)) (by_fault fresh stored old first last law last_law tells new e a (text no_write) front)
   ];
   taken = feed_taken_now fresh stored old first last law last_law tells new e a result same text front read;
+  onward = answered_stays fresh stored first last law tells a;
+  chain = elim a [
+    | inr t ↦ fitting_chain fresh stored start.left first.reads now.left result tells t.1.fits
+    | inl u ↦ elim (is_read e) [
+      | inl is ↦ untried_chain stored first.reads result u (subst EndsByChain (sym (read is)) tt) (λ d. (let no : status.ReadFault ≡ status.DiskFault = sym (read is) ∙ d in cc))
+      | inr other ↦ headless_chain start.left first.reads now.left result (headless stored start now u.given first last e other u.took.consumed u.why)
+    ]
+  ];
   recovery = on_both start.left first.reads _ (λ disk input l x.
       let t = at_one (λ (d : List ℕ). Tells fresh d (Ok stored)) x tells in
       elim a [
@@ -301,7 +355,7 @@ exit_feed fresh stored {start = start} {now = now} old first last law last_law t
         | inl u ↦ elim (is_read e) [
           | inl is ↦ (let silent : Appends old new [] = (let b = subst (λ (f : FeedFault). Appends mid new (feed_fault_text f)) is (text (λ h. let no : status.WriteFault ≡ status.ReadFault = sym h ∙ read is in cc)) in subst (λ (o : Option (List ℕ)). Appends o new []) u.silent b) in
               subst (Recovery fresh disk input now.left old new first last) (sym (read is))
-              (early_recovery fresh disk input now.left old new first last status.ReadFault law last_law x u.given (subst (λ (o : Option (List ℕ)). Consumes o now.left u.given) l u.took.consumed) (looked stored start now u.given first last e u.why) silent tt))
+              (early_recovery fresh disk input now.left old new first last status.ReadFault law last_law x u.given (subst (λ (o : Option (List ℕ)). Consumes o now.left u.given) l u.took.consumed) (looked stored start now u.given first last e u.why) silent tt u.headed (λ f. unheaded stored start now u.given first last e is u.why)))
           | inr other ↦ other_recovery fresh disk input now.left old new first last result law last_law x u.given (subst (λ (o : Option (List ℕ)). Consumes o now.left u.given) l u.took.consumed) (looked stored start now u.given first last e u.why)
               (λ fits. let none = at_one (λ (i : List ℕ). (fed i).head ≡ None) l (headless stored start now u.given first last e other u.took.consumed u.why) in
               let no : FitsStored stored None = subst (FitsStored stored) none (fits_here fresh disk stored input t fits) in absurd no)
@@ -329,6 +383,8 @@ exit_other fresh stored {start = start} {now = now} old first last law last_law 
   ];
   taken = feed_taken fresh stored start.left first.reads tells now.left old new (takes_then (bytes_of stored) start.left now.left old mid new (other_chain_text b c d e)
       (subst (λ (o : Option (List ℕ)). TakesFeed (bytes_of stored) start.left now.left old o) (sym u.silent) (untried_takes fresh stored old first last law last_law tells u)) front);
+  onward = answered_stays fresh stored first last law tells {result = Err (OtherChain b c d e)} (inl u);
+  chain = untried_chain stored first.reads result u (line_ends EndsByChain result status.OtherChain same tt tt) (line_ends (λ s. s ≡ status.DiskFault → ⊥) result status.OtherChain same (λ e. cc) (λ e. cc));
   recovery = on_both start.left first.reads _ (λ disk input l x. other_recovery fresh disk input now.left old new first last result law last_law x u.given (subst (λ (o : Option (List ℕ)). Consumes o now.left u.given) l u.took.consumed) u.why.1
       (λ fits. u.why.0.other (subst (FitsStored stored) (head_is disk input l) (fits_here fresh disk stored input (at_one (λ (y : List ℕ). Tells fresh y (Ok stored)) x tells) fits))));
 }
@@ -375,11 +431,36 @@ pub ends_on : (fresh : Bool) (before after old new : Option (List ℕ)) (first m
 ends_on fresh before after old new first mid last s law looks k = record {
   by = subst (λ (o : Option (List ℕ)). EndsBy fresh o before after old new s) looks.reads k.by;
   taken = subst (λ (o : Option (List ℕ)). IfSome o (λ disk. TakesFeed (found_blocks disk) before after old new)) looks.reads k.taken;
+  onward = on_one first.reads _ (λ disk r synced. joined first mid last (λ image. records image ≡ records disk) (HoldsOnward (records disk)) (HoldsOnward (records disk)) (looked_since first mid law disk r looks synced)
+      (at_one (λ (d : List ℕ). IsSynced mid → Leaves mid last (HoldsOnward (records d))) (looks.reads ∙ r) k.onward (synced_on first mid looks synced)) (λ image h. inl h) (λ image h. h));
+  chain = subst (λ (o : Option (List ℕ)). OnBoth before o (λ disk input. HasOtherChain disk input → EndsAtHead before after s)) looks.reads k.chain;
   recovery = on_map before first.reads _ _ (λ disk input l r h. recovery_on fresh disk input after old new first mid last s law r looks h)
       (subst (λ (o : Option (List ℕ)). OnBoth before o (λ disk input. Recovery fresh disk input after old new mid last s)) looks.reads k.recovery);
 }
 
 -- ---- the disk wasn't opened
+
+-- what ends a run early may end it where the feed is of another chain, and nothing of it was taken
+early_chain : (s : Status) → EndsEarly s → EndsByChain s
+early_chain status.Done early = early
+early_chain status.Usage early = early
+early_chain status.Malformed early = early
+early_chain status.Truncated early = early
+early_chain status.ReadFault early = tt
+early_chain status.WriteFault early = tt
+early_chain status.DiskFault early = tt
+early_chain status.NotJournal early = early
+early_chain status.OtherChain early = tt
+early_chain status.Memory early = tt
+early_chain status.Damaged early = early
+early_chain status.TooLong early = early
+
+pub nothing_headed : (left : Option (List ℕ)) (s : Status) → EndsByChain s → EndsAtHead left left s
+nothing_headed left s ends = (ends, record { given = []; consumed = none left; needed = none_ends; opened = λ e. refl })
+  where
+    none : (o : Option (List ℕ)) → Consumes o o []
+    none None = tt
+    none (Some xs) = refl
 
 pub nothing_taken : (arrived : List (List ℕ)) (left old : Option (List ℕ)) → TakesFeed arrived left left old old
 nothing_taken arrived left old = record {
@@ -398,12 +479,18 @@ module _ (fresh : Bool) (left old : Option (List ℕ)) (first last : DiskMoment)
   none_consumed : (input : List ℕ) → left ≡ Some input → Consumes (Some input) left []
   none_consumed input l = subst (λ (o : Option (List ℕ)). Consumes (Some input) o []) (sym l) refl
 
+  nothing_begun : (fed []).head ≡ None
+  unfolding feed placed head_form bind
+  nothing_begun = refl
+
   -- an early end
   pub exit_early : (s : Status) → EndsEarly s → EndsBy fresh first.reads left left old old s → KeptEnds fresh first.reads left left old old first last s
   exit_early s early by = record {
     by = by;
     taken = on_one first.reads _ (λ disk r. nothing_taken (found_blocks disk) left old);
-    recovery = on_both left first.reads _ (λ disk input l r. early_recovery fresh disk input left old old first last s law last_law r [] (none_consumed input l) looks (appends_none old) early);
+    onward = looked_stays first last law looks;
+    chain = on_both left first.reads _ (λ disk input l r other. nothing_headed left s (early_chain s early));
+    recovery = on_both left first.reads _ (λ disk input l r. early_recovery fresh disk input left old old first last s law last_law r [] (none_consumed input l) looks (appends_none old) early none_ends (λ e. nothing_begun));
   }
 
   pub silent_memory : EndsBy fresh first.reads left left old old status.Memory
@@ -424,13 +511,16 @@ module _ (fresh : Bool) (left old : Option (List ℕ)) (first last : DiskMoment)
   pub exit_line : (new : Option (List ℕ)) (text : List ℕ) (status_is result : Status)
       → (result ≢ status.WriteFault → result ≡ status_is) → (result ≢ status.WriteFault → Appends old new text) → AppendsFront old new text
       → ((disk input : List ℕ) → first.reads ≡ Some disk → (kept_output fresh disk input ≡ text) × (Fits fresh disk input → ⊥))
+      → ((disk : List ℕ) (c : Contents) → first.reads ≡ Some disk → records disk ≡ found c → ⊥)
       → (OnBoth left first.reads (λ disk input. Appends old new (kept_output fresh disk input)) → EndsBy fresh first.reads left left old new status_is)
       → KeptEnds fresh first.reads left left old new first last result
-  exit_line new text status_is result same whole front says ends_by = record {
+  exit_line new text status_is result same whole front says unfound ends_by = record {
     by = elim (is_write result) [
       | inl is ↦ subst (EndsBy fresh first.reads left left old new) (sym is) (on_both left first.reads _ (λ disk input l r. subst (λ (t : List ℕ). AppendsFront old new t) (sym (says disk input r).0) front))
       | inr no_write ↦ subst (EndsBy fresh first.reads left left old new) (sym (same no_write)) (ends_by (on_both left first.reads _ (λ disk input l r. subst (λ (t : List ℕ). Appends old new t) (sym (says disk input r).0) (whole no_write))))
     ];
     taken = on_one first.reads _ (λ disk r. takes_then (found_blocks disk) left left old old new text (nothing_taken (found_blocks disk) left old) front);
+    onward = looked_stays first last law looks;
+    chain = on_both left first.reads _ (λ disk input l r other. absurd (unfound disk other.contents r other.found));
     recovery = on_both left first.reads _ (λ disk input l r. other_recovery fresh disk input left old new first last result law last_law r [] (none_consumed input l) looks (says disk input r).1);
   }

@@ -24,6 +24,7 @@ use Rattle.sp_node.specs.declared.stored.Stored.TheVariants.{Empty, Found}
 use Rattle.sp_block.specs.Block.{ReadBlock}
 use Rattle.sp_block.specs.declared.fault.BlockFault.{BlockFault}
 use Rattle.sp_engine.specs.Blocks.{block_in}
+use Rattle.spectre.specs.Chains.{EndAtHead}
 use Rattle.spectre.specs.Crashes.{all_of, contents_by, contents_of, contents_under, EndsEarly, HoldsAcknowledged, HoldsAtLeast, HoldsFoundOrMore, IsSure, Recovery, TookMore}
 use Rattle.spectre.specs.Journals.{blocks_in, chained, Fits, FitsHead, found_blocks, IsChainOf, is_chain_of, damaged_text, HasNoJournal, kept_by, kept_output, may_be_new, not_journal_text, other_chain_text}
 use Rattle.spectre.specs.Keeping.{bytes_of, FitsStored, records_in, Tries}
@@ -79,13 +80,13 @@ module _ (fresh : Bool) (disk : List ℕ) where
   is_new (inl none) = let e : (length disk == 0) ≡ true = eq-eqb (length disk) 0 none in ap (λ (b : Bool). fresh || b) e ∙ or_right fresh
   is_new (inr new) = ap (λ (b : Bool). b || (length disk == 0)) new
 
-  chain_yes : (c : Contents) (head : Head) → IsChainOf c head → is_chain_of c head ≡ true
+  pub chain_yes : (c : Contents) (head : Head) → IsChainOf c head → is_chain_of c head ≡ true
   chain_yes c head is =
       let one : (c.bits == head.bits) ≡ true = eq-eqb c.bits head.bits is.bits in
       let two : bytes_eq c.genesis head.genesis ≡ true = (bytes_eq-Decides c.genesis head.genesis).1 is.genesis in
       rw (one, two) refl
 
-  chain_no : (c : Contents) (head : Head) → (IsChainOf c head → ⊥) → is_chain_of c head ≡ false
+  pub chain_no : (c : Contents) (head : Head) → (IsChainOf c head → ⊥) → is_chain_of c head ≡ false
   chain_no c head other = by (c.bits == head.bits) (bytes_eq c.genesis head.genesis) refl refl
     where
       by : (a b : Bool) → (c.bits == head.bits) ≡ a → bytes_eq c.genesis head.genesis ≡ b → is_chain_of c head ≡ false
@@ -161,11 +162,11 @@ early_done s early is = let e : EndsEarly status.Done = subst EndsEarly is early
 
 module _ (fresh : Bool) (disk input : List ℕ) (left old new : Option (List ℕ)) (first last : DiskMoment) (s : Status) (law : IsMoment first) (last_law : IsMoment last) (reads : first.reads ≡ Some disk) (given : List ℕ) (consumed : Consumes (Some input) left given) where
   -- an early end
-  pub early_recovery : Looks first last → Appends old new [] → EndsEarly s → Recovery fresh disk input left old new first last s
-  early_recovery looks silent early = record {
+  pub early_recovery : Looks first last → Appends old new [] → EndsEarly s → EndAtHead given → (s ≡ status.ReadFault → (fed given).head ≡ None) → Recovery fresh disk input left old new first last s
+  early_recovery looks silent early headed unstarted = record {
     given = given;
     consumed = consumed;
-    now = λ fits sure image l. inl (looked_now first last law disk reads looks (sure_synced first old new s silent (early_done s early) sure) image l, record { ends = early; silent = silent });
+    now = λ fits sure image l. inl (looked_now first last law disk reads looks (sure_synced first old new s silent (early_done s early) sure) image l, record { ends = early; silent = silent; headed = headed; unstarted = unstarted });
     whole = λ fits done. absurd (early_done s early done);
     any_moment = λ fits synced. weaker first last (λ image. records image ≡ records disk) (HoldsFoundOrMore (records disk) given) (looked_since first last law disk reads looks synced) (λ image h. inl h);
     other = λ no. looks;

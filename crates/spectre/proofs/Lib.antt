@@ -2,6 +2,7 @@ pub mod Outputs
 pub mod Running
 pub mod Keeping
 pub mod KeptRuns
+pub mod Onward
 pub mod KeptExits
 pub mod Shown
 pub mod TopCall
@@ -9,7 +10,9 @@ pub mod Completing
 pub mod Securing
 pub mod Replies
 pub mod Replayed
-pub mod Resting
+pub mod Talking
 pub mod Played
 pub mod Tallies
 pub mod DiskFirst
+pub mod WholeLines
+pub mod LastLines

@@ -12,13 +12,13 @@ use Rattle.spectre.specs.Output.{is_too_long, source_output}
 use Rattle.spectre.specs.Scenes.{scene_output}
 use Rattle.spectre.specs.declared.purpose.Purpose.{Purpose}
 
-output_long : (purpose : Purpose) (input : List ℕ) → is_too_long input ≡ true → source_output purpose input ≡ too_long_text scenario_limit
+pub output_long : (purpose : Purpose) (input : List ℕ) → is_too_long input ≡ true → source_output purpose input ≡ too_long_text scenario_limit
 output_long purpose input f = ap (λ b. cond b (too_long_text scenario_limit) (scene_output purpose (scene input))) f
 
 pub output_short : (purpose : Purpose) (input : List ℕ) → is_too_long input ≡ false → source_output purpose input ≡ scene_output purpose (scene input)
 output_short purpose input f = ap (λ b. cond b (too_long_text scenario_limit) (scene_output purpose (scene input))) f
 
-is_long : (n : ℕ) → scenario_limit ≤ n → nat_le scenario_limit n ≡ true
+pub is_long : (n : ℕ) → scenario_limit ≤ n → nat_le scenario_limit n ≡ true
 is_long n h = grind (arith)
 
 pub is_short : (n : ℕ) → n < scenario_limit → nat_le scenario_limit n ≡ false

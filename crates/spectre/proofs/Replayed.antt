@@ -26,7 +26,7 @@ with_input P (Some input) None given h f = absurd h
 with_input P (Some input) (Some rest) given h f = subst P (sym h) (f rest refl)
 
 -- the lines of the messages, and then the line of the end
-text_is : (before : List (List ℕ)) (input : List ℕ) (end : End) → (fed input).end ≡ end → replayed before input ≡ replied before input ++ end_text end
+pub text_is : (before : List (List ℕ)) (input : List ℕ) (end : End) → (fed input).end ≡ end → replayed before input ≡ replied before input ++ end_text end
 unfolding replayed replied
 text_is before input end e = ap (λ (x : End). replied before input ++ end_text x) e
 

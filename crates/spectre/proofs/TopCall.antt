@@ -1,19 +1,24 @@
 -- What the top call says of a run with a journal, and of one that wasn't begun for want of memory.
 use Rattle.std.proofs.Common.{◌≡◌, ℕ, Bool, List, [], Option, Some, None, IfSome, refl, sym, subst}
-use Rattle.sp_disk.specs.Moments.{IsMoment, Moment}
+use Rattle.sp_disk.specs.Moments.{IsMoment, Leaves, Moment}
 use Rattle.sp_io.specs.Whole.{AppendsFront}
 use Rattle.sp_io.proofs.Writing.{wrote_none}
-use Rattle.spectre.specs.Crashes.{Recovery}
+use Rattle.sp_journal.specs.Creation.{IsSynced}
+use Rattle.sp_journal.specs.Records.{records}
+use Rattle.spectre.specs.Chains.{EndsAtHead}
+use Rattle.spectre.specs.Crashes.{HoldsOnward, Recovery}
+use Rattle.spectre.specs.Faults.{IsOtherChain}
 use Rattle.spectre.specs.JobEnds.{JobEnds, WritesBy}
 use Rattle.spectre.specs.Kept.{EndsBy, KeptEnds}
-use Rattle.spectre.specs.Output.{blocks_before, OnDisk, OnKeep, output_by}
+use Rattle.spectre.specs.Output.{blocks_before, OnDisk, OnInput, OnKeep, output_by}
 use Rattle.spectre.specs.Taken.{TakesFeed}
 use Rattle.spectre.specs.declared.job.Job.{Job}
 use Rattle.spectre.specs.declared.job.Job.TheVariants as jobs
 use Rattle.spectre.specs.declared.status.Status.{Status}
 use Rattle.spectre.specs.declared.status.Status.TheVariants as status
 use Rattle.spectre.proofs.Keeping.{looks_same}
-use Rattle.spectre.proofs.KeptExits.{exit_early, nothing_taken, silent_memory}
+use Rattle.spectre.proofs.Onward.{looked_stays}
+use Rattle.spectre.proofs.KeptExits.{exit_early, nothing_headed, nothing_taken, silent_memory}
 
 -- what holds by a status
 pub ends_at : {job : Option Job} {reads before after old new : Option (List ℕ)} {first last : Moment} {s : Status} (t : Status) → s ≡ t → JobEnds job reads before after old new first last s → WritesBy job reads before after old new t
@@ -60,6 +65,8 @@ kept_ends path fresh reads before after old new first last s k = record {
   by = kept_by path fresh reads before after old new s k.by;
   taken = λ takes. absurd takes;
   taken_fed = λ _. k.taken;
+  chain = k.chain;
+  onward = k.onward;
   crash = k.recovery;
 }
 
@@ -82,13 +89,27 @@ on_all (Some jobs.Build) reads P f = f []
 on_all (Some (jobs.Make n seed width)) reads P f = f []
 on_all (Some (jobs.Drill n seed width)) reads P f = f []
 
+pub in_all : (job : Option Job) (left : Option (List ℕ)) (P : List ℕ → Type 0) → ((input : List ℕ) → P input) → OnInput job left P
+in_all None left P f = f []
+in_all (Some jobs.Replay) left P f = if_all left P f
+in_all (Some (jobs.Keep path fresh)) left P f = if_all left P f
+in_all (Some (jobs.Show path)) left P f = f []
+in_all (Some jobs.Play) left P f = if_all left P f
+in_all (Some jobs.Build) left P f = if_all left P f
+in_all (Some (jobs.Make n seed width)) left P f = f []
+in_all (Some (jobs.Drill n seed width)) left P f = f []
+
 -- nothing was written
-pub nothing_written : (job : Option Job) (left reads a : Option (List ℕ)) → IfSome left (λ input. OnDisk job reads (λ bytes. AppendsFront a a (output_by job bytes input)))
-nothing_written job left reads a = if_all left _ (λ input. on_all job reads _ (λ bytes. (output_by job bytes input, wrote_none a (output_by job bytes input))))
+pub nothing_written : (job : Option Job) (left reads a : Option (List ℕ)) → OnInput job left (λ input. OnDisk job reads (λ bytes. AppendsFront a a (output_by job bytes input)))
+nothing_written job left reads a = in_all job left _ (λ input. on_all job reads _ (λ bytes. (output_by job bytes input, wrote_none a (output_by job bytes input))))
 
 -- nor taken
 pub nothing_fed : (job : Option Job) (left reads a : Option (List ℕ)) → OnDisk job reads (λ bytes. TakesFeed (blocks_before job bytes) left left a a)
 nothing_fed job left reads a = on_all job reads _ (λ bytes. nothing_taken (blocks_before job bytes) left a)
+
+-- nor behind a head
+pub nothing_behind : (job : Option Job) (left reads : Option (List ℕ)) → OnInput job left (λ input. OnDisk job reads (λ bytes. IsOtherChain job bytes input → EndsAtHead left left status.Memory))
+nothing_behind job left reads = in_all job left _ (λ input. on_all job reads _ (λ bytes other. nothing_headed left status.Memory tt))
 
 -- nor asked of the disk
 pub nothing_asked : (job : Option Job) (left a : Option (List ℕ)) (m : Moment) → IsMoment m → OnKeep job (λ fresh. IfSome left (λ input. IfSome m.reads (λ bytes. Recovery fresh bytes input left a a m m status.Memory)))
@@ -100,3 +121,14 @@ nothing_asked (Some jobs.Play) left a m law = tt
 nothing_asked (Some jobs.Build) left a m law = tt
 nothing_asked (Some (jobs.Make n seed width)) left a m law = tt
 nothing_asked (Some (jobs.Drill n seed width)) left a m law = tt
+
+-- so what was found stays
+pub nothing_lost : (job : Option Job) (m : Moment) → IsMoment m → OnKeep job (λ fresh. IfSome m.reads (λ bytes. IsSynced m → Leaves m m (HoldsOnward (records bytes))))
+nothing_lost None m law = tt
+nothing_lost (Some jobs.Replay) m law = tt
+nothing_lost (Some (jobs.Keep path fresh)) m law = looked_stays m m law (looks_same m)
+nothing_lost (Some (jobs.Show path)) m law = tt
+nothing_lost (Some jobs.Play) m law = tt
+nothing_lost (Some jobs.Build) m law = tt
+nothing_lost (Some (jobs.Make n seed width)) m law = tt
+nothing_lost (Some (jobs.Drill n seed width)) m law = tt

@@ -1,5 +1,5 @@
 -- What a crash leaves of the disk of a node.
-use Rattle.std.specs.Prelude.{◌≡◌, ◌⊎◌, ℕ, ◌<◌, true, Bool, List, [], ◌++◌, length, Option, Some, None, IsSome, Result, Ok, Err}
+use Rattle.std.specs.Prelude.{◌≡◌, ◌⊎◌, ℕ, ◌<◌, true, Bool, List, [], ◌∷◌, ◌++◌, length, Option, Some, None, IsSome, Result, Ok, Err}
 use Rattle.std.specs.List.{flat_map}
 use Rattle.std.specs.Io.KnownBytes.{Appends, Consumes}
 use Rattle.sp_block.specs.Block.{ReadBlock}
@@ -14,11 +14,13 @@ use Rattle.sp_io.specs.Whole.{AppendsAtLeast}
 use Rattle.sp_journal.specs.Creation.{IsSynced}
 use Rattle.sp_journal.specs.Journal.{Contents, contents}
 use Rattle.sp_journal.specs.Prefixes.{HoldsFront}
-use Rattle.sp_journal.specs.Records.{Found, Records, records}
+use Rattle.sp_journal.specs.Records.{Damaged, Found, NoJournal, Records, records}
 use Rattle.sp_node.specs.Answers.{arrivals_of}
 use Rattle.sp_node.specs.Journalled.{journal_in}
+use Rattle.spectre.specs.Chains.{EndAtHead}
 use Rattle.spectre.specs.Journals.{blocks_in, Fits, found_blocks}
 use Rattle.spectre.specs.Replay.{fed, lines_under}
+use Rattle.spectre.specs.OneOf.{IsOneOf}
 use Rattle.spectre.specs.declared.status.Status.{Status}
 use Rattle.spectre.specs.declared.status.Status.TheVariants as status
 
@@ -51,33 +53,36 @@ HoldsAcknowledged before given old new image =
 
 -- a run that was ended by a fault of the outside, or for want of memory, before its sink took a byte
 abbrev pub EndsEarly : Status → Type 0
-EndsEarly status.Done = ⊥
-EndsEarly status.Usage = ⊥
-EndsEarly status.Malformed = ⊥
-EndsEarly status.Truncated = ⊥
-EndsEarly status.ReadFault = Unit {0}
-EndsEarly status.WriteFault = ⊥
-EndsEarly status.DiskFault = Unit {0}
-EndsEarly status.NotJournal = ⊥
-EndsEarly status.OtherChain = ⊥
-EndsEarly status.Memory = Unit {0}
-EndsEarly status.Damaged = ⊥
-EndsEarly status.TooLong = ⊥
+EndsEarly s = IsOneOf s (status.ReadFault ∷ status.DiskFault ∷ status.Memory ∷ [])
 
-pub record IsEarly (old new : Option (List ℕ)) (s : Status) : Type 0 where
+-- such a run, before a journal was made or opened for it: nothing behind the feed's head was taken, and no whole head came
+-- where a read failed
+pub record IsEarly (given : List ℕ) (old new : Option (List ℕ)) (s : Status) : Type 0 where
   pub ends : EndsEarly s
   pub silent : Appends old new []
+  pub headed : EndAtHead given
+  pub unstarted : s ≡ status.ReadFault → (fed given).head ≡ None
 
--- The image holds a front of what is kept, and in it all that was found and all that was acknowledged. After an early
--- end it may hold just what was found: that journal, or none.
+-- The image holds a front of what is kept, and in it all that was found and all that was acknowledged: so there is a
+-- journal once one was made. After an early end it may hold just what was found: that journal, or none.
 abbrev pub Recovers : Records → List ℕ → Option (List ℕ) → Option (List ℕ) → Status → List ℕ → Type 0
 Recovers r given old new s image =
-    ((records image ≡ r) × IsEarly old new s)
+    ((records image ≡ r) × IsEarly given old new s)
     ⊎ (HoldsAtLeast (length (blocks_in r)) (blocks_in r) given image × HoldsAcknowledged (blocks_in r) given old new image)
 
 -- the image holds just what was found, or a front of what is kept with all of it
 abbrev pub HoldsFoundOrMore : Records → List ℕ → List ℕ → Type 0
 HoldsFoundOrMore r given image = (records image ≡ r) ⊎ HoldsAtLeast (length (blocks_in r)) (blocks_in r) given image
+
+-- a journal goes on from what was found: it has the bits, the genesis block and, in front, all the blocks
+abbrev pub GoesOn : Records → Contents → Type 0
+GoesOn NoJournal c = Unit {0}
+GoesOn (Damaged at) c = ⊥
+GoesOn (Found f) c = (c.bits ≡ f.bits) × (c.genesis ≡ f.genesis) × ((more : List (List ℕ)) × (c.blocks ≡ f.blocks ++ more))
+
+-- the image holds just what was found, or a journal that goes on from it, whatever the feed is
+abbrev pub HoldsOnward : Records → List ℕ → Type 0
+HoldsOnward r image = (records image ≡ r) ⊎ ((c : Contents) × (records image ≡ Found c) × GoesOn r c)
 
 -- the sink took a byte
 pub record TookMore (old new : Option (List ℕ)) : Type 0 where

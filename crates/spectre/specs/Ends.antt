@@ -1,7 +1,8 @@
 -- How a scene and a run can end.
-use Rattle.std.specs.Prelude.{◌≡◌, ℕ, Option, Some, None, IsSome, IsNone, Result, Ok, Err}
+use Rattle.std.specs.Prelude.{◌≡◌, ℕ, [], ◌∷◌, Option, Some, None, IsSome, IsNone, Result, Ok, Err}
 use Rattle.sp_io.specs.Causes.{Rose}
 use Rattle.sp_play.specs.Scene.{Scene}
+use Rattle.spectre.specs.OneOf.{IsOneOf}
 use Rattle.spectre.specs.declared.job.Job.{Job}
 use Rattle.spectre.specs.declared.job.Job.TheVariants as jobs
 use Rattle.spectre.specs.declared.status.Status.{Status}
@@ -23,33 +24,11 @@ HasStopCause before now Memory = Unit {0}
 
 -- the statuses that a scenario can end with
 abbrev pub Plays : Status → Type 0
-Plays status.Done = Unit {0}
-Plays status.Usage = ⊥
-Plays status.Malformed = Unit {0}
-Plays status.Truncated = ⊥
-Plays status.ReadFault = Unit {0}
-Plays status.WriteFault = Unit {0}
-Plays status.DiskFault = ⊥
-Plays status.NotJournal = ⊥
-Plays status.OtherChain = ⊥
-Plays status.Memory = Unit {0}
-Plays status.Damaged = ⊥
-Plays status.TooLong = Unit {0}
+Plays s = IsOneOf s (status.Done ∷ status.Malformed ∷ status.ReadFault ∷ status.WriteFault ∷ status.Memory ∷ status.TooLong ∷ [])
 
 -- the statuses that a feed can end with
 abbrev pub Replays : Status → Type 0
-Replays status.Done = Unit {0}
-Replays status.Usage = ⊥
-Replays status.Malformed = Unit {0}
-Replays status.Truncated = Unit {0}
-Replays status.ReadFault = Unit {0}
-Replays status.WriteFault = Unit {0}
-Replays status.DiskFault = ⊥
-Replays status.NotJournal = ⊥
-Replays status.OtherChain = ⊥
-Replays status.Memory = Unit {0}
-Replays status.Damaged = ⊥
-Replays status.TooLong = Unit {0}
+Replays s = IsOneOf s (status.Done ∷ status.Malformed ∷ status.Truncated ∷ status.ReadFault ∷ status.WriteFault ∷ status.Memory ∷ status.TooLong ∷ [])
 
 -- the status of what was done with a scene
 abbrev pub status_by : Result Ending Stop → Status
@@ -60,63 +39,19 @@ status_by (Err Memory) = status.Memory
 
 -- the statuses that a scenario can end with which was made of numbers
 abbrev pub Makes : Status → Type 0
-Makes status.Done = Unit {0}
-Makes status.Usage = ⊥
-Makes status.Malformed = Unit {0}
-Makes status.Truncated = ⊥
-Makes status.ReadFault = ⊥
-Makes status.WriteFault = Unit {0}
-Makes status.DiskFault = ⊥
-Makes status.NotJournal = ⊥
-Makes status.OtherChain = ⊥
-Makes status.Memory = Unit {0}
-Makes status.Damaged = ⊥
-Makes status.TooLong = ⊥
+Makes s = IsOneOf s (status.Done ∷ status.Malformed ∷ status.WriteFault ∷ status.Memory ∷ [])
 
 -- the statuses that a journal which is shown can end with
 abbrev pub Shows : Status → Type 0
-Shows status.Done = Unit {0}
-Shows status.Usage = ⊥
-Shows status.Malformed = ⊥
-Shows status.Truncated = ⊥
-Shows status.ReadFault = ⊥
-Shows status.WriteFault = Unit {0}
-Shows status.DiskFault = Unit {0}
-Shows status.NotJournal = Unit {0}
-Shows status.OtherChain = ⊥
-Shows status.Memory = Unit {0}
-Shows status.Damaged = Unit {0}
-Shows status.TooLong = ⊥
+Shows s = IsOneOf s (status.Done ∷ status.WriteFault ∷ status.DiskFault ∷ status.NotJournal ∷ status.Memory ∷ status.Damaged ∷ [])
 
 -- the statuses that a feed can end with whose blocks are kept in a journal
 abbrev pub KeepsTo : Status → Type 0
-KeepsTo status.Done = Unit {0}
-KeepsTo status.Usage = ⊥
-KeepsTo status.Malformed = Unit {0}
-KeepsTo status.Truncated = Unit {0}
-KeepsTo status.ReadFault = Unit {0}
-KeepsTo status.WriteFault = Unit {0}
-KeepsTo status.DiskFault = Unit {0}
-KeepsTo status.NotJournal = Unit {0}
-KeepsTo status.OtherChain = Unit {0}
-KeepsTo status.Memory = Unit {0}
-KeepsTo status.Damaged = Unit {0}
-KeepsTo status.TooLong = Unit {0}
+KeepsTo s = IsOneOf s (status.Done ∷ status.Malformed ∷ status.Truncated ∷ status.ReadFault ∷ status.WriteFault ∷ status.DiskFault ∷ status.NotJournal ∷ status.OtherChain ∷ status.Memory ∷ status.Damaged ∷ status.TooLong ∷ [])
 
 -- the statuses that a run can end with where what the disk holds is at fault: that fault's, or one of the outside or of memory
 abbrev pub EndsByDisk : Status → Type 0
-EndsByDisk status.Done = ⊥
-EndsByDisk status.Usage = ⊥
-EndsByDisk status.Malformed = ⊥
-EndsByDisk status.Truncated = ⊥
-EndsByDisk status.ReadFault = ⊥
-EndsByDisk status.WriteFault = Unit {0}
-EndsByDisk status.DiskFault = Unit {0}
-EndsByDisk status.NotJournal = Unit {0}
-EndsByDisk status.OtherChain = ⊥
-EndsByDisk status.Memory = Unit {0}
-EndsByDisk status.Damaged = Unit {0}
-EndsByDisk status.TooLong = ⊥
+EndsByDisk s = IsOneOf s (status.WriteFault ∷ status.DiskFault ∷ status.NotJournal ∷ status.Memory ∷ status.Damaged ∷ [])
 
 -- the statuses that some words can end with
 abbrev pub Comes : Option Job → Status → Type 0

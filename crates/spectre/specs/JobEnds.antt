@@ -1,13 +1,16 @@
 -- How the run of a job ends: by its status, what it wrote and what it took.
 use Rattle.std.specs.Prelude.{◌≡◌, ℕ, List, [], Option, Some, IfSome}
 use Rattle.std.specs.Io.KnownBytes.{Appends, Consumes}
-use Rattle.sp_disk.specs.Moments.{Moment}
+use Rattle.sp_disk.specs.Moments.{Leaves, Moment}
 use Rattle.sp_io.specs.Whole.{AppendsFront, ConsumesUpTo}
 use Rattle.sp_play.specs.Source.{scenario_limit}
-use Rattle.spectre.specs.Crashes.{Recovery}
+use Rattle.sp_journal.specs.Creation.{IsSynced}
+use Rattle.sp_journal.specs.Records.{records}
+use Rattle.spectre.specs.Chains.{EndsAtHead}
+use Rattle.spectre.specs.Crashes.{HoldsOnward, Recovery}
 use Rattle.spectre.specs.Faults.{beyond, IsDamaged, IsFaultless, IsMalformed, IsNoJournal, IsOtherChain, IsTooLong, IsTruncated, unread}
 use Rattle.spectre.specs.Jobs.{AnswersFeed, TakesScenario}
-use Rattle.spectre.specs.Output.{blocks_before, OnDisk, OnKeep, output_by}
+use Rattle.spectre.specs.Output.{blocks_before, OnDisk, OnInput, OnKeep, output_by}
 use Rattle.spectre.specs.Replay.{replied, replied_but_last}
 use Rattle.spectre.specs.Taken.{TakesFeed}
 use Rattle.spectre.specs.declared.job.Job.{Job}
@@ -16,11 +19,11 @@ use Rattle.spectre.specs.declared.status.Status.TheVariants as status
 
 -- the sink took the output, and this is true of what the disk held and of the input
 abbrev pub WritesAll : Option Job → Option (List ℕ) → Option (List ℕ) → Option (List ℕ) → Option (List ℕ) → (List ℕ → List ℕ → Type 0) → Type 0
-WritesAll job reads before old new P = IfSome before (λ input. OnDisk job reads (λ bytes. Appends old new (output_by job bytes input) × P bytes input))
+WritesAll job reads before old new P = OnInput job before (λ input. OnDisk job reads (λ bytes. Appends old new (output_by job bytes input) × P bytes input))
 
 -- it took a front of the output
 abbrev pub WritesFront : Option Job → Option (List ℕ) → Option (List ℕ) → Option (List ℕ) → Option (List ℕ) → Type 0
-WritesFront job reads before old new = IfSome before (λ input. OnDisk job reads (λ bytes. AppendsFront old new (output_by job bytes input)))
+WritesFront job reads before old new = OnInput job before (λ input. OnDisk job reads (λ bytes. AppendsFront old new (output_by job bytes input)))
 
 -- of a feed the source gave some bytes, and the sink took these lines of theirs
 abbrev pub WritesFed : Option Job → Option (List ℕ) → Option (List ℕ) → Option (List ℕ) → Option (List ℕ) → Option (List ℕ) → (List (List ℕ) → List ℕ → List ℕ) → Type 0
@@ -52,4 +55,6 @@ pub record JobEnds (job : Option Job) (reads before after old new : Option (List
   pub by : WritesBy job reads before after old new s
   pub taken : TakesScenario job → ConsumesUpTo before after scenario_limit
   pub taken_fed : AnswersFeed job → OnDisk job reads (λ bytes. TakesFeed (blocks_before job bytes) before after old new)
+  pub chain : OnInput job before (λ input. OnDisk job reads (λ bytes. IsOtherChain job bytes input → EndsAtHead before after s))
+  pub onward : OnKeep job (λ fresh. IfSome reads (λ bytes. IsSynced first → Leaves first last (HoldsOnward (records bytes))))
   pub crash : OnKeep job (λ fresh. IfSome before (λ input. IfSome reads (λ bytes. Recovery fresh bytes input after old new first last s)))

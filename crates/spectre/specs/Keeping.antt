@@ -24,11 +24,12 @@ use Rattle.sp_journal.specs.Records.{Found as found, NoJournal, Records, records
 use Rattle.sp_journal.specs.Settled.{IsTold}
 use Rattle.sp_node.specs.Journalled.{IsKeptOn}
 use Rattle.sp_node.specs.Node.{State}
-use Rattle.sp_node.specs.Stored.{IsOfSame, LeavesStarted, stored_blocks}
+use Rattle.sp_node.specs.Stored.{IsFound, IsOfSame, LeavesStarted, stored_blocks}
 use Rattle.sp_node.specs.declared.start.StartFault.{StartFault}
 use Rattle.sp_node.specs.declared.start.StartFault.TheVariants as starts
 use Rattle.sp_node.specs.declared.stored.Stored.{Stored}
 use Rattle.sp_node.specs.declared.stored.Stored.TheVariants.{Empty, Found}
+use Rattle.spectre.specs.Chains.{EndAtHead}
 use Rattle.spectre.specs.Crashes.{all_of, contents_of, HoldsAcknowledged, HoldsAtLeast, HoldsFoundOrMore}
 use Rattle.spectre.specs.Journals.{blocks_in, IsChainOf, other_chain_text}
 use Rattle.spectre.specs.Replay.{fed, feed_limit}
@@ -123,6 +124,7 @@ pub record IsUntried (stored : Stored) (start now : Moment) (old new : Option (L
   pub given : List ℕ
   pub took : Took feed_limit start now given
   pub needed : AreNeeded given
+  pub headed : EndAtHead given
   pub answered : AreAnswered (bytes_of stored) old old given
   pub silent : new ≡ old
   pub why : UntriedBy stored start now given first last result
@@ -145,6 +147,8 @@ pub record IsBegun (stored : Stored) (start now : Moment) (first last : DiskMome
 pub record IsStarted (stored : Stored) (left : Option (List ℕ)) (given : List ℕ) (old new : Option (List ℕ)) (first last : DiskMoment) (result : Result (Unit {0}) ReplayFault) : Type 0 where
   pub fits : IfSome left (λ input. FitsStored stored (fed input).head)
   pub any_moment : IsTold first → IsSynced first → Leaves first last (HoldsFoundOrMore (records_in stored) given)
+  -- a found journal is a front of what is kept
+  pub from : IsFound stored → (image : List ℕ) → records image ≡ records_in stored → HoldsAtLeast (length (bytes_of stored)) (bytes_of stored) given image
   pub now : IsTold first → Among (λ image. HoldsAtLeast (length (bytes_of stored)) (bytes_of stored) given image × HoldsAcknowledged (bytes_of stored) given old new image) last.images
   pub whole : OnAll result (IsTold first → Among (λ image. records image ≡ found (contents_of (bytes_of stored) given (all_of given))) last.images)
 

@@ -1,9 +1,12 @@
 -- How a run that keeps a journal ends: by each status, what it wrote, what it took, and what it left on the disk.
 use Rattle.std.specs.Prelude.{◌≡◌, ℕ, Bool, List, [], drop, Option, Some, IfSome}
 use Rattle.std.specs.Io.KnownBytes.{Appends, Consumes}
-use Rattle.sp_disk.specs.Moments.{Moment}
+use Rattle.sp_disk.specs.Moments.{Leaves, Moment}
 use Rattle.sp_io.specs.Whole.{AppendsFront}
-use Rattle.spectre.specs.Crashes.{Recovery}
+use Rattle.sp_journal.specs.Creation.{IsSynced}
+use Rattle.sp_journal.specs.Records.{records}
+use Rattle.spectre.specs.Chains.{EndsAtHead}
+use Rattle.spectre.specs.Crashes.{HoldsOnward, Recovery}
 use Rattle.spectre.specs.Faults.{EndsMalformed, EndsTooLong, EndsTruncated, EndsWhole, rest_behind}
 use Rattle.spectre.specs.Journals.{Fits, found_blocks, HasNoJournal, HasOtherChain, IsDamagedDisk, kept_output}
 use Rattle.spectre.specs.Replay.{fed, feed_limit, replied, replied_but_last}
@@ -43,4 +46,6 @@ EndsBy fresh reads before after old new status.TooLong =
 pub record KeptEnds (fresh : Bool) (reads before after old new : Option (List ℕ)) (first last : Moment) (s : Status) : Type 0 where
   pub by : EndsBy fresh reads before after old new s
   pub taken : IfSome reads (λ disk. TakesFeed (found_blocks disk) before after old new)
+  pub chain : OnBoth before reads (λ disk input. HasOtherChain disk input → EndsAtHead before after s)
+  pub onward : IfSome reads (λ disk. IsSynced first → Leaves first last (HoldsOnward (records disk)))
   pub recovery : OnBoth before reads (λ disk input. Recovery fresh disk input after old new first last s)

@@ -1,4 +1,6 @@
 pub mod Words
+pub mod Codes
+pub mod OneOf
 pub mod Files
 pub mod Jobs
 pub mod Lines
@@ -11,11 +13,13 @@ pub mod Crashes
 pub mod Faults
 pub mod Heads
 pub mod Taken
+pub mod Chains
 pub mod Replaying
 pub mod Running
 pub mod Keeping
 pub mod Kept
 pub mod JobEnds
+pub mod LastLine
 pub mod Ends
-pub mod Codes
 pub mod Rests
+pub mod Talks

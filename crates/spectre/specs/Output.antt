@@ -47,6 +47,17 @@ OnDisk (Some jobs.Build) reads P = P []
 OnDisk (Some (jobs.Make n seed width)) reads P = P []
 OnDisk (Some (jobs.Drill n seed width)) reads P = P []
 
+-- What is said of the input is said where the source tells it, and for a job that takes none of no bytes.
+abbrev pub OnInput : Option Job → Option (List ℕ) → (List ℕ → Type 0) → Type 0
+OnInput None left P = P []
+OnInput (Some jobs.Replay) left P = IfSome left P
+OnInput (Some (jobs.Keep path fresh)) left P = IfSome left P
+OnInput (Some (jobs.Show path)) left P = P []
+OnInput (Some jobs.Play) left P = IfSome left P
+OnInput (Some jobs.Build) left P = IfSome left P
+OnInput (Some (jobs.Make n seed width)) left P = P []
+OnInput (Some (jobs.Drill n seed width)) left P = P []
+
 -- the blocks that stand before those of the feed
 abbrev pub blocks_before : Option Job → List ℕ → List (List ℕ)
 blocks_before None disk = []

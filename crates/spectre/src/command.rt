@@ -2,22 +2,27 @@
 
 ghost use Rattle.std.specs.Prelude.{◌⊎◌, ◌≡◌, ◌↔◌, ◌≢◌, ℕ, Bool, List, [], IfSome, IsNone, Some};
 ghost use Rattle.std.specs.Io.KnownBytes.{Appends, Consumes};
-ghost use Rattle.sp_disk.specs.Moments.{Looks};
+ghost use Rattle.sp_disk.specs.Moments.{Leaves, Looks};
+ghost use Rattle.sp_journal.specs.Creation.{IsSynced};
+ghost use Rattle.sp_journal.specs.Records.{records};
 ghost use Rattle.sp_io.specs.Causes.{Rose};
 ghost use Rattle.sp_io.specs.Whole.{AppendsFront, ConsumesUpTo};
 ghost use Rattle.sp_play.specs.Source.{scenario_limit};
-ghost use Rattle.spectre.specs.Crashes.{Recovery};
+ghost use Rattle.spectre.specs.Chains.{EndsByChain, TakesHead};
+ghost use Rattle.spectre.specs.Crashes.{HoldsOnward, Recovery};
 ghost use Rattle.spectre.specs.Ends.{Comes, EndsByDisk};
 ghost use Rattle.spectre.specs.Faults.{beyond, IsDamaged, IsDiskAtFault, IsFaultless, IsMalformed, IsNoJournal, IsOtherChain, IsTooLong, IsTruncated, unread};
 ghost use Rattle.spectre.specs.Jobs.{AnswersFeed, job_in, NamesFile, Shows, TakesNothing, TakesScenario, texts};
-ghost use Rattle.spectre.specs.Output.{blocks_before, OnDisk, OnKeep, output};
+ghost use Rattle.spectre.specs.LastLine.{EndsInLine, NamesFault};
+ghost use Rattle.spectre.specs.Output.{blocks_before, OnDisk, OnInput, OnKeep, output};
 ghost use Rattle.spectre.specs.Replay.{replied, replied_but_last};
-ghost use Rattle.spectre.specs.Rests.{AnswersAgree, KeptAgree, OrderIsNoMatter};
+ghost use Rattle.spectre.specs.Rests.{KeptAgree};
 ghost use Rattle.spectre.specs.Taken.{TakesFeed};
+ghost use Rattle.spectre.specs.Talks.{JobAgrees, JobAnswersAlike};
 
 use crate::doing::do_job;
 use crate::job::{Job, JobFault, read_job};
-use crate::laws::{answers_agree, kept_agree};
+use crate::laws::{jobs_agree, kept_agree};
 use crate::status::Status;
 use sp_disk::Disk;
 use sp_io::{Sink, Source};
@@ -44,7 +49,7 @@ pub fn run<S: Source, K: Sink, D: Disk>(
     // Where the run is done, the sink took the output and nothing else, neither the input nor what the
     // disk held has a fault, and what stays of the input is what follows a feed's end, and nothing of a
     // scenario.
-    ensures done { result ≡ Status.Done → IfSome (S.left source.old) (λ input.
+    ensures done { result ≡ Status.Done → OnInput (job_in (texts words.now)) (S.left source.old) (λ input.
         OnDisk (job_in (texts words.now)) (D.now disk.old).reads (λ bytes.
         Appends (K.taken sink.old) (K.taken sink.new) (output (texts words.now) bytes input)
         × IsFaultless (job_in (texts words.now)) bytes input)) }
@@ -59,35 +64,48 @@ pub fn run<S: Source, K: Sink, D: Disk>(
 
     // Where the input or what the disk held is at fault, ends too early or is too long, the sink took
     // the output, which ends with that fault's line.
-    ensures malformed { result ≡ Status.Malformed → IfSome (S.left source.old) (λ input.
+    ensures malformed { result ≡ Status.Malformed → OnInput (job_in (texts words.now)) (S.left source.old) (λ input.
         OnDisk (job_in (texts words.now)) (D.now disk.old).reads (λ bytes.
         Appends (K.taken sink.old) (K.taken sink.new) (output (texts words.now) bytes input)
         × IsMalformed (job_in (texts words.now)) input)) }
-    ensures truncated { result ≡ Status.Truncated → IfSome (S.left source.old) (λ input.
+    ensures truncated { result ≡ Status.Truncated → OnInput (job_in (texts words.now)) (S.left source.old) (λ input.
         OnDisk (job_in (texts words.now)) (D.now disk.old).reads (λ bytes.
         Appends (K.taken sink.old) (K.taken sink.new) (output (texts words.now) bytes input)
         × IsTruncated (job_in (texts words.now)) input)) }
-    ensures too_long { result ≡ Status.TooLong → IfSome (S.left source.old) (λ input.
+    ensures too_long { result ≡ Status.TooLong → OnInput (job_in (texts words.now)) (S.left source.old) (λ input.
         OnDisk (job_in (texts words.now)) (D.now disk.old).reads (λ bytes.
         Appends (K.taken sink.old) (K.taken sink.new) (output (texts words.now) bytes input)
         × IsTooLong (job_in (texts words.now)) input)) }
-    ensures not_journal { result ≡ Status.NotJournal → IfSome (S.left source.old) (λ input.
+    ensures not_journal { result ≡ Status.NotJournal → OnInput (job_in (texts words.now)) (S.left source.old) (λ input.
         OnDisk (job_in (texts words.now)) (D.now disk.old).reads (λ bytes.
         Appends (K.taken sink.old) (K.taken sink.new) (output (texts words.now) bytes input)
         × IsNoJournal (job_in (texts words.now)) bytes)) }
-    ensures other_chain { result ≡ Status.OtherChain → IfSome (S.left source.old) (λ input.
+    ensures other_chain { result ≡ Status.OtherChain → OnInput (job_in (texts words.now)) (S.left source.old) (λ input.
         OnDisk (job_in (texts words.now)) (D.now disk.old).reads (λ bytes.
         Appends (K.taken sink.old) (K.taken sink.new) (output (texts words.now) bytes input)
         × IsOtherChain (job_in (texts words.now)) bytes input)) }
-    ensures damaged { result ≡ Status.Damaged → IfSome (S.left source.old) (λ input.
+    ensures damaged { result ≡ Status.Damaged → OnInput (job_in (texts words.now)) (S.left source.old) (λ input.
         OnDisk (job_in (texts words.now)) (D.now disk.old).reads (λ bytes.
         Appends (K.taken sink.old) (K.taken sink.new) (output (texts words.now) bytes input)
         × IsDamaged (job_in (texts words.now)) bytes)) }
+
+    // With each of these, that fault's own line is the last one: the sink took some lines, and then it.
+    ensures last_line { NamesFault result → OnInput (job_in (texts words.now)) (S.left source.old) (λ input.
+        OnDisk (job_in (texts words.now)) (D.now disk.old).reads (λ bytes.
+        EndsInLine (job_in (texts words.now)) bytes input result (K.taken sink.old) (K.taken sink.new))) }
 
     // Where what the disk holds is at fault, the run ends by that, whatever the feed is, and nothing of
     // it is taken.
     ensures disk_first { OnDisk (job_in (texts words.now)) (D.now disk.old).reads (λ bytes.
         IsDiskAtFault (job_in (texts words.now)) bytes → EndsByDisk result × (source.new ≡ source.old)) }
+
+    // Where it holds the journal of another chain than that of the feed's whole head, the run ends by
+    // that, whatever follows in the feed, and nothing behind the head is taken; or it ends by a failed
+    // read or write or for want of memory, or before that, with nothing taken, since the disk failed.
+    ensures chain_first { OnInput (job_in (texts words.now)) (S.left source.old) (λ input.
+        OnDisk (job_in (texts words.now)) (D.now disk.old).reads (λ bytes.
+        IsOtherChain (job_in (texts words.now)) bytes input
+        → EndsByChain result × TakesHead (S.left source.old) (S.left source.new) result)) }
 
     // However the run ends, of a scenario 16,777,216 bytes were taken at most. Of a feed no more
     // were than its limit, and none that wasn't needed: each front of them that isn't all ends too
@@ -131,11 +149,11 @@ pub fn run<S: Source, K: Sink, D: Disk>(
         → Rose (D.now disk.old).faults (D.now disk.new).faults × NamesFile (job_in (texts words.now)) }
 
     // Where a write failed or memory was refused, the sink took a front of the output.
-    ensures write_fault { result ≡ Status.WriteFault → IfSome (S.left source.old) (λ input.
+    ensures write_fault { result ≡ Status.WriteFault → OnInput (job_in (texts words.now)) (S.left source.old) (λ input.
         OnDisk (job_in (texts words.now)) (D.now disk.old).reads (λ bytes.
         AppendsFront (K.taken sink.old) (K.taken sink.new) (output (texts words.now) bytes input))) }
     ensures write_cause { result ≡ Status.WriteFault → Rose (K.faults sink.old) (K.faults sink.new) }
-    ensures memory { result ≡ Status.Memory → IfSome (S.left source.old) (λ input.
+    ensures memory { result ≡ Status.Memory → OnInput (job_in (texts words.now)) (S.left source.old) (λ input.
         OnDisk (job_in (texts words.now)) (D.now disk.old).reads (λ bytes.
         AppendsFront (K.taken sink.old) (K.taken sink.new) (output (texts words.now) bytes input))) }
 
@@ -151,32 +169,41 @@ pub fn run<S: Source, K: Sink, D: Disk>(
     ensures crash { OnKeep (job_in (texts words.now)) (λ fresh. IfSome (S.left source.old) (λ input.
         IfSome (D.now disk.old).reads (λ bytes. Recovery fresh bytes input (S.left source.new)
         (K.taken sink.old) (K.taken sink.new) (D.now disk.old) (D.now disk.new) result))) }
+    // Whatever the feed is, and whether or not the source tells it: where nothing was pending at the start,
+    // a crash at any moment leaves what was found, or a journal that goes on from it.
+    ensures found_stays { OnKeep (job_in (texts words.now)) (λ fresh.
+        IfSome (D.now disk.old).reads (λ bytes. IsSynced (D.now disk.old)
+        → Leaves (D.now disk.old) (D.now disk.new) (HoldsOnward (records bytes)))) }
     ensures looks { Shows (job_in (texts words.now)) → Looks (D.now disk.old) (D.now disk.new) }
     ensures uncalled { (NamesFile (job_in (texts words.now)) → ⊥) → disk.new ≡ disk.old }
 
-    // Of the kept blocks on which each answer to a feed rests: no two accepted transactions conflict,
-    // each accepted one has accepted inputs, and no more is left than genesis grants. And in another
-    // feed that brought the same blocks in another order each question is answered by the same bytes.
-    ensures agree { job_in (texts words.now) ≡ Some Job.Replay
-        → IfSome (S.left source.old) AnswersAgree }
+    // Of the kept blocks on which each answer of a command rests: no two accepted transactions conflict,
+    // each accepted one has accepted inputs, and no more is left than genesis grants. And a question that
+    // another command is asked too, once the same blocks have arrived for it in another order, is answered
+    // by the same bytes.
+    ensures agree { OnInput (job_in (texts words.now)) (S.left source.old) (λ input.
+        OnDisk (job_in (texts words.now)) (D.now disk.old).reads (λ bytes.
+        JobAgrees (job_in (texts words.now)) bytes input)) }
     ensures kept_agree { KeptAgree }
-    ensures order { job_in (texts words.now) ≡ Some Job.Replay
-        → IfSome (S.left source.old) (λ input. (other : List ℕ) → OrderIsNoMatter input other) }
+    ensures order { OnInput (job_in (texts words.now)) (S.left source.old) (λ input.
+        OnDisk (job_in (texts words.now)) (D.now disk.old).reads (λ bytes.
+        JobAnswersAlike (job_in (texts words.now)) bytes input)) }
 
     // Where nothing failed and neither the input nor what the disk held has a fault, the run is done, or
     // memory was refused.
     ensures complete { ¬ Rose (S.faults source.old) (S.faults source.new)
         → ¬ Rose (K.faults sink.old) (K.faults sink.new)
         → ¬ Rose (D.now disk.old).faults (D.now disk.new).faults
-        → IfSome (S.left source.old) (λ input. OnDisk (job_in (texts words.now)) (D.now disk.old).reads
+        → OnInput (job_in (texts words.now)) (S.left source.old) (λ input.
+        OnDisk (job_in (texts words.now)) (D.now disk.old).reads
         (λ bytes. IsFaultless (job_in (texts words.now)) bytes input
         → (result ≡ Status.Done) ⊎ (result ≡ Status.Memory))) }
 
     // The other statuses never come.
     ensures among { Comes (job_in (texts words.now)) result }
 {
-    // Tells the proof what every answer to a feed rests on.
-    answers_agree();
+    // Tells the proof what every answer rests on.
+    jobs_agree();
     kept_agree();
     match read_job(alloc, words) {
         Ok(job) => do_job(alloc, &job, source, sink, disk),

@@ -1,8 +1,11 @@
-//! Laws of feeds, over the definitions alone: of what the answers to a feed rest on. Each is the
+//! Laws over the definitions alone, of what the answers of each command rest on. Each is the
 //! contract of a function that does nothing, or that calls another law, so that the check proves it.
 
-ghost use Rattle.std.specs.Prelude.{ℕ, List};
-ghost use Rattle.spectre.specs.Rests.{AnswersAgree, KeptAgree, OrderIsNoMatter};
+ghost use Rattle.std.specs.Prelude.{ℕ, List, Option};
+ghost use Rattle.sp_form.specs.Bytes.{IsBytes};
+ghost use Rattle.spectre.specs.Rests.{KeptAgree};
+ghost use Rattle.spectre.specs.Talks.{JobAgrees, Talk, TalksAnswerAlike};
+ghost use Rattle.spectre.specs.declared.job.Job.{Job};
 
 /// Of whatever bytes arrive, the blocks that are kept agree: no two accepted transactions conflict, each
 /// accepted one has accepted inputs, and no more is left than genesis grants. So it is with each command.
@@ -12,17 +15,16 @@ pub fn kept_agree()
     sp_engine::payments::nothing_is_made();
 }
 
-/// Over the kept blocks on which each answer to a feed rests, no two accepted transactions conflict,
-/// each accepted one has accepted inputs, and no more is left than genesis grants. The first and the
-/// last are so where no two different transactions of the present blocks have one id.
-pub fn answers_agree()
-    ensures { (input : List ℕ) → AnswersAgree input }
+/// So they do of each command that answers anything: over what is kept of a found journal's blocks and
+/// then of the feed's; over the blocks of a journal that is shown; and over those of a scenario.
+pub fn jobs_agree()
+    ensures { (job : Option Job) (disk input : List ℕ) → IsBytes disk → JobAgrees job disk input }
 {
     sp_engine::payments::nothing_is_made();
 }
 
-/// A question is answered by the same bytes in two feeds that have brought the same valid blocks
-/// before it, in whatever order.
-pub fn order_is_no_matter()
-    ensures { (input other : List ℕ) → OrderIsNoMatter input other }
+/// A question is answered by the same bytes by any two commands, once the same valid blocks have
+/// arrived for it, in whatever order.
+pub fn talks_are_alike()
+    ensures { (talk other : Talk) → TalksAnswerAlike talk other }
 {}

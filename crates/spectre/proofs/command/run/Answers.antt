@@ -1,13 +1,14 @@
-use Rattle.std.proofs.Common.{List, ℕ, Option, refl, sym, subst}
+use Rattle.std.proofs.Common.{Option, refl, sym, subst}
+use Rattle.sp_journal.proofs.Looking.{told_bytes}
 use Rattle.spectre.specs.Ends.{Comes}
 use Rattle.spectre.specs.Jobs.{NamesFile, Shows, TakesNothing, TakesScenario}
-use Rattle.spectre.specs.Rests.{AnswersAgree, OrderIsNoMatter}
 use Rattle.spectre.specs.declared.job.Job.{Job}
 use Rattle.spectre.specs.declared.status.Status.TheVariants as status
 use Rattle.spectre.proofs.Completing.{completes}
 use Rattle.spectre.proofs.DiskFirst.{first_of, refused_first}
-use Rattle.spectre.proofs.Resting.{if_some, order_is_no_matter}
-use Rattle.spectre.proofs.TopCall.{asked_ends, ends_at, nothing_asked, nothing_fed, nothing_written}
+use Rattle.spectre.proofs.LastLines.{last_line}
+use Rattle.spectre.proofs.Talking.{all_agree, all_alike}
+use Rattle.spectre.proofs.TopCall.{asked_ends, ends_at, nothing_asked, nothing_behind, nothing_fed, nothing_lost, nothing_written}
 use Rattle.spectre.proofs.command.run.Goals as goal
 
 pub returns-in-Ok-clause-done : goal.returns-in-Ok-clause-done
@@ -83,11 +84,25 @@ pub returns-in-Ok-clause-uncalled : goal.returns-in-Ok-clause-uncalled
 returns-in-Ok-clause-uncalled g c = λ none. c.do_job.ensures.uncalled (λ names. none (subst NamesFile (sym c.in-Ok.ensures.job) names))
 
 pub returns-in-Ok-clause-agree : goal.returns-in-Ok-clause-agree
-returns-in-Ok-clause-agree g c = λ replay. if_some AnswersAgree (g.S.Source.left c.args.source.now) c.answers_agree.ensures
+returns-in-Ok-clause-agree g c =
+    let disk = g.D.Disk.now c.args.disk.now in all_agree _ (g.S.Source.left c.args.source.now) disk.reads (told_bytes disk (g.met.D.Disk.is_moment c.args.disk.now)) c.jobs_agree.ensures
 
 pub returns-in-Ok-clause-order : goal.returns-in-Ok-clause-order
-returns-in-Ok-clause-order g c = λ replay.
-    if_some (λ (input : List ℕ). (other : List ℕ) → OrderIsNoMatter input other) (g.S.Source.left c.args.source.now) order_is_no_matter
+returns-in-Ok-clause-order g c = all_alike _ (g.S.Source.left c.args.source.now) (g.D.Disk.now c.args.disk.now).reads
+
+pub returns-in-Err-Usage-clause-agree : goal.returns-in-Err-Usage-clause-agree
+returns-in-Err-Usage-clause-agree g c =
+    let disk = g.D.Disk.now c.args.disk.now in all_agree _ (g.S.Source.left c.args.source.now) disk.reads (told_bytes disk (g.met.D.Disk.is_moment c.args.disk.now)) c.jobs_agree.ensures
+
+pub returns-in-Err-Usage-clause-order : goal.returns-in-Err-Usage-clause-order
+returns-in-Err-Usage-clause-order g c = all_alike _ (g.S.Source.left c.args.source.now) (g.D.Disk.now c.args.disk.now).reads
+
+pub returns-in-Err-Memory-clause-agree : goal.returns-in-Err-Memory-clause-agree
+returns-in-Err-Memory-clause-agree g c =
+    let disk = g.D.Disk.now c.args.disk.now in all_agree _ (g.S.Source.left c.args.source.now) disk.reads (told_bytes disk (g.met.D.Disk.is_moment c.args.disk.now)) c.jobs_agree.ensures
+
+pub returns-in-Err-Memory-clause-order : goal.returns-in-Err-Memory-clause-order
+returns-in-Err-Memory-clause-order g c = all_alike _ (g.S.Source.left c.args.source.now) (g.D.Disk.now c.args.disk.now).reads
 
 pub returns-in-Ok-clause-complete : goal.returns-in-Ok-clause-complete
 returns-in-Ok-clause-complete g c = λ read write disk.
@@ -112,3 +127,20 @@ returns-in-Ok-clause-disk_first g c = first_of _ _ (g.D.Disk.now c.args.disk.now
 
 pub returns-in-Err-Memory-clause-disk_first : goal.returns-in-Err-Memory-clause-disk_first
 returns-in-Err-Memory-clause-disk_first g c = refused_first _ (g.D.Disk.now c.args.disk.now).reads _ refl
+
+pub returns-in-Ok-clause-chain_first : goal.returns-in-Ok-clause-chain_first
+returns-in-Ok-clause-chain_first g c = (asked_ends c.in-Ok.ensures.job c.do_job.ensures.ends).chain
+
+pub returns-in-Err-Memory-clause-chain_first : goal.returns-in-Err-Memory-clause-chain_first
+returns-in-Err-Memory-clause-chain_first g c = nothing_behind _ (g.S.Source.left c.args.source.now) (g.D.Disk.now c.args.disk.now).reads
+
+pub returns-in-Ok-clause-last_line : goal.returns-in-Ok-clause-last_line
+returns-in-Ok-clause-last_line g c = λ names.
+    let ends = asked_ends c.in-Ok.ensures.job c.do_job.ensures.ends in
+    last_line _ _ _ _ _ _ _ c.do_job.result names ends.by (first_of _ _ (g.D.Disk.now c.args.disk.now).reads _ c.in-Ok.ensures.job c.do_job.ensures.disk_first) ends.chain
+
+pub returns-in-Ok-clause-found_stays : goal.returns-in-Ok-clause-found_stays
+returns-in-Ok-clause-found_stays g c = (asked_ends c.in-Ok.ensures.job c.do_job.ensures.ends).onward
+
+pub returns-in-Err-Memory-clause-found_stays : goal.returns-in-Err-Memory-clause-found_stays
+returns-in-Err-Memory-clause-found_stays g c = nothing_lost _ (g.D.Disk.now c.args.disk.now) (g.met.D.Disk.is_moment c.args.disk.now)

@@ -4,8 +4,7 @@ use Rattle.spectre.specs.JobEnds.{JobEnds, WritesBy}
 use Rattle.spectre.specs.declared.job.Job.{Job}
 use Rattle.spectre.specs.declared.job.Job.TheVariants as jobs
 use Rattle.spectre.proofs.DiskFirst.{first_of, shown_first, shown_journal}
-use Rattle.spectre.proofs.Resting.{if_some}
-use Rattle.spectre.proofs.TopCall.{kept_ends, left_whole, on_status}
+use Rattle.spectre.proofs.TopCall.{if_all, kept_ends, left_whole, on_status}
 use Rattle.spectre.proofs.doing.do_job.Goals as goal
 
 pub returns-in-Replay-clause-ends : goal.returns-in-Replay-clause-ends
@@ -34,6 +33,8 @@ returns-in-Replay-clause-ends g c =
           (λ s. (e.too_long s, e.too_long_end s));
       taken = λ takes. absurd takes;
       taken_fed = λ _. e.taken;
+      chain = if_all before _ (λ input other. absurd other);
+      onward = tt;
       crash = tt;
     }
 
@@ -63,20 +64,22 @@ returns-in-Show-clause-ends g c =
     let job = jobs.Show c.in-Show.path in
     subst (λ (j : Job). JobEnds (Some j) first.reads before after old new first last c.show.result) (sym c.in-Show.is) record {
       by = on_status (WritesBy (Some job) first.reads before after old new) c.show.result
-          (λ s. (if_some _ before (λ input. e.done s), left_whole before))
+          (λ s. (e.done s, left_whole before))
           (λ s. absurd (subst Shows s e.among))
           (λ s. absurd (subst Shows s e.among))
           (λ s. absurd (subst Shows s e.among))
           (λ s. absurd (subst Shows s e.among))
-          (λ s. if_some _ before (λ input. e.write_fault s))
+          (λ s. e.write_fault s)
           (λ s. λ fed. absurd fed)
-          (λ s. if_some _ before (λ input. e.not_journal s))
+          (λ s. e.not_journal s)
           (λ s. absurd (subst Shows s e.among))
-          (λ s. if_some _ before (λ input. e.memory s))
-          (λ s. if_some _ before (λ input. e.damaged s))
+          (λ s. e.memory s)
+          (λ s. e.damaged s)
           (λ s. absurd (subst Shows s e.among));
       taken = λ takes. absurd takes;
       taken_fed = λ fed. absurd fed;
+      chain = if_all first.reads _ (λ bytes other. absurd other);
+      onward = tt;
       crash = tt;
     }
 
@@ -109,6 +112,8 @@ returns-in-Play-clause-ends g c =
           (λ s. (e.too_long s, e.too_long_end s));
       taken = λ _. e.taken;
       taken_fed = λ fed. absurd fed;
+      chain = if_all before _ (λ input other. absurd other);
+      onward = tt;
       crash = tt;
     }
 
@@ -141,6 +146,8 @@ returns-in-Build-clause-ends g c =
           (λ s. (e.too_long s, e.too_long_end s));
       taken = λ _. e.taken;
       taken_fed = λ fed. absurd fed;
+      chain = if_all before _ (λ input other. absurd other);
+      onward = tt;
       crash = tt;
     }
 
@@ -159,20 +166,22 @@ returns-in-Make-clause-ends g c =
     let job = jobs.Make c.in-Make.n c.in-Make.seed c.in-Make.width in
     subst (λ (j : Job). JobEnds (Some j) first.reads before after old new first last c.make_text.result) (sym c.in-Make.is) record {
       by = on_status (WritesBy (Some job) first.reads before after old new) c.make_text.result
-          (λ s. (if_some _ before (λ input. (e.done s, tt)), left_whole before))
+          (λ s. ((e.done s, tt), left_whole before))
           (λ s. absurd (subst Makes s e.among))
           (λ s. absurd (e.whole s))
           (λ s. absurd (subst Makes s e.among))
           (λ s. absurd (subst Makes s e.among))
-          (λ s. if_some _ before (λ input. e.write_fault s))
+          (λ s. e.write_fault s)
           (λ s. absurd (subst Makes s e.among))
           (λ s. absurd (subst Makes s e.among))
           (λ s. absurd (subst Makes s e.among))
-          (λ s. if_some _ before (λ input. e.memory s))
+          (λ s. e.memory s)
           (λ s. absurd (subst Makes s e.among))
           (λ s. absurd (subst Makes s e.among));
       taken = λ takes. absurd takes;
       taken_fed = λ fed. absurd fed;
+      chain = λ other. absurd other;
+      onward = tt;
       crash = tt;
     }
 
@@ -194,20 +203,22 @@ returns-in-Drill-clause-ends g c =
     let job = jobs.Drill c.in-Drill.n c.in-Drill.seed c.in-Drill.width in
     subst (λ (j : Job). JobEnds (Some j) first.reads before after old new first last c.drill_text.result) (sym c.in-Drill.is) record {
       by = on_status (WritesBy (Some job) first.reads before after old new) c.drill_text.result
-          (λ s. (if_some _ before (λ input. e.done s), left_whole before))
+          (λ s. (e.done s, left_whole before))
           (λ s. absurd (subst Makes s e.among))
-          (λ s. (if_some _ before (λ input. e.malformed s), λ takes. absurd takes))
-          (λ s. absurd (subst Makes s e.among))
-          (λ s. absurd (subst Makes s e.among))
-          (λ s. if_some _ before (λ input. e.write_fault s))
+          (λ s. (e.malformed s, λ takes. absurd takes))
           (λ s. absurd (subst Makes s e.among))
           (λ s. absurd (subst Makes s e.among))
+          (λ s. e.write_fault s)
           (λ s. absurd (subst Makes s e.among))
-          (λ s. if_some _ before (λ input. e.memory s))
+          (λ s. absurd (subst Makes s e.among))
+          (λ s. absurd (subst Makes s e.among))
+          (λ s. e.memory s)
           (λ s. absurd (subst Makes s e.among))
           (λ s. absurd (subst Makes s e.among));
       taken = λ takes. absurd takes;
       taken_fed = λ fed. absurd fed;
+      chain = λ other. absurd other;
+      onward = tt;
       crash = tt;
     }
 

@@ -1,7 +1,8 @@
-use Rattle.std.proofs.Common.{◌≡◌, List, ℕ, Option, Some, Ok, Err, IfSome, refl, subst, sym}
+use Rattle.std.proofs.Common.{◌≡◌, ◌∙◌, List, ℕ, Option, Some, Ok, Err, IfSome, refl, subst, sym}
 use Rattle.std.specs.Io.KnownBytes.{Appends}
 use Rattle.sp_io.specs.Whole.{AppendsFront}
 use Rattle.sp_node.specs.Stored.{Tells}
+use Rattle.sp_journal.specs.Records.{Damaged, Found, NoJournal}
 use Rattle.sp_journal.specs.declared.fault.JournalFault.TheVariants as opening
 use Rattle.spectre.specs.Journals.{damaged_text, HasNoJournal, not_journal_text}
 use Rattle.spectre.specs.Ends.{EndsByDisk}
@@ -35,6 +36,7 @@ returns-in-NotJournal-clause-ends g c =
     exit_line fresh left old first (now c.open.new.disk) (g.met.D.Disk.is_moment c.args.disk.now) (g.met.D.Disk.is_moment c.open.new.disk) c.in-Err.ensures.looks new not_journal_text status.NotJournal c.end_with.result c.end_with.ensures.status
     (λ h. subst (λ (t : List ℕ). Appends old new t) c.not_journal_line.ensures (c.end_with.ensures.text h)) (subst (λ (t : List ℕ). AppendsFront old new t) c.not_journal_line.ensures c.end_with.ensures.front)
     (λ disk input r. none_says fresh disk input (says disk r))
+    (λ disk c r is. (let no : NoJournal ≡ Found c = sym (says disk r).none ∙ is in cc))
     (λ h. on_map left first.reads _ _ (λ disk input l r x. (x, says disk r)) h)
 
 pub returns-in-Damaged-clause-ends : goal.returns-in-Damaged-clause-ends
@@ -50,6 +52,7 @@ returns-in-Damaged-clause-ends g c =
     exit_line fresh left old first (now c.open.new.disk) (g.met.D.Disk.is_moment c.args.disk.now) (g.met.D.Disk.is_moment c.open.new.disk) c.in-Err.ensures.looks new (damaged_text at) status.Damaged c.end_with-in-Damaged.result c.end_with-in-Damaged.ensures.status
     (λ h. subst (λ (t : List ℕ). Appends old new t) c.damaged_line.ensures (c.end_with-in-Damaged.ensures.text h)) (subst (λ (t : List ℕ). AppendsFront old new t) c.damaged_line.ensures c.end_with-in-Damaged.ensures.front)
     (λ disk input r. damaged_says fresh disk input at (at_one (λ (d : List ℕ). Tells fresh d (Err (opening.Damaged at))) r e))
+    (λ disk c r is. (let no : Damaged at ≡ Found c = sym (at_one (λ (d : List ℕ). Tells fresh d (Err (opening.Damaged at))) r e) ∙ is in cc))
     (λ h. on_map left first.reads _ _ (λ disk input l r x. (x, (at, at_one (λ (d : List ℕ). Tells fresh d (Err (opening.Damaged at))) r e))) h)
 
 pub returns-in-DiskFault-clause-ends : goal.returns-in-DiskFault-clause-ends
