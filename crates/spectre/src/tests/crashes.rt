@@ -2,14 +2,14 @@
 //! what `show` finds after each crash, and that a second run goes on from there.
 
 use crate::status::Status;
-use crate::tests::disks::{PICKS, disk_with, runs_on, runs_over};
+use crate::tests::disks::{PICKS, disk_with, image_of, runs_on, runs_over};
 use crate::tests::feed_bytes::{END, feed_of, in_full};
+use crate::tests::text::Text;
 use crate::tests::{Ended, Wanted, agrees};
 use sp_disk::MemDisk;
 use sp_io::Fails;
 use std::alloc::Global;
 use std::process::Abort;
-use std::test::Fail;
 
 pub const NODE: &[u8] = b"node\nf";
 
@@ -18,12 +18,12 @@ pub const FRESH: &[u8] = b"node\n--fresh\nf";
 pub const SHOW: &[u8] = b"show\nf";
 
 /// The feed of the two blocks.
-pub fn both(alloc: Global) -> Result<Vec<u8>, Fail> {
+pub fn both(alloc: Global) -> Text {
     feed_of(alloc, 0, b"A\nB\n", END)
 }
 
 /// The lines of the first blocks.
-fn kept(count: usize) -> &'static [u8] {
+pub fn kept(count: usize) -> &'static [u8] {
     match count {
         0 => b"",
         1 => b"kept A present 1\n",
@@ -59,30 +59,30 @@ fn digit_of(output: &[u8]) -> u8 {
 
 /// What `show` says of these bytes, which it leaves: an empty disk, no journal, the number of blocks, or
 /// anything else.
-pub fn letter_of(alloc: Global, image: &[u8]) -> Result<u8, Fail> {
-    let (ended, left) = runs_on(alloc, SHOW, b"", image)?;
+fn letter_of(rt: &impl Abort, alloc: Global, image: &[u8]) -> u8 {
+    let (ended, left) = runs_on(rt, alloc, SHOW, b"", image);
+    let output = ended.output.whole(rt);
     if left.as_slice() != image {
-        return Ok(b'?');
+        b'?'
+    } else if ended.status == Status::Done {
+        digit_of(output)
+    } else if ended.status != Status::NotJournal || output != b"fault not-journal\n".as_slice() {
+        b'?'
+    } else if image.is_empty() {
+        b'e'
+    } else {
+        b'n'
     }
-    if ended.status == Status::Done {
-        return Ok(digit_of(&ended.output));
-    }
-    if ended.status != Status::NotJournal
-        || ended.output.as_slice() != b"fault not-journal\n".as_slice()
-    {
-        return Ok(b'?');
-    }
-    Ok(if image.is_empty() { b'e' } else { b'n' })
 }
 
 /// What each crash leaves now.
-pub fn letters_of(alloc: Global, disk: &MemDisk) -> Result<[u8; 4], Fail> {
+pub fn letters_of(rt: &impl Abort, alloc: Global, disk: &MemDisk) -> [u8; 4] {
     let mut all = [b'?'; 4];
     for (letter, pick) in all.iter_mut().zip(PICKS) {
-        let image = disk.image(pick)?;
-        *letter = letter_of(alloc, &image)?;
+        let image = image_of(rt, disk, *pick);
+        *letter = letter_of(rt, alloc, image.as_slice());
     }
-    Ok(all)
+    all
 }
 
 /// How the same feed is answered once more, where this was left.
@@ -99,41 +99,43 @@ fn wanted_again(fresh: bool, letter: u8) -> (Status, &'static [u8]) {
 }
 
 /// Whether it is answered so on these bytes, and both blocks are there then, or the bytes stay.
-fn is_so_again(alloc: Global, feed: &[u8], fresh: bool, image: &[u8]) -> Result<bool, Fail> {
-    let (status, lines) = wanted_again(fresh, letter_of(alloc, image)?);
+fn is_so_again(rt: &impl Abort, alloc: Global, feed: &[u8], fresh: bool, image: &[u8]) -> bool {
+    let (status, lines) = wanted_again(fresh, letter_of(rt, alloc, image));
+    let output = in_full(alloc, lines);
     let words = if fresh { FRESH } else { NODE };
-    let (ended, left) = runs_on(alloc, words, feed, image)?;
-    if ended.status != status || ended.output.as_slice() != in_full(alloc, lines)?.as_slice() {
-        return Ok(false);
-    }
-    if status == Status::Done {
-        return Ok(letter_of(alloc, &left)? == b'2');
-    }
-    Ok(left.as_slice() == image)
+    let (ended, left) = runs_on(rt, alloc, words, feed, image);
+    let stands = if status == Status::Done {
+        letter_of(rt, alloc, left.as_slice()) == b'2'
+    } else {
+        left.as_slice() == image
+    };
+    stands && ended.status == status && ended.output.whole(rt) == output.whole(rt)
 }
 
 /// Whether so it is on what each crash leaves now.
-fn goes_on(alloc: Global, feed: &[u8], disk: &MemDisk) -> Result<bool, Fail> {
+fn goes_on(rt: &impl Abort, alloc: Global, feed: &[u8], disk: &MemDisk) -> bool {
+    let mut goes = true;
     for pick in PICKS {
-        let image = disk.image(pick)?;
-        if !is_so_again(alloc, feed, false, &image)? || !is_so_again(alloc, feed, true, &image)? {
-            return Ok(false);
-        }
+        let image = image_of(rt, disk, *pick);
+        let again = is_so_again(rt, alloc, feed, false, image.as_slice());
+        let fresh = is_so_again(rt, alloc, feed, true, image.as_slice());
+        goes = goes && again && fresh;
     }
-    Ok(true)
+    goes
 }
 
 /// The first call that fails, the number of lines that are written, and what each crash leaves.
 pub type Row = (u32, usize, &'static [u8]);
 
 /// The calls of a run over a disk: its words, what stands there, the number of all calls, and that of
-/// those up to the last one of a creation.
+/// those up to the last one of a creation; and what is left where they fail.
 #[derive(Clone, Copy)]
 pub struct Sequence {
     pub words: &'static [u8],
     pub bytes: &'static [u8],
     pub calls: u32,
     pub made: u32,
+    pub rows: &'static [Row],
 }
 
 /// Whether a crash may leave this where this call failed and so many lines were written: no journal only
@@ -149,9 +151,12 @@ fn is_lawful(sequence: &Sequence, call: u32, lines: usize, letter: u8) -> bool {
 }
 
 fn is_all_lawful(sequence: &Sequence, call: u32, lines: usize, letters: &[u8]) -> bool {
-    letters
-        .iter()
-        .all(|letter| is_lawful(sequence, call, lines, *letter))
+    for letter in letters {
+        if !is_lawful(sequence, call, lines, *letter) {
+            return false;
+        }
+    }
+    true
 }
 
 /// Compares what a run wrote while the disk's calls failed from this one on.
@@ -161,8 +166,8 @@ fn wrote(
     sequence: &Sequence,
     (call, lines, _): Row,
     ended: &Ended,
-) -> Result<(), Fail> {
-    let output = in_full(alloc, kept(lines))?;
+) {
+    let output = in_full(alloc, kept(lines));
     let wanted = Wanted {
         status: if call < sequence.calls {
             Status::DiskFault
@@ -170,45 +175,37 @@ fn wrote(
             Status::Done
         },
         lines: 0,
-        output: &output,
+        output: output.whole(rt),
         rest: None,
     };
     agrees(rt, "call", call as usize, ended, &wanted);
-    Ok(())
 }
 
-/// Compares what each crash leaves then, and goes on from there.
-fn left(
-    rt: &impl Abort,
-    alloc: Global,
-    sequence: &Sequence,
-    (call, lines, letters): Row,
-    feed: &[u8],
-    disk: &MemDisk,
-) -> Result<(), Fail> {
-    let left = letters_of(alloc, disk)?;
+/// Runs while the disk's calls fail from this one on, compares what each crash leaves then, and goes on
+/// from there.
+fn fails_from(rt: &impl Abort, alloc: Global, sequence: &Sequence, row: Row) {
+    let (call, lines, letters) = row;
+    let feed = both(alloc);
+    let mut disk = disk_with(rt, alloc, sequence.bytes, Fails::From(call));
+    let ended = runs_over(rt, alloc, sequence.words, feed.whole(rt), &mut disk);
+    wrote(rt, alloc, sequence, row, &ended);
+    let left = letters_of(rt, alloc, &disk);
     assert!(rt; left.as_slice() == letters, "call {call}: {left:?}");
     assert!(rt;
         is_all_lawful(sequence, call, lines, letters),
         "call {call}"
     );
-    assert!(rt; goes_on(alloc, feed, disk)?, "call {call}, and once more");
-    Ok(())
+    assert!(rt;
+        goes_on(rt, alloc, feed.whole(rt), &disk),
+        "call {call}, and once more"
+    );
 }
 
-/// Runs while the disk's calls fail from this one on, and goes on from what each crash leaves.
-pub fn fails_from(
-    rt: &impl Abort,
-    alloc: Global,
-    sequence: &Sequence,
-    row: Row,
-) -> Result<(), Fail> {
-    let feed = both(alloc)?;
-    let bytes = Vec::from_slice(alloc, sequence.bytes)?;
-    let mut disk = disk_with(alloc, bytes, Fails::From(row.0))?;
-    let ended = runs_over(alloc, sequence.words, &feed, &mut disk)?;
-    wrote(rt, alloc, sequence, row, &ended)?;
-    left(rt, alloc, sequence, row, &feed, &disk)
+/// Each row of a sequence.
+pub fn fails_at_each(rt: &impl Abort, alloc: Global, sequence: &Sequence) {
+    for row in sequence.rows {
+        fails_from(rt, alloc, sequence, *row);
+    }
 }
 
 /// On an empty disk call 0 asks for the length, 1 to 6 make the journal, and each block has four.
@@ -217,6 +214,7 @@ const ON_EMPTY: Sequence = Sequence {
     bytes: b"",
     calls: 15,
     made: 7,
+    rows: FAILING,
 };
 
 /// By hand, of the outcomes in which the pending writes are undone, done, and filled with 0 and with the
@@ -241,9 +239,6 @@ const FAILING: &[Row] = &[
 ];
 
 #[test]
-fn each_call_failing(rt: HostRuntime) -> Result<(), Fail> {
-    for row in FAILING {
-        fails_from(&rt, rt.alloc(), &ON_EMPTY, *row)?;
-    }
-    Ok(())
+fn each_call_failing(rt: HostRuntime) {
+    fails_at_each(&rt, rt.alloc(), &ON_EMPTY);
 }

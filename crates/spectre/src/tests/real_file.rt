@@ -27,58 +27,37 @@ const OLD: &[u8] = b"known A\nknown B\n";
 
 const SHOWN: &[u8] = b"recovered 2\nblocks 3 waiting 0\naccepted 0\nbalances 0\n";
 
-/// What the words write for this input, by what is on the files.
-fn writes<R: Files>(
-    rt: &R,
-    alloc: Global,
-    words: &[u8],
-    input: &[u8],
-) -> Result<(Status, Vec<u8>), Fail> {
-    let words = words_of(alloc, words)?;
-    let mut source = MemSource::new(Vec::from_slice(alloc, input)?, 4096, Fails::Never);
-    let mut sink = MemSink::new(alloc, 4096, 65535, Fails::Never)?;
-    let status = run_on(alloc, rt, &words, &mut source, &mut sink);
-    Ok((status, Vec::from_slice(alloc, sink.bytes())?))
-}
-
-/// Compares that with what is wanted.
-fn agrees<R: Files + Abort>(
+/// Compares what the words write for this input, by what is on the files.
+fn writes<R: Files + Abort>(
     rt: &R,
     alloc: Global,
     words: &[u8],
     input: &[u8],
     (status, output): (Status, &[u8]),
-) -> Result<(), Fail> {
-    let (ended, written) = writes(rt, alloc, words, input)?;
+) {
+    let words = words_of(rt, alloc, words);
+    let input = Vec::from_slice(alloc, input).expect(rt, "memory");
+    let mut source = MemSource::new(input, 4096, Fails::Never);
+    let mut sink = MemSink::new(alloc, 4096, 65535, Fails::Never).expect(rt, "memory");
+    let ended = run_on(alloc, rt, &words, &mut source, &mut sink);
+    let output = in_full(alloc, output);
     assert!(rt; ended == status, "{ended:?}");
-    assert!(rt; written.as_slice() == output, "{written:?}");
-    Ok(())
+    assert!(rt; sink.bytes() == output.whole(rt), "{:?}", sink.bytes());
 }
 
 #[test]
 fn a_journal_in_a_file(rt: HostRuntime) -> Result<(), Fail> {
     let alloc = rt.alloc();
-    let feed = both(alloc)?;
+    let feed = both(alloc);
+    let feed = feed.whole(&rt);
     let _ = fs::remove_file(&rt, PATH);
-    agrees(&rt, alloc, SHOW, b"", (Status::DiskFault, b""))?;
-    assert!(rt; !fs::exists(&rt, PATH)?);
-    agrees(
-        &rt,
-        alloc,
-        NODE,
-        &feed,
-        (Status::Done, &in_full(alloc, NEW)?),
-    )?;
-    agrees(&rt, alloc, SHOW, b"", (Status::Done, SHOWN))?;
-    agrees(
-        &rt,
-        alloc,
-        NODE,
-        &feed,
-        (Status::Done, &in_full(alloc, OLD)?),
-    )?;
-    agrees(&rt, alloc, SHOW, b"", (Status::Done, SHOWN))?;
-    agrees(&rt, alloc, OTHER, b"", (Status::DiskFault, b""))?;
+    writes(&rt, alloc, SHOW, b"", (Status::DiskFault, b""));
+    assert!(&rt; !fs::exists(&rt, PATH)?);
+    writes(&rt, alloc, NODE, feed, (Status::Done, NEW));
+    writes(&rt, alloc, SHOW, b"", (Status::Done, SHOWN));
+    writes(&rt, alloc, NODE, feed, (Status::Done, OLD));
+    writes(&rt, alloc, SHOW, b"", (Status::Done, SHOWN));
+    writes(&rt, alloc, OTHER, b"", (Status::DiskFault, b""));
     fs::remove_file(&rt, PATH)?;
     Ok(())
 }
