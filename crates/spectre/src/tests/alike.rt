@@ -93,12 +93,13 @@ fn is_line_alike<'a>(
 fn compares(rt: &impl Abort, alloc: Global, at: usize, played: &str, replayed: &str) {
     let mut labels = Vec::new(alloc);
     let mut others = replayed.lines();
+    let mut alike = true;
     for line in played.lines() {
         let other = others.next().unwrap_or("");
-        let alike = is_line_alike(rt, &mut labels, line, other);
-        assert!(rt; alike, "{at}: {line} and {other}");
+        alike = alike && is_line_alike(rt, &mut labels, line, other);
     }
-    assert!(rt; others.next().is_none(), "{at}: more lines");
+    alike = alike && others.next().is_none();
+    assert!(rt; alike, "{at}:\n{played}and\n{replayed}");
 }
 
 /// A scenario without its questions for lists.

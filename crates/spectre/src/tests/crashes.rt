@@ -2,12 +2,11 @@
 //! what `show` finds after each crash, and that a second run goes on from there.
 
 use crate::status::Status;
-use crate::tests::disks::{PICKS, disk_with, image_of, runs_on, runs_over};
+use crate::tests::disks::{EMPTY, Left, PICKS, image_of, runs_on, tried_on};
 use crate::tests::feed_bytes::{END, feed_of, in_full};
 use crate::tests::text::Text;
-use crate::tests::{Ended, Wanted, agrees};
+use crate::tests::{Ends, Trial, WIDE, Wanted};
 use sp_disk::MemDisk;
-use sp_io::Fails;
 use std::alloc::Global;
 use std::process::Abort;
 
@@ -57,21 +56,27 @@ fn digit_of(output: &[u8]) -> u8 {
     b'?'
 }
 
-/// What `show` says of these bytes, which it leaves: an empty disk, no journal, the number of blocks, or
-/// anything else.
-fn letter_of(rt: &impl Abort, alloc: Global, image: &[u8]) -> u8 {
-    let (ended, left) = runs_on(rt, alloc, SHOW, b"", image);
-    let output = ended.output.whole(rt);
-    if left.as_slice() != image {
-        b'?'
-    } else if ended.status == Status::Done {
+/// What `show` says, as a letter: of an empty disk, of no journal, the number of blocks, or anything else.
+fn letter(status: Status, output: &[u8], is_empty: bool) -> u8 {
+    if status == Status::Done {
         digit_of(output)
-    } else if ended.status != Status::NotJournal || output != b"fault not-journal\n".as_slice() {
+    } else if status != Status::NotJournal || output != b"fault not-journal\n".as_slice() {
         b'?'
-    } else if image.is_empty() {
+    } else if is_empty {
         b'e'
     } else {
         b'n'
+    }
+}
+
+/// What `show` says of these bytes, which it leaves.
+fn letter_of(rt: &impl Abort, alloc: Global, image: &[u8]) -> u8 {
+    let (ended, left) = runs_on(rt, alloc, SHOW, b"", image);
+    let letter = letter(ended.status, ended.output.whole(rt), image.is_empty());
+    if left.as_slice() == image {
+        letter
+    } else {
+        b'?'
     }
 }
 
@@ -98,30 +103,59 @@ fn wanted_again(fresh: bool, letter: u8) -> (Status, &'static [u8]) {
     (Status::Done, lines)
 }
 
-/// Whether it is answered so on these bytes, and both blocks are there then, or the bytes stay.
-fn is_so_again(rt: &impl Abort, alloc: Global, feed: &[u8], fresh: bool, image: &[u8]) -> bool {
+/// It is answered so on these bytes, and both blocks are there then, or the bytes stay.
+fn again(rt: &impl Abort, alloc: Global, call: u32, fresh: bool, image: &[u8]) {
     let (status, lines) = wanted_again(fresh, letter_of(rt, alloc, image));
-    let output = in_full(alloc, lines);
     let words = if fresh { FRESH } else { NODE };
-    let (ended, left) = runs_on(rt, alloc, words, feed, image);
-    let stands = if status == Status::Done {
-        letter_of(rt, alloc, left.as_slice()) == b'2'
+    let left = if status == Status::Done {
+        Left::Found(b"2222")
     } else {
-        left.as_slice() == image
+        Left::AsBefore
     };
-    stands && ended.status == status && ended.output.whole(rt) == output.whole(rt)
+    let name = ("again", call);
+    let _ = answered_both(rt, alloc, name, words, (status, lines), None, image, left);
 }
 
-/// Whether so it is on what each crash leaves now.
-fn goes_on(rt: &impl Abort, alloc: Global, feed: &[u8], disk: &MemDisk) -> bool {
-    let mut goes = true;
+/// Sends both blocks over a disk with these bytes whose calls fail from one on, compares how they are
+/// answered and what is left, and answers the disk.
+fn answered_both(
+    rt: &impl Abort,
+    alloc: Global,
+    (name, call): (&str, u32),
+    words: &[u8],
+    (status, lines): (Status, &[u8]),
+    bad_calls: Option<u32>,
+    bytes: &[u8],
+    left: Left,
+) -> MemDisk {
+    let input = both(alloc);
+    let output = in_full(alloc, lines);
+    let trial = Trial {
+        words,
+        input: input.whole(rt),
+        ends: Ends {
+            disk: EMPTY,
+            bad_calls,
+            ..WIDE
+        },
+    };
+    let wanted = Wanted {
+        status,
+        lines: 0,
+        output: output.whole(rt),
+        rest: None,
+    };
+    let name = (name, call as usize);
+    tried_on(rt, alloc, name, &trial, &wanted, bytes, left)
+}
+
+/// So it is on what each crash leaves now.
+fn goes_on(rt: &impl Abort, alloc: Global, call: u32, disk: &MemDisk) {
     for pick in PICKS {
         let image = image_of(rt, disk, *pick);
-        let again = is_so_again(rt, alloc, feed, false, image.as_slice());
-        let fresh = is_so_again(rt, alloc, feed, true, image.as_slice());
-        goes = goes && again && fresh;
+        again(rt, alloc, call, false, image.as_slice());
+        again(rt, alloc, call, true, image.as_slice());
     }
-    goes
 }
 
 /// The first call that fails, the number of lines that are written, and what each crash leaves.
@@ -159,46 +193,26 @@ fn is_all_lawful(sequence: &Sequence, call: u32, lines: usize, letters: &[u8]) -
     true
 }
 
-/// Compares what a run wrote while the disk's calls failed from this one on.
-fn wrote(
-    rt: &impl Abort,
-    alloc: Global,
-    sequence: &Sequence,
-    (call, lines, _): Row,
-    ended: &Ended,
-) {
-    let output = in_full(alloc, kept(lines));
-    let wanted = Wanted {
-        status: if call < sequence.calls {
-            Status::DiskFault
-        } else {
-            Status::Done
-        },
-        lines: 0,
-        output: output.whole(rt),
-        rest: None,
+/// Runs while the disk's calls fail from this one on, and goes on from what each crash leaves.
+fn fails_from(rt: &impl Abort, alloc: Global, sequence: &Sequence, (call, lines, letters): Row) {
+    let status = if call < sequence.calls {
+        Status::DiskFault
+    } else {
+        Status::Done
     };
-    agrees(rt, "call", call as usize, ended, &wanted);
-}
-
-/// Runs while the disk's calls fail from this one on, compares what each crash leaves then, and goes on
-/// from there.
-fn fails_from(rt: &impl Abort, alloc: Global, sequence: &Sequence, row: Row) {
-    let (call, lines, letters) = row;
-    let feed = both(alloc);
-    let mut disk = disk_with(rt, alloc, sequence.bytes, Fails::From(call));
-    let ended = runs_over(rt, alloc, sequence.words, feed.whole(rt), &mut disk);
-    wrote(rt, alloc, sequence, row, &ended);
-    let left = letters_of(rt, alloc, &disk);
-    assert!(rt; left.as_slice() == letters, "call {call}: {left:?}");
-    assert!(rt;
-        is_all_lawful(sequence, call, lines, letters),
-        "call {call}"
+    let disk = answered_both(
+        rt,
+        alloc,
+        ("call", call),
+        sequence.words,
+        (status, kept(lines)),
+        Some(call),
+        sequence.bytes,
+        Left::Found(letters),
     );
-    assert!(rt;
-        goes_on(rt, alloc, feed.whole(rt), &disk),
-        "call {call}, and once more"
-    );
+    let is_lawful = is_all_lawful(sequence, call, lines, letters);
+    assert!(rt; is_lawful, "call {call}");
+    goes_on(rt, alloc, call, &disk);
 }
 
 /// Each row of a sequence.

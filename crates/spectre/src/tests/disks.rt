@@ -98,49 +98,70 @@ pub fn leaves(rt: &impl Abort, disk: &MemDisk, bytes: &[u8]) -> bool {
 pub enum Left {
     Unsaid,
     AsBefore,
+    Stands(Held),
     /// What `show` finds, as a letter for each crash.
     Found(&'static [u8]),
+    /// A journal of two blocks, among so many bytes in all.
+    Made(usize),
 }
 
 fn is_left(rt: &impl Abort, alloc: Global, disk: &MemDisk, before: &[u8], left: Left) -> bool {
     match left {
         Left::Unsaid => true,
         Left::AsBefore => leaves(rt, disk, before),
+        Left::Stands(held) => leaves(rt, disk, bytes_of(alloc, held).whole(rt)),
         Left::Found(letters) => letters_of(rt, alloc, disk).as_slice() == letters,
+        Left::Made(size) => {
+            image_of(rt, disk, Pick::New).len() == size
+                && letters_of(rt, alloc, disk).as_slice() == b"2222".as_slice()
+        }
     }
 }
 
-/// Runs the program, and compares what the run ends as and leaves on its disk with what is wanted.
-pub fn tries_over(
+/// Runs the program over a disk with these bytes, compares what the run ends as and leaves there with
+/// what is wanted, and answers the disk.
+pub fn tried_on(
     rt: &impl Abort,
     alloc: Global,
     (name, at): (&str, usize),
     trial: &Trial,
     wanted: &Wanted,
+    bytes: &[u8],
     left: Left,
-) {
-    let mut disk = disk_of(rt, alloc, &trial.ends);
-    let before = image_of(rt, &disk, Pick::New);
+) -> MemDisk {
+    let fails = fails_of(rt, alloc, &trial.ends);
+    let mut disk = disk_with(rt, alloc, bytes, fails);
     let ended = ran_over(rt, alloc, trial, &mut disk);
     agrees(rt, name, at, &ended, wanted);
-    let is_left = is_left(rt, alloc, &disk, before.as_slice(), left);
+    let is_left = is_left(rt, alloc, &disk, bytes, left);
     assert!(rt; is_left, "{name}, {at}: the disk");
+    disk
 }
 
-/// A run over this disk at ends that are wide.
-pub fn runs_over(
+/// The same, where the disk isn't looked at any more.
+pub fn tries_on(
     rt: &impl Abort,
     alloc: Global,
-    words: &[u8],
-    input: &[u8],
-    disk: &mut MemDisk,
-) -> Ended {
-    let trial = Trial {
-        words,
-        input,
-        ends: WIDE,
-    };
-    ran_over(rt, alloc, &trial, disk)
+    name: (&str, usize),
+    trial: &Trial,
+    wanted: &Wanted,
+    bytes: &[u8],
+    left: Left,
+) {
+    let _ = tried_on(rt, alloc, name, trial, wanted, bytes, left);
+}
+
+/// Runs the program over its own disk, and compares both.
+pub fn tries_over(
+    rt: &impl Abort,
+    alloc: Global,
+    name: (&str, usize),
+    trial: &Trial,
+    wanted: &Wanted,
+    left: Left,
+) {
+    let bytes = bytes_of(alloc, trial.ends.disk);
+    tries_on(rt, alloc, name, trial, wanted, bytes.whole(rt), left);
 }
 
 /// A run over a disk with these bytes at ends that are wide, and what it leaves there.
@@ -152,7 +173,12 @@ pub fn runs_on(
     bytes: &[u8],
 ) -> (Ended, Vec<u8>) {
     let mut disk = disk_with(rt, alloc, bytes, Fails::Never);
-    let ended = runs_over(rt, alloc, words, input, &mut disk);
+    let trial = Trial {
+        words,
+        input,
+        ends: WIDE,
+    };
+    let ended = ran_over(rt, alloc, &trial, &mut disk);
     let left = image_of(rt, &disk, Pick::New);
     (ended, left)
 }

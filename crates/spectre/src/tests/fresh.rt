@@ -2,11 +2,10 @@
 //! that a crash opens over what stood there.
 
 use crate::status::Status;
-use crate::tests::crashes::{FRESH, NODE, Row, Sequence, both, fails_at_each, letters_of};
-use crate::tests::disks::{Held, Left, TWO, disk_of, image_of, runs_over, tries_over};
+use crate::tests::crashes::{FRESH, NODE, Row, Sequence, fails_at_each, kept};
+use crate::tests::disks::{Held, Left, TWO, tries_over};
 use crate::tests::feed_bytes::{END, feed_of, in_full};
 use crate::tests::{Ends, Trial, WIDE, Wanted};
-use sp_disk::Pick;
 use std::alloc::Global;
 use std::process::Abort;
 
@@ -83,66 +82,22 @@ const OVER: &[(&[u8], usize)] = &[
     (&[0x5A; 300], 300),
 ];
 
-/// Whether a run is refused, which leaves the bytes.
-fn is_refused(rt: &impl Abort, alloc: Global, at: usize, ends: Ends) {
-    let input = both(alloc);
-    let trial = Trial {
-        words: NODE,
-        input: input.whole(rt),
-        ends,
-    };
-    let wanted = Wanted {
-        status: Status::NotJournal,
-        lines: 0,
-        output: b"fault not-journal\n",
-        rest: None,
-    };
-    tries_over(rt, alloc, ("refused", at), &trial, &wanted, Left::AsBefore);
-}
+/// What stands on a disk, the bits of the feed of the two blocks, how a run ends there, and what it
+/// leaves.
+type Kept = (Held, u8, Status, &'static [u8], Left);
 
-/// Whether a new journal is made where it is asked for, of both blocks, and so many bytes stand then.
-fn is_made(rt: &impl Abort, alloc: Global, ends: &Ends, size: usize) -> bool {
-    let input = both(alloc);
-    let mut disk = disk_of(rt, alloc, ends);
-    let ended = runs_over(rt, alloc, b"node\nf\n--fresh", input.whole(rt), &mut disk);
-    let image = image_of(rt, &disk, Pick::New);
-    ended.status == Status::Done
-        && image.len() == size
-        && letters_of(rt, alloc, &disk).as_slice() == b"2222".as_slice()
-}
-
-#[test]
-fn over_other_bytes(rt: HostRuntime) {
-    for (at, (bytes, size)) in OVER.iter().enumerate() {
-        let ends = Ends {
-            disk: Held::Bytes(bytes),
-            ..WIDE
-        };
-        is_refused(&rt, rt.alloc(), at, ends);
-        assert!(&rt; is_made(&rt, rt.alloc(), &ends, *size), "{at}");
-    }
-}
-
-/// What stands on a disk, the bits of the feed of the two blocks, and how `node --fresh` ends there.
-type Kept = (Held, u8, Status, &'static [u8]);
-
-/// A journal isn't discarded: neither one of this chain, nor that of another one, nor a damaged one.
-#[rattlefmt::skip]
-const KEPT: &[Kept] = &[
-    (TWO, 0, Status::Done, b"known A\nknown B\n"),
-    (Held::Journal(0, b"", b"\0"), 0, Status::Done, b"kept A present 1\nkept B present 1\n"),
-    (Held::Journal(0, b"B", b"\0rubbish"), 0, Status::Done, b"kept A present 1\nknown B\n"),
-    (TWO, 1, Status::OtherChain, b"fault other-chain 0 G 1 G\n"),
-    (Held::Journal(0, b"AB", b""), 0, Status::Damaged, b"fault damaged 148\n"),
-    (Held::Journal(0, b"AB", b"\xa5"), 1, Status::Damaged, b"fault damaged 148\n"),
-];
-
-/// Each crash leaves the two blocks where a run was done, and else what was there before.
-fn is_kept(rt: &impl Abort, alloc: Global, at: usize, (disk, bits, status, lines): Kept) {
+/// Sends both blocks with these words over a disk, and compares how they are answered and what is left.
+fn answers_both(
+    rt: &impl Abort,
+    alloc: Global,
+    at: usize,
+    words: &[u8],
+    (disk, bits, status, lines, left): Kept,
+) {
     let input = feed_of(alloc, bits, b"A\nB\n", END);
     let output = in_full(alloc, lines);
     let trial = Trial {
-        words: FRESH,
+        words,
         input: input.whole(rt),
         ends: Ends { disk, ..WIDE },
     };
@@ -152,17 +107,36 @@ fn is_kept(rt: &impl Abort, alloc: Global, at: usize, (disk, bits, status, lines
         output: output.whole(rt),
         rest: None,
     };
-    let left = if status == Status::Done {
-        Left::Found(b"2222")
-    } else {
-        Left::AsBefore
-    };
-    tries_over(rt, alloc, ("kept", at), &trial, &wanted, left);
+    tries_over(rt, alloc, ("fresh", at), &trial, &wanted, left);
 }
+
+/// Such a run is refused, which leaves the bytes; and a new journal is made where it is asked for.
+#[test]
+fn over_other_bytes(rt: HostRuntime) {
+    let refused: &[u8] = b"fault not-journal\n";
+    for (at, (bytes, size)) in OVER.iter().enumerate() {
+        let held = Held::Bytes(bytes);
+        let row = (held, 0, Status::NotJournal, refused, Left::AsBefore);
+        answers_both(&rt, rt.alloc(), at, NODE, row);
+        let row = (held, 0, Status::Done, kept(2), Left::Made(*size));
+        answers_both(&rt, rt.alloc(), at, b"node\nf\n--fresh", row);
+    }
+}
+
+/// A journal isn't discarded: neither one of this chain, nor that of another one, nor a damaged one.
+#[rattlefmt::skip]
+const KEPT: &[Kept] = &[
+    (TWO, 0, Status::Done, b"known A\nknown B\n", Left::Found(b"2222")),
+    (Held::Journal(0, b"", b"\0"), 0, Status::Done, b"kept A present 1\nkept B present 1\n", Left::Found(b"2222")),
+    (Held::Journal(0, b"B", b"\0rubbish"), 0, Status::Done, b"kept A present 1\nknown B\n", Left::Found(b"2222")),
+    (TWO, 1, Status::OtherChain, b"fault other-chain 0 G 1 G\n", Left::AsBefore),
+    (Held::Journal(0, b"AB", b""), 0, Status::Damaged, b"fault damaged 148\n", Left::AsBefore),
+    (Held::Journal(0, b"AB", b"\xa5"), 1, Status::Damaged, b"fault damaged 148\n", Left::AsBefore),
+];
 
 #[test]
 fn over_a_journal(rt: HostRuntime) {
     for (at, row) in KEPT.iter().enumerate() {
-        is_kept(&rt, rt.alloc(), at, *row);
+        answers_both(&rt, rt.alloc(), at, FRESH, *row);
     }
 }

@@ -3,9 +3,9 @@
 
 use crate::status::Status;
 use crate::tests::crashes::{NODE, both, kept};
-use crate::tests::disks::{EMPTY, Held, Left, TWO, bytes_of, runs_on, tries_over};
+use crate::tests::disks::{EMPTY, Held, Left, TWO, tries_over};
 use crate::tests::feed_bytes::{END, feed_of, in_full};
-use crate::tests::{Ends, Trial, WIDE, Wanted, agrees};
+use crate::tests::{Ends, Trial, WIDE, Wanted};
 use std::alloc::Global;
 use std::process::Abort;
 
@@ -44,18 +44,23 @@ const ROWS: &[Row] = &[
 
 fn try_row(rt: &impl Abort, alloc: Global, at: usize, row: &Row) {
     let input = feed_of(alloc, row.bits, row.messages, row.tail);
-    let found = bytes_of(alloc, row.found);
-    let (ended, left) = runs_on(rt, alloc, NODE, input.whole(rt), found.whole(rt));
     let output = in_full(alloc, row.output);
+    let trial = Trial {
+        words: NODE,
+        input: input.whole(rt),
+        ends: Ends {
+            disk: row.found,
+            ..WIDE
+        },
+    };
     let wanted = Wanted {
         status: Status::Done,
         lines: 0,
         output: output.whole(rt),
         rest: Some((Some(0), Some(0), [0; 7], true)),
     };
-    agrees(rt, row.name, at, &ended, &wanted);
-    let wanted = bytes_of(alloc, row.left);
-    assert!(rt; left.as_slice() == wanted.whole(rt), "{}", row.name);
+    let left = Left::Stands(row.left);
+    tries_over(rt, alloc, (row.name, at), &trial, &wanted, left);
 }
 
 #[test]

@@ -15,8 +15,17 @@ pub struct Paged<'a> {
     pub output: &'a [u8],
 }
 
-/// Runs with a sink of which this write fails: how much was written up to it, none where all of it was.
-fn fails_at(rt: &impl Abort, alloc: Global, paged: &Paged, taken: u16, call: u32) -> Option<usize> {
+/// Whether a run wrote all, or a front up to a write that failed.
+fn is_front(status: Status, output: &[u8], whole: &[u8]) -> bool {
+    match status {
+        Status::Done => output == whole,
+        Status::WriteFault => whole.starts_with(output),
+        _ => false,
+    }
+}
+
+/// Runs with a sink of which this write fails: whether it was made, and how much was written.
+fn fails_at(rt: &impl Abort, alloc: Global, paged: &Paged, taken: u16, call: u32) -> (bool, usize) {
     let trial = Trial {
         words: paged.words,
         input: paged.input,
@@ -28,30 +37,36 @@ fn fails_at(rt: &impl Abort, alloc: Global, paged: &Paged, taken: u16, call: u32
     };
     let ended = ran(rt, alloc, &trial);
     let output = ended.output.whole(rt);
-    if ended.status == Status::Done {
-        assert!(rt; output == paged.output, "another whole");
-        return None;
-    }
-    assert!(rt; ended.status == Status::WriteFault, "{:?}", ended.status);
-    assert!(rt; paged.output.starts_with(output), "no front");
-    Some(output.len())
+    let is_so = is_front(ended.status, output, paged.output);
+    assert!(rt; is_so, "{:?} at write {call}", ended.status);
+    (ended.status != Status::Done, output.len())
 }
 
 /// Each write of at most so many bytes fails in turn, and each time more is written before it than
-/// the time before, nothing before the first; until so many were made, and none is left to fail.
-pub fn fails_in_turn(rt: &impl Abort, alloc: Global, paged: &Paged, taken: u16) -> u32 {
+/// the time before, nothing before the first; until so many were made, and none is left to fail. 0
+/// where they have no end.
+fn fails_in_turn(rt: &impl Abort, alloc: Global, paged: &Paged, taken: u16) -> u32 {
     let mut least = 0;
     for call in 0..200u32 {
-        let Some(length) = fails_at(rt, alloc, paged, taken, call) else {
+        let (is_made, length) = fails_at(rt, alloc, paged, taken, call);
+        if !is_made {
             return call;
-        };
+        }
         assert!(rt;
             least <= length && (0 < call || length == 0),
             "{length} bytes before write {call} of {taken} bytes"
         );
         least = length.saturating_add(1);
     }
-    panic!(rt; "no end of the writes")
+    0
+}
+
+/// Each write fails in turn, of at most so many bytes, of which there are at least so many.
+pub fn writes_fail(rt: &impl Abort, alloc: Global, paged: &Paged, writes: &[(u16, u32)]) {
+    for (taken, least) in writes {
+        let count = fails_in_turn(rt, alloc, paged, *taken);
+        assert!(rt; *least <= count, "{count} writes of {taken} bytes");
+    }
 }
 
 /// A text, and then a line a hundred times.
@@ -77,8 +92,5 @@ fn long_feed(rt: HostRuntime) {
         input: scenario.whole(&rt),
         output: feed.whole(&rt),
     };
-    for (taken, least) in WRITES {
-        let count = fails_in_turn(&rt, rt.alloc(), &paged, *taken);
-        assert!(&rt; *least <= count, "{count} writes of {taken} bytes");
-    }
+    writes_fail(&rt, rt.alloc(), &paged, WRITES);
 }

@@ -1,9 +1,9 @@
-//! Feeds that ask for all pairs and for a report, through ends that give and take in pieces, and that
-//! fail: the smallest one, and one whose answers need more than a page.
+//! Feeds that ask for all pairs and for a report, at ends that give little or fail: the smallest one, and
+//! one whose answers need more than a page.
 
 use crate::status::Status;
 use crate::tests::feed_bytes::{head_of, put_child};
-use crate::tests::pages::{Paged, fails_in_turn};
+use crate::tests::pages::{Paged, writes_fail};
 use crate::tests::paired::{Ordered, put_pairs};
 use crate::tests::text::{Text, joined, put_hex};
 use crate::tests::{Ends, Rest, Trial, WIDE, Wanted, tries};
@@ -12,7 +12,7 @@ use std::alloc::Global;
 
 /// The smallest feed that asks for a report: the head with the smallest genesis block, the question,
 /// and the end.
-pub const SMALLEST: &[u8] = &[
+const SMALLEST: &[u8] = &[
     0x53, 0x50, 0x43, 0x54, 0x52, 0x46, 0x30, 0x31, 0, 0x42, 0x14, 0, 0, 0, 1, 0, 0, 0, 0, 0, 0, 0,
     0, 0, 0, 0, 0, 0, 0, 0, 0, 0, 0, 0, 0x52, 0, 0, 0, 0, 0x45, 0, 0, 0, 0,
 ];
@@ -121,8 +121,5 @@ fn pages(rt: HostRuntime) {
         input: chain.feed.whole(&rt),
         output: chain.answers.whole(&rt),
     };
-    for (taken, least) in WRITES {
-        let count = fails_in_turn(&rt, rt.alloc(), &paged, *taken);
-        assert!(&rt; *least <= count, "{count} writes of {taken} bytes");
-    }
+    writes_fail(&rt, rt.alloc(), &paged, WRITES);
 }

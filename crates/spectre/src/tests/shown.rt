@@ -1,5 +1,5 @@
-//! `show` on disks that hold no journal or fail, and on journals with payments. It writes nothing there,
-//! and reads no input.
+//! `show` on disks that hold no journal or fail, and on a journal. It writes nothing there, and reads no
+//! input.
 
 use crate::status::Status;
 use crate::tests::crashes::SHOW;

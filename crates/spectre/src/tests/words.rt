@@ -159,13 +159,17 @@ fn are_without_file(rt: &impl Abort, alloc: Global, lines: &[u8], are_command: b
     is_so && path_of(&words).is_none()
 }
 
-/// The words of a row are no command, behind these first ones.
-fn is_refused(rt: &impl Abort, alloc: Global, at: usize, first: &[u8], row: &str) {
+/// The words of a row behind these first ones.
+fn words_in(alloc: Global, first: &[u8], row: &str) -> Text {
     let mut words = Text::of(alloc, first);
     for byte in row.as_bytes() {
         words.put(&[if *byte == b'|' { b'\n' } else { *byte }]);
     }
-    let words = words.whole(rt);
+    words
+}
+
+/// They are no command.
+fn is_refused(rt: &impl Abort, alloc: Global, at: usize, words: &[u8]) {
     let trial = Trial {
         words,
         input: SAMPLE,
@@ -177,7 +181,7 @@ fn is_refused(rt: &impl Abort, alloc: Global, at: usize, first: &[u8], row: &str
 
 fn are_refused(rt: &impl Abort, alloc: Global, first: &[u8], rows: &str) {
     for (at, row) in rows.lines().enumerate() {
-        is_refused(rt, alloc, at, first, row);
+        is_refused(rt, alloc, at, words_in(alloc, first, row).whole(rt));
     }
 }
 
