@@ -27,7 +27,6 @@ mod made;
 mod orders;
 mod pages;
 mod paired;
-mod payments;
 mod pieces;
 mod real_file;
 mod reports;
@@ -35,6 +34,7 @@ mod shapes;
 mod shown;
 mod spends;
 mod streams;
+mod text;
 mod transfers;
 mod words;
 mod worked;
@@ -42,11 +42,11 @@ mod worked;
 use crate::command::run;
 use crate::status::Status;
 use crate::tests::disks::{Held, disk_of, is_uncalled};
+use crate::tests::text::Text;
 use sp_disk::MemDisk;
 use sp_io::{Calls, Fails, MemSink, MemSource, Sink, Source};
 use std::alloc::Global;
 use std::process::Abort;
-use std::test::Fail;
 
 /// A text that is read, and what is answered. Its row in its table names it: each constant more in a
 /// table has its price in the proof of the test that reads it.
@@ -114,53 +114,39 @@ pub struct Wanted<'a> {
 #[derive(Drop)]
 pub struct Ended {
     pub status: Status,
-    pub output: Vec<u8>,
+    pub output: Text,
     pub rest: Rest,
 }
 
-fn put_word(words: &mut Vec<String>, alloc: Global, word: &str) -> Result<(), Fail> {
-    words.push(String::from_str(alloc, word)?)?;
-    Ok(())
-}
-
-fn put_words(words: &mut Vec<String>, alloc: Global, lines: &str) -> Result<(), Fail> {
-    for word in lines.lines() {
-        put_word(words, alloc, word)?;
-    }
-    Ok(())
-}
-
 /// The words that these lines are.
-pub fn words_of(alloc: Global, lines: &[u8]) -> Result<Vec<String>, Fail> {
-    let text = str::from_utf8(lines)?;
+pub fn words_of(rt: &impl Abort, alloc: Global, lines: &[u8]) -> Vec<String> {
     let mut words = Vec::new(alloc);
-    put_words(&mut words, alloc, text)?;
-    Ok(words)
+    for line in str::from_utf8(lines).expect(rt, "words").lines() {
+        let word = String::from_str(alloc, line).expect(rt, "memory");
+        words.push(word).expect(rt, "memory");
+    }
+    words
 }
 
-fn fails(alloc: Global, call: Option<u32>) -> Result<Fails, Fail> {
+fn fails(rt: &impl Abort, alloc: Global, call: Option<u32>) -> Fails {
     match call {
-        Some(call) => Ok(Fails::At(Calls::of(vec![in alloc; call]?))),
-        None => Ok(Fails::Never),
+        Some(call) => Fails::At(Calls::of(vec![in alloc; call].expect(rt, "memory"))),
+        None => Fails::Never,
     }
 }
 
-fn source_of(alloc: Global, trial: &Trial) -> Result<MemSource, Fail> {
+fn source_of(rt: &impl Abort, alloc: Global, trial: &Trial) -> MemSource {
     let given = trial.ends.given;
-    if given == 0 {
-        return Err("reads of nothing".into());
-    }
-    let fails = fails(alloc, trial.ends.bad_read)?;
-    let bytes = Vec::from_slice(alloc, trial.input)?;
-    Ok(MemSource::new(bytes, given, fails))
+    assert!(rt; given != 0, "reads of nothing");
+    let fails = fails(rt, alloc, trial.ends.bad_read);
+    let bytes = Vec::from_slice(alloc, trial.input).expect(rt, "memory");
+    MemSource::new(bytes, given, fails)
 }
 
-fn sink_of(alloc: Global, ends: &Ends) -> Result<MemSink, Fail> {
-    if ends.taken == 0 {
-        return Err("writes of nothing".into());
-    }
-    let fails = fails(alloc, ends.bad_write)?;
-    Ok(MemSink::new(alloc, ends.room, ends.taken, fails)?)
+fn sink_of(rt: &impl Abort, alloc: Global, ends: &Ends) -> MemSink {
+    assert!(rt; ends.taken != 0, "writes of nothing");
+    let fails = fails(rt, alloc, ends.bad_write);
+    MemSink::new(alloc, ends.room, ends.taken, fails).expect(rt, "memory")
 }
 
 fn rest_of(source: &mut MemSource, sink: &mut MemSink) -> Rest {
@@ -177,33 +163,33 @@ fn ran_on(
     source: &mut MemSource,
     sink: &mut MemSink,
     disk: &mut MemDisk,
-) -> Result<Ended, Fail> {
+) -> Ended {
     let status = run(alloc, words, source, sink, disk);
-    let output = Vec::from_slice(alloc, sink.bytes())?;
+    let output = Text::of(alloc, sink.bytes());
     let rest = rest_of(source, sink);
-    Ok(Ended {
+    Ended {
         status,
         output,
         rest,
-    })
+    }
 }
 
 /// Runs the program on this disk in the place of the trial's own.
-pub fn ran_over(alloc: Global, trial: &Trial, disk: &mut MemDisk) -> Result<Ended, Fail> {
-    let words = words_of(alloc, trial.words)?;
-    let mut source = source_of(alloc, trial)?;
-    let mut sink = sink_of(alloc, &trial.ends)?;
+pub fn ran_over(rt: &impl Abort, alloc: Global, trial: &Trial, disk: &mut MemDisk) -> Ended {
+    let words = words_of(rt, alloc, trial.words);
+    let mut source = source_of(rt, alloc, trial);
+    let mut sink = sink_of(rt, alloc, &trial.ends);
     ran_on(alloc, &words, &mut source, &mut sink, disk)
 }
 
 /// Runs the program. A disk that isn't to be called wasn't.
-fn ran(alloc: Global, trial: &Trial) -> Result<Ended, Fail> {
-    let mut disk = disk_of(alloc, &trial.ends)?;
-    let ended = ran_over(alloc, trial, &mut disk)?;
-    if matches!(trial.ends.disk, Held::Apart) && !is_uncalled(&mut disk) {
-        return Err("the disk was called".into());
+fn ran(rt: &impl Abort, alloc: Global, trial: &Trial) -> Ended {
+    let mut disk = disk_of(rt, alloc, &trial.ends);
+    let ended = ran_over(rt, alloc, trial, &mut disk);
+    if matches!(trial.ends.disk, Held::Apart) {
+        assert!(rt; is_uncalled(&mut disk), "the disk was called");
     }
-    Ok(ended)
+    ended
 }
 
 /// What follows so many lines.
@@ -220,19 +206,20 @@ pub fn behind(output: &[u8], lines: usize) -> &[u8] {
     b""
 }
 
-fn is_as(ended: &Ended, wanted: &Wanted) -> bool {
+fn is_as(ended: &Ended, output: &[u8], wanted: &Wanted) -> bool {
     let rests = match wanted.rest {
         Some(rest) => ended.rest == rest,
         None => true,
     };
-    rests && ended.status == wanted.status && behind(&ended.output, wanted.lines) == wanted.output
+    rests && ended.status == wanted.status && behind(output, wanted.lines) == wanted.output
 }
 
 /// Compares what a run ended as with what is wanted.
 pub fn agrees(rt: &impl Abort, name: &str, at: usize, ended: &Ended, wanted: &Wanted) {
-    let written = str::from_utf8(&ended.output).unwrap_or("what is no text\n");
+    let output = ended.output.whole(rt);
+    let written = str::from_utf8(output).unwrap_or("what is no text\n");
     assert!(rt;
-        is_as(ended, wanted),
+        is_as(ended, output, wanted),
         "{name}, {at}: {:?} after\n{written}and then {:?}",
         ended.status,
         ended.rest
@@ -247,52 +234,46 @@ pub fn tries(
     at: usize,
     trial: &Trial,
     wanted: &Wanted,
-) -> Result<(), Fail> {
-    let ended = ran(alloc, trial)?;
+) {
+    let ended = ran(rt, alloc, trial);
     agrees(rt, name, at, &ended, wanted);
-    Ok(())
 }
 
-/// The one text and then the other.
-pub fn joined(alloc: Global, one: &[u8], other: &[u8]) -> Result<Vec<u8>, Fail> {
-    let mut whole = Vec::from_slice(alloc, one)?;
-    whole.extend_from_slice(other)?;
-    Ok(whole)
-}
-
-/// Plays a text from a source and into a sink that are wide.
-pub fn plays(
+/// Runs these words at ends that are wide, and compares how the run ends and what is written behind so
+/// many lines.
+pub fn ends_as(
     rt: &impl Abort,
     alloc: Global,
     name: &str,
     at: usize,
-    input: &[u8],
+    (words, input): (&[u8], &[u8]),
     status: Status,
-    output: &[u8],
-) -> Result<(), Fail> {
+    (lines, output): (usize, &[u8]),
+) {
     let trial = Trial {
-        words: b"play",
+        words,
         input,
         ends: WIDE,
     };
     let wanted = Wanted {
         status,
-        lines: 0,
+        lines,
         output,
         rest: None,
     };
-    tries(rt, alloc, name, at, &trial, &wanted)
+    tries(rt, alloc, name, at, &trial, &wanted);
 }
 
-pub fn plays_all(
+/// Runs these words on the input of each case, and compares how the run ends and all that is written.
+pub fn ends_all(
     rt: &impl Abort,
     alloc: Global,
     name: &str,
+    words: &[u8],
     cases: &[Case],
     status: Status,
-) -> Result<(), Fail> {
+) {
     for (at, (input, output)) in cases.iter().enumerate() {
-        plays(rt, alloc, name, at, input, status, output)?;
+        ends_as(rt, alloc, name, at, (words, input), status, (0, output));
     }
-    Ok(())
 }

@@ -3,11 +3,11 @@
 //! same. Questions for lists are left out, since lists go by the names here and by the digits there.
 
 use crate::status::Status;
+use crate::tests::text::Text;
 use crate::tests::worked::WORKED;
 use crate::tests::{SAMPLE, Trial, WIDE, ran};
 use std::alloc::Global;
 use std::process::Abort;
-use std::test::Fail;
 
 /// More scenarios.
 pub const EXAMPLES: &[&[u8]] = &[
@@ -64,106 +64,90 @@ fn fits(labels: &[(&str, &str)], name: &str, digits: &str) -> bool {
 }
 
 /// Whether two words are the same, or labels of the same.
-fn are_alike<'a>(labels: &mut Labels<'a>, word: &'a str, other: &'a str) -> Result<bool, Fail> {
+fn are_alike<'a>(rt: &impl Abort, labels: &mut Labels<'a>, word: &'a str, other: &'a str) -> bool {
     if !are_digits(other) {
-        return Ok(word == other);
+        return word == other;
     }
     let fits = fits(labels, word, other) && !are_digits(word);
-    labels.push((word, other))?;
-    Ok(fits)
+    labels.push((word, other)).expect(rt, "memory");
+    fits
 }
 
 /// Whether each word of a line is alike.
-fn is_line_alike<'a>(labels: &mut Labels<'a>, line: &'a str, other: &'a str) -> Result<bool, Fail> {
+fn is_line_alike<'a>(
+    rt: &impl Abort,
+    labels: &mut Labels<'a>,
+    line: &'a str,
+    other: &'a str,
+) -> bool {
     let mut others = other.split_ascii_whitespace();
     for word in line.split_ascii_whitespace() {
-        if !are_alike(labels, word, others.next().unwrap_or(""))? {
-            return Ok(false);
+        if !are_alike(rt, labels, word, others.next().unwrap_or("")) {
+            return false;
         }
     }
-    Ok(others.next().is_none())
+    others.next().is_none()
 }
 
 /// Compares two texts line by line.
-fn compares(
-    rt: &impl Abort,
-    alloc: Global,
-    at: usize,
-    played: &str,
-    replayed: &str,
-) -> Result<(), Fail> {
+fn compares(rt: &impl Abort, alloc: Global, at: usize, played: &str, replayed: &str) {
     let mut labels = Vec::new(alloc);
     let mut others = replayed.lines();
+    let mut alike = true;
     for line in played.lines() {
         let other = others.next().unwrap_or("");
-        let alike = is_line_alike(&mut labels, line, other)?;
-        assert!(rt; alike, "{at}: {line} and {other}");
+        alike = alike && is_line_alike(rt, &mut labels, line, other);
     }
-    assert!(rt; others.next().is_none(), "{at}: more lines");
-    Ok(())
-}
-
-/// Whether a line asks for a list.
-fn asks_for_list(line: &str) -> bool {
-    matches!(line, "pairs" | "report")
-}
-
-fn put_line(text: &mut Vec<u8>, line: &str) -> Result<(), Fail> {
-    text.extend_from_slice(line.as_bytes())?;
-    Ok(text.push(b'\n')?)
+    alike = alike && others.next().is_none();
+    assert!(rt; alike, "{at}:\n{played}and\n{replayed}");
 }
 
 /// A scenario without its questions for lists.
-fn without_lists(alloc: Global, scenario: &str) -> Result<Vec<u8>, Fail> {
-    let mut rest = Vec::new(alloc);
+fn without_lists(alloc: Global, scenario: &str) -> Text {
+    let mut rest = Text::new(alloc);
     for line in scenario.lines() {
-        if !asks_for_list(line) {
-            put_line(&mut rest, line)?;
+        if line != "pairs" && line != "report" {
+            rest.put(line.as_bytes());
+            rest.put(b"\n");
         }
     }
-    Ok(rest)
+    rest
 }
 
 /// What is written of an input that has no fault.
-pub fn written(alloc: Global, words: &[u8], input: &[u8]) -> Result<Vec<u8>, Fail> {
+pub fn written(rt: &impl Abort, alloc: Global, words: &[u8], input: &[u8]) -> Text {
     let trial = Trial {
         words,
         input,
         ends: WIDE,
     };
-    let ended = ran(alloc, &trial)?;
-    if ended.status != Status::Done {
-        return Err("the input has a fault".into());
-    }
-    Ok(ended.output)
+    let ended = ran(rt, alloc, &trial);
+    assert!(rt; ended.status == Status::Done, "the input has a fault");
+    ended.output
 }
 
-fn is_same_by_its_feed(
-    rt: &impl Abort,
-    alloc: Global,
-    at: usize,
-    scenario: &[u8],
-) -> Result<(), Fail> {
-    let text = without_lists(alloc, str::from_utf8(scenario)?)?;
-    let played = written(alloc, b"play", &text)?;
-    let feed = written(alloc, b"build", &text)?;
-    let replayed = written(alloc, b"replay", &feed)?;
-    compares(
-        rt,
-        alloc,
-        at,
-        str::from_utf8(&played)?,
-        str::from_utf8(&replayed)?,
-    )
+fn text_of<'a>(rt: &impl Abort, bytes: &'a [u8]) -> &'a str {
+    str::from_utf8(bytes).expect(rt, "no text")
+}
+
+fn is_same_by_its_feed(rt: &impl Abort, alloc: Global, at: usize, scenario: &[u8]) {
+    let text = without_lists(alloc, text_of(rt, scenario));
+    let played = written(rt, alloc, b"play", text.whole(rt));
+    let feed = written(rt, alloc, b"build", text.whole(rt));
+    let replayed = written(rt, alloc, b"replay", feed.whole(rt));
+    let (one, other) = (
+        text_of(rt, played.whole(rt)),
+        text_of(rt, replayed.whole(rt)),
+    );
+    compares(rt, alloc, at, one, other);
 }
 
 #[test]
-fn labels_alone_differ(rt: HostRuntime) -> Result<(), Fail> {
+fn labels_alone_differ(rt: HostRuntime) {
     for (at, (scenario, _)) in WORKED.iter().enumerate() {
-        is_same_by_its_feed(&rt, rt.alloc(), at, scenario)?;
+        is_same_by_its_feed(&rt, rt.alloc(), at, scenario);
     }
     for (at, scenario) in EXAMPLES.iter().enumerate() {
-        is_same_by_its_feed(&rt, rt.alloc(), at, scenario)?;
+        is_same_by_its_feed(&rt, rt.alloc(), at, scenario);
     }
-    Ok(())
 }

@@ -2,14 +2,13 @@
 //! what `show` finds after each crash, and that a second run goes on from there.
 
 use crate::status::Status;
-use crate::tests::disks::{PICKS, disk_with, runs_on, runs_over};
+use crate::tests::disks::{EMPTY, Left, PICKS, image_of, runs_on, tried_on};
 use crate::tests::feed_bytes::{END, feed_of, in_full};
-use crate::tests::{Ended, Wanted, agrees};
+use crate::tests::text::Text;
+use crate::tests::{Ends, Trial, WIDE, Wanted};
 use sp_disk::MemDisk;
-use sp_io::Fails;
 use std::alloc::Global;
 use std::process::Abort;
-use std::test::Fail;
 
 pub const NODE: &[u8] = b"node\nf";
 
@@ -18,12 +17,12 @@ pub const FRESH: &[u8] = b"node\n--fresh\nf";
 pub const SHOW: &[u8] = b"show\nf";
 
 /// The feed of the two blocks.
-pub fn both(alloc: Global) -> Result<Vec<u8>, Fail> {
+pub fn both(alloc: Global) -> Text {
     feed_of(alloc, 0, b"A\nB\n", END)
 }
 
 /// The lines of the first blocks.
-fn kept(count: usize) -> &'static [u8] {
+pub fn kept(count: usize) -> &'static [u8] {
     match count {
         0 => b"",
         1 => b"kept A present 1\n",
@@ -57,32 +56,38 @@ fn digit_of(output: &[u8]) -> u8 {
     b'?'
 }
 
-/// What `show` says of these bytes, which it leaves: an empty disk, no journal, the number of blocks, or
-/// anything else.
-pub fn letter_of(alloc: Global, image: &[u8]) -> Result<u8, Fail> {
-    let (ended, left) = runs_on(alloc, SHOW, b"", image)?;
-    if left.as_slice() != image {
-        return Ok(b'?');
+/// What `show` says, as a letter: of an empty disk, of no journal, the number of blocks, or anything else.
+fn letter(status: Status, output: &[u8], is_empty: bool) -> u8 {
+    if status == Status::Done {
+        digit_of(output)
+    } else if status != Status::NotJournal || output != b"fault not-journal\n".as_slice() {
+        b'?'
+    } else if is_empty {
+        b'e'
+    } else {
+        b'n'
     }
-    if ended.status == Status::Done {
-        return Ok(digit_of(&ended.output));
+}
+
+/// What `show` says of these bytes, which it leaves.
+fn letter_of(rt: &impl Abort, alloc: Global, image: &[u8]) -> u8 {
+    let (ended, left) = runs_on(rt, alloc, SHOW, b"", image);
+    let letter = letter(ended.status, ended.output.whole(rt), image.is_empty());
+    if left.as_slice() == image {
+        letter
+    } else {
+        b'?'
     }
-    if ended.status != Status::NotJournal
-        || ended.output.as_slice() != b"fault not-journal\n".as_slice()
-    {
-        return Ok(b'?');
-    }
-    Ok(if image.is_empty() { b'e' } else { b'n' })
 }
 
 /// What each crash leaves now.
-pub fn letters_of(alloc: Global, disk: &MemDisk) -> Result<[u8; 4], Fail> {
+pub fn letters_of(rt: &impl Abort, alloc: Global, disk: &MemDisk) -> [u8; 4] {
     let mut all = [b'?'; 4];
     for (letter, pick) in all.iter_mut().zip(PICKS) {
-        let image = disk.image(pick)?;
-        *letter = letter_of(alloc, &image)?;
+        let image = image_of(rt, disk, *pick);
+        *letter = letter_of(rt, alloc, image.as_slice());
     }
-    Ok(all)
+    all
 }
 
 /// How the same feed is answered once more, where this was left.
@@ -98,42 +103,73 @@ fn wanted_again(fresh: bool, letter: u8) -> (Status, &'static [u8]) {
     (Status::Done, lines)
 }
 
-/// Whether it is answered so on these bytes, and both blocks are there then, or the bytes stay.
-fn is_so_again(alloc: Global, feed: &[u8], fresh: bool, image: &[u8]) -> Result<bool, Fail> {
-    let (status, lines) = wanted_again(fresh, letter_of(alloc, image)?);
+/// It is answered so on these bytes, and both blocks are there then, or the bytes stay.
+fn again(rt: &impl Abort, alloc: Global, call: u32, fresh: bool, image: &[u8]) {
+    let (status, lines) = wanted_again(fresh, letter_of(rt, alloc, image));
     let words = if fresh { FRESH } else { NODE };
-    let (ended, left) = runs_on(alloc, words, feed, image)?;
-    if ended.status != status || ended.output.as_slice() != in_full(alloc, lines)?.as_slice() {
-        return Ok(false);
-    }
-    if status == Status::Done {
-        return Ok(letter_of(alloc, &left)? == b'2');
-    }
-    Ok(left.as_slice() == image)
+    let left = if status == Status::Done {
+        Left::Found(b"2222")
+    } else {
+        Left::AsBefore
+    };
+    let name = ("again", call);
+    let _ = answered_both(rt, alloc, name, words, (status, lines), None, image, left);
 }
 
-/// Whether so it is on what each crash leaves now.
-fn goes_on(alloc: Global, feed: &[u8], disk: &MemDisk) -> Result<bool, Fail> {
+/// Sends both blocks over a disk with these bytes whose calls fail from one on, compares how they are
+/// answered and what is left, and answers the disk.
+fn answered_both(
+    rt: &impl Abort,
+    alloc: Global,
+    (name, call): (&str, u32),
+    words: &[u8],
+    (status, lines): (Status, &[u8]),
+    bad_calls: Option<u32>,
+    bytes: &[u8],
+    left: Left,
+) -> MemDisk {
+    let input = both(alloc);
+    let output = in_full(alloc, lines);
+    let trial = Trial {
+        words,
+        input: input.whole(rt),
+        ends: Ends {
+            disk: EMPTY,
+            bad_calls,
+            ..WIDE
+        },
+    };
+    let wanted = Wanted {
+        status,
+        lines: 0,
+        output: output.whole(rt),
+        rest: None,
+    };
+    let name = (name, call as usize);
+    tried_on(rt, alloc, name, &trial, &wanted, bytes, left)
+}
+
+/// So it is on what each crash leaves now.
+fn goes_on(rt: &impl Abort, alloc: Global, call: u32, disk: &MemDisk) {
     for pick in PICKS {
-        let image = disk.image(pick)?;
-        if !is_so_again(alloc, feed, false, &image)? || !is_so_again(alloc, feed, true, &image)? {
-            return Ok(false);
-        }
+        let image = image_of(rt, disk, *pick);
+        again(rt, alloc, call, false, image.as_slice());
+        again(rt, alloc, call, true, image.as_slice());
     }
-    Ok(true)
 }
 
 /// The first call that fails, the number of lines that are written, and what each crash leaves.
 pub type Row = (u32, usize, &'static [u8]);
 
 /// The calls of a run over a disk: its words, what stands there, the number of all calls, and that of
-/// those up to the last one of a creation.
+/// those up to the last one of a creation; and what is left where they fail.
 #[derive(Clone, Copy)]
 pub struct Sequence {
     pub words: &'static [u8],
     pub bytes: &'static [u8],
     pub calls: u32,
     pub made: u32,
+    pub rows: &'static [Row],
 }
 
 /// Whether a crash may leave this where this call failed and so many lines were written: no journal only
@@ -149,66 +185,41 @@ fn is_lawful(sequence: &Sequence, call: u32, lines: usize, letter: u8) -> bool {
 }
 
 fn is_all_lawful(sequence: &Sequence, call: u32, lines: usize, letters: &[u8]) -> bool {
-    letters
-        .iter()
-        .all(|letter| is_lawful(sequence, call, lines, *letter))
-}
-
-/// Compares what a run wrote while the disk's calls failed from this one on.
-fn wrote(
-    rt: &impl Abort,
-    alloc: Global,
-    sequence: &Sequence,
-    (call, lines, _): Row,
-    ended: &Ended,
-) -> Result<(), Fail> {
-    let output = in_full(alloc, kept(lines))?;
-    let wanted = Wanted {
-        status: if call < sequence.calls {
-            Status::DiskFault
-        } else {
-            Status::Done
-        },
-        lines: 0,
-        output: &output,
-        rest: None,
-    };
-    agrees(rt, "call", call as usize, ended, &wanted);
-    Ok(())
-}
-
-/// Compares what each crash leaves then, and goes on from there.
-fn left(
-    rt: &impl Abort,
-    alloc: Global,
-    sequence: &Sequence,
-    (call, lines, letters): Row,
-    feed: &[u8],
-    disk: &MemDisk,
-) -> Result<(), Fail> {
-    let left = letters_of(alloc, disk)?;
-    assert!(rt; left.as_slice() == letters, "call {call}: {left:?}");
-    assert!(rt;
-        is_all_lawful(sequence, call, lines, letters),
-        "call {call}"
-    );
-    assert!(rt; goes_on(alloc, feed, disk)?, "call {call}, and once more");
-    Ok(())
+    for letter in letters {
+        if !is_lawful(sequence, call, lines, *letter) {
+            return false;
+        }
+    }
+    true
 }
 
 /// Runs while the disk's calls fail from this one on, and goes on from what each crash leaves.
-pub fn fails_from(
-    rt: &impl Abort,
-    alloc: Global,
-    sequence: &Sequence,
-    row: Row,
-) -> Result<(), Fail> {
-    let feed = both(alloc)?;
-    let bytes = Vec::from_slice(alloc, sequence.bytes)?;
-    let mut disk = disk_with(alloc, bytes, Fails::From(row.0))?;
-    let ended = runs_over(alloc, sequence.words, &feed, &mut disk)?;
-    wrote(rt, alloc, sequence, row, &ended)?;
-    left(rt, alloc, sequence, row, &feed, &disk)
+fn fails_from(rt: &impl Abort, alloc: Global, sequence: &Sequence, (call, lines, letters): Row) {
+    let status = if call < sequence.calls {
+        Status::DiskFault
+    } else {
+        Status::Done
+    };
+    let disk = answered_both(
+        rt,
+        alloc,
+        ("call", call),
+        sequence.words,
+        (status, kept(lines)),
+        Some(call),
+        sequence.bytes,
+        Left::Found(letters),
+    );
+    let is_lawful = is_all_lawful(sequence, call, lines, letters);
+    assert!(rt; is_lawful, "call {call}");
+    goes_on(rt, alloc, call, &disk);
+}
+
+/// Each row of a sequence.
+pub fn fails_at_each(rt: &impl Abort, alloc: Global, sequence: &Sequence) {
+    for row in sequence.rows {
+        fails_from(rt, alloc, sequence, *row);
+    }
 }
 
 /// On an empty disk call 0 asks for the length, 1 to 6 make the journal, and each block has four.
@@ -217,6 +228,7 @@ const ON_EMPTY: Sequence = Sequence {
     bytes: b"",
     calls: 15,
     made: 7,
+    rows: FAILING,
 };
 
 /// By hand, of the outcomes in which the pending writes are undone, done, and filled with 0 and with the
@@ -241,9 +253,6 @@ const FAILING: &[Row] = &[
 ];
 
 #[test]
-fn each_call_failing(rt: HostRuntime) -> Result<(), Fail> {
-    for row in FAILING {
-        fails_from(&rt, rt.alloc(), &ON_EMPTY, *row)?;
-    }
-    Ok(())
+fn each_call_failing(rt: HostRuntime) {
+    fails_at_each(&rt, rt.alloc(), &ON_EMPTY);
 }

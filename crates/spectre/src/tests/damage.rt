@@ -3,14 +3,13 @@
 
 use crate::status::Status;
 use crate::tests::crashes::{FRESH, NODE, SHOW};
-use crate::tests::disks::{Held, bytes_of, disk_with, leaves, runs_on};
-use crate::tests::feed_bytes::{END, head_of, put_child};
-use crate::tests::{Trial, WIDE, Wanted, agrees, ran_over};
+use crate::tests::disks::{EMPTY, Held, Left, bytes_of, tries_on};
+use crate::tests::feed_bytes::{head_of, put_front};
+use crate::tests::text::{Text, joined};
+use crate::tests::{Ends, Rest, Trial, WIDE, Wanted};
 use sp_ids::BlockId;
-use sp_io::Fails;
 use std::alloc::Global;
 use std::process::Abort;
-use std::test::Fail;
 
 /// A journal, and the line of its damage.
 type Damage = (&'static str, Held, &'static [u8]);
@@ -39,51 +38,46 @@ const DAMAGES: &[Damage] = &[
 ];
 
 /// Nothing of a feed was read.
-const UNREAD: (Option<usize>, Option<usize>, [u8; 7], bool) = (
-    Some(7),
-    Some(7),
-    *b"1\0B\x14\0\0\0",
-    true,
-);
+const UNREAD: Rest = (Some(7), Some(7), *b"1\0B\x14\0\0\0", true);
 
 /// Runs these words over these bytes, which stay.
 fn finds(
     rt: &impl Abort,
     alloc: Global,
-    name: &str,
+    name: (&str, usize),
     words: &[u8],
     bytes: &[u8],
-    line: &[u8],
-) -> Result<(), Fail> {
-    let mut disk = disk_with(alloc, Vec::from_slice(alloc, bytes)?, Fails::Never)?;
-    let input = head_of(alloc, 0)?;
+    (status, line): (Status, &[u8]),
+) {
+    let input = head_of(alloc, 0);
     let trial = Trial {
         words,
-        input: &input,
-        ends: WIDE,
+        input: input.whole(rt),
+        ends: Ends {
+            disk: EMPTY,
+            ..WIDE
+        },
     };
-    let ended = ran_over(alloc, &trial, &mut disk)?;
     let wanted = Wanted {
-        status: Status::Damaged,
+        status,
         lines: 0,
         output: line,
         rest: Some(UNREAD),
     };
-    agrees(rt, name, 0, &ended, &wanted);
-    assert!(rt; leaves(&disk, bytes)?, "{name}");
-    Ok(())
+    tries_on(rt, alloc, name, &trial, &wanted, bytes, Left::AsBefore);
 }
 
+const ALL: &[&[u8]] = &[NODE, FRESH, SHOW];
+
 #[test]
-fn each_cause(rt: HostRuntime) -> Result<(), Fail> {
-    for damage in DAMAGES {
-        let (name, held, line) = *damage;
-        let bytes = bytes_of(rt.alloc(), held)?;
-        for words in [NODE, FRESH, SHOW] {
-            finds(&rt, rt.alloc(), name, words, &bytes, line)?;
+fn each_cause(rt: HostRuntime) {
+    for (name, held, line) in DAMAGES {
+        let bytes = bytes_of(rt.alloc(), *held);
+        let wanted = (Status::Damaged, *line);
+        for (at, words) in ALL.iter().enumerate() {
+            finds(&rt, rt.alloc(), (name, at), words, bytes.whole(&rt), wanted);
         }
     }
-    Ok(())
 }
 
 /// What holds no damage, though the one or the other looks like it: blocks whose parents never come,
@@ -98,52 +92,52 @@ const WHOLE: &[(Held, &[u8])] = &[
 ];
 
 #[test]
-fn no_damage(rt: HostRuntime) -> Result<(), Fail> {
+fn no_damage(rt: HostRuntime) {
     for (at, (held, output)) in WHOLE.iter().enumerate() {
-        let bytes = bytes_of(rt.alloc(), *held)?;
-        let (ended, left) = runs_on(rt.alloc(), SHOW, b"", &bytes)?;
-        let wanted = Wanted {
-            status: Status::Done,
-            lines: 0,
-            output,
-            rest: None,
-        };
-        agrees(&rt, "whole", at, &ended, &wanted);
-        assert!(&rt; left.as_slice() == bytes.as_slice(), "{at}");
+        let bytes = bytes_of(rt.alloc(), *held);
+        let wanted = (Status::Done, *output);
+        finds(
+            &rt,
+            rt.alloc(),
+            ("whole", at),
+            SHOW,
+            bytes.whole(&rt),
+            wanted,
+        );
     }
-    Ok(())
 }
 
-/// The records of the 511 blocks on genesis and on an unknown one, of all salts but 0 on genesis.
-fn put_511(out: &mut Vec<u8>, genesis: &BlockId) -> Result<(), Fail> {
-    let unknown = BlockId::from_bytes([7; 32]);
-    for salt in 0..=255u8 {
-        if salt != 0 {
-            put_as_record(out, salt, genesis)?;
-        }
-        put_as_record(out, salt, &unknown)?;
-    }
-    Ok(())
+/// The record of a block of this salt on one parent.
+fn put_salted(out: &mut Text, salt: u8, parent: &[u8]) {
+    out.put(b"\xa5\x34\0\0\0");
+    put_front(out, u16::from(salt), 1);
+    out.put(parent);
+    out.put(&[0; 2]);
 }
 
-/// A frame and a record differ in their first byte.
-fn put_as_record(out: &mut Vec<u8>, salt: u8, parent: &BlockId) -> Result<(), Fail> {
-    let place = out.len();
-    put_child(out, u16::from(salt), parent)?;
-    if let Some(gate) = out.get_mut(place) {
-        *gate = 0xA5;
+/// A journal of 511 records, of the blocks on genesis and on an unknown one, of all salts but 0 on genesis:
+/// up to the place of the gate behind them, which is 34 + 511 * 57.
+fn records_of_511(alloc: Global) -> Text {
+    let genesis = BlockId::of(head_of(alloc, 0).end(20));
+    let mut bytes = bytes_of(alloc, Held::Journal(0, b"", b""));
+    put_salted(&mut bytes, 0, &[7; 32]);
+    for salt in 1..=255u8 {
+        put_salted(&mut bytes, salt, genesis.as_bytes());
+        put_salted(&mut bytes, salt, &[7; 32]);
     }
-    Ok(())
+    bytes
 }
 
-/// A journal of 511 records, up to the place of the gate behind them, which is 34 + 511 * 57.
-fn records_of_511(alloc: Global) -> Result<Vec<u8>, Fail> {
-    let head = head_of(alloc, 0)?;
-    let genesis = BlockId::of(head.get(14..).unwrap_or(b""));
-    let mut bytes = bytes_of(alloc, Held::Journal(0, b"", b""))?;
-    put_511(&mut bytes, &genesis)?;
-    Ok(bytes)
-}
+/// What is tried there: its name, the words, and the bytes.
+#[rattlefmt::skip]
+const BEHIND: &[(&str, &[u8], &[u8])] = &[
+    ("no gate", SHOW, b""),
+    ("an open gate", SHOW, b"\xa5"),
+    ("an open gate", NODE, b"\xa5"),
+    ("a record that is cut", FRESH, b"\xa5\xa5\x34\0\0\0\x01"),
+    // Of a block with salt 9 on an unknown one; and the end of a feed behind it.
+    ("a record", FRESH, b"\xa5\x34\0\0\0\x01\x09\0\0\0\0\0\0\0\0\0\0\0\0\0\0\0\x01\x09\x09\x09\x09\x09\x09\x09\x09\x09\x09\x09\x09\x09\x09\x09\x09\x09\x09\x09\x09\x09\x09\x09\x09\x09\x09\x09\x09\x09\x09\x09\x09\0\0E\0\0\0\0"),
+];
 
 /// Runs these words over the records and what stands behind them.
 fn finds_behind(
@@ -153,36 +147,19 @@ fn finds_behind(
     words: &[u8],
     records: &[u8],
     behind: &[u8],
-) -> Result<(), Fail> {
-    let mut bytes = Vec::from_slice(alloc, records)?;
-    bytes.extend_from_slice(behind)?;
-    finds(rt, alloc, name, words, &bytes, b"fault damaged 29161\n")
-}
-
-/// What is tried there: its name, the words, and the bytes.
-const BEHIND: &[(&str, &[u8], &[u8])] = &[
-    ("no gate", SHOW, b""),
-    ("an open gate", SHOW, b"\xa5"),
-    ("an open gate", NODE, b"\xa5"),
-    ("a record that is cut", FRESH, b"\xa5\xa5\x34\0\0\0\x01"),
-];
-
-/// One record more, and the end of a feed.
-fn one_more(alloc: Global) -> Result<Vec<u8>, Fail> {
-    let mut bytes = Vec::new(alloc);
-    put_as_record(&mut bytes, 9, &BlockId::from_bytes([9; 32]))?;
-    bytes.extend_from_slice(END)?;
-    Ok(bytes)
+) {
+    let bytes = joined(alloc, records, behind);
+    let wanted = (Status::Damaged, b"fault damaged 29161\n".as_slice());
+    finds(rt, alloc, (name, 511), words, bytes.whole(rt), wanted);
 }
 
 /// Behind 511 records no gate may be open.
 #[test]
-fn behind_511_records(rt: HostRuntime) -> Result<(), Fail> {
+fn behind_511_records(rt: HostRuntime) {
     let alloc = rt.alloc();
-    let records = records_of_511(alloc)?;
-    let record = one_more(alloc)?;
+    let records = records_of_511(alloc);
+    let records = records.whole(&rt);
     for (name, words, behind) in BEHIND {
-        finds_behind(&rt, alloc, name, words, &records, behind)?;
+        finds_behind(&rt, alloc, name, words, records, behind);
     }
-    finds_behind(&rt, alloc, "a record", FRESH, &records, &record)
 }

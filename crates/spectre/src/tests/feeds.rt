@@ -3,19 +3,19 @@
 
 use crate::status::Status;
 use crate::tests::feed_bytes::{END, feed_of, in_full};
+use crate::tests::text::Text;
 use crate::tests::{Rest, Trial, WIDE, Wanted, tries};
 use std::alloc::Global;
 use std::process::Abort;
-use std::test::Fail;
 
 /// How a run ends, and what its source and sink do then.
-type Ending = (Status, Option<Rest>);
+pub type Ending = (Status, Option<Rest>);
 
 /// Done, and nothing is left to be read.
 const DONE: Ending = (Status::Done, Some((Some(0), Some(0), [0; 7], true)));
 
 /// The bytes came to their end too early.
-const CUT: Ending = (Status::Truncated, Some((Some(0), Some(0), [0; 7], true)));
+pub const CUT: Ending = (Status::Truncated, Some((Some(0), Some(0), [0; 7], true)));
 
 /// A letter is no kind of a frame. The four bytes behind it stay unread.
 const KIND: Ending = (Status::Malformed, Some((Some(4), Some(0), [0; 7], true)));
@@ -61,45 +61,40 @@ const FEEDS: &[Fed] = &[
 ];
 
 /// Replays a feed from a source and into a sink that are wide.
-fn replays(
+pub fn replays(
     rt: &impl Abort,
     alloc: Global,
-    name: &str,
-    at: usize,
+    (name, at): (&str, usize),
     input: &[u8],
-    ended: Ending,
+    (status, rest): Ending,
     output: &[u8],
-) -> Result<(), Fail> {
+) {
     let trial = Trial {
         words: b"replay",
         input,
         ends: WIDE,
     };
     let wanted = Wanted {
-        status: ended.0,
+        status,
         lines: 0,
         output,
-        rest: ended.1,
+        rest,
     };
-    tries(rt, alloc, name, at, &trial, &wanted)
-}
-
-fn replays_fed(rt: &impl Abort, alloc: Global, fed: &Fed) -> Result<(), Fail> {
-    let input = feed_of(alloc, fed.bits, fed.messages, fed.tail)?;
-    let output = in_full(alloc, fed.output)?;
-    replays(rt, alloc, fed.name, 0, &input, fed.ended, &output)
+    tries(rt, alloc, name, at, &trial, &wanted);
 }
 
 #[test]
-fn answers(rt: HostRuntime) -> Result<(), Fail> {
-    for fed in FEEDS {
-        replays_fed(&rt, rt.alloc(), fed)?;
+fn answers(rt: HostRuntime) {
+    for (at, fed) in FEEDS.iter().enumerate() {
+        let input = feed_of(rt.alloc(), fed.bits, fed.messages, fed.tail);
+        let output = in_full(rt.alloc(), fed.output);
+        let (input, output) = (input.whole(&rt), output.whole(&rt));
+        replays(&rt, rt.alloc(), (fed.name, at), input, fed.ended, output);
     }
-    Ok(())
 }
 
 /// The smallest feed: the head with the smallest genesis block, and the end.
-const SMALLEST: &[u8] = &[
+pub const SMALLEST: &[u8] = &[
     0x53, 0x50, 0x43, 0x54, 0x52, 0x46, 0x30, 0x31, 0, 0x42, 0x14, 0, 0, 0, 1, 0, 0, 0, 0, 0, 0, 0,
     0, 0, 0, 0, 0, 0, 0, 0, 0, 0, 0, 0, 0x45, 0, 0, 0, 0,
 ];
@@ -119,33 +114,19 @@ const CHANGED: &[(usize, u8, Ending, &[u8])] = &[
     (35, 1, (Status::Malformed, None), b"fault malformed 35\n"),
 ];
 
-#[test]
-fn changed_feeds(rt: HostRuntime) -> Result<(), Fail> {
-    for (place, byte, ended, output) in CHANGED {
-        let mut feed = Vec::from_slice(rt.alloc(), SMALLEST)?;
-        if let Some(changed) = feed.get_mut(*place) {
-            *changed = *byte;
-        }
-        replays(&rt, rt.alloc(), "changed", *place, &feed, *ended, output)?;
-    }
-    Ok(())
+/// The smallest feed with another byte at a place.
+fn changed(alloc: Global, place: usize, byte: u8) -> Text {
+    let mut feed = Text::of(alloc, SMALLEST.get(..place).unwrap_or(b""));
+    feed.put(&[byte]);
+    feed.put(SMALLEST.get(place.saturating_add(1)..).unwrap_or(b""));
+    feed
 }
 
-/// Each front of the smallest feed ends too early.
 #[test]
-fn fronts(rt: HostRuntime) -> Result<(), Fail> {
-    for length in 0..SMALLEST.len() {
-        let output = format!(in rt.alloc(); "fault truncated {length}\n")?;
-        let front = SMALLEST.get(..length).unwrap_or(b"?");
-        replays(
-            &rt,
-            rt.alloc(),
-            "front",
-            length,
-            front,
-            CUT,
-            output.as_bytes(),
-        )?;
+fn changed_feeds(rt: HostRuntime) {
+    for (place, byte, ended, output) in CHANGED {
+        let feed = changed(rt.alloc(), *place, *byte);
+        let input = feed.whole(&rt);
+        replays(&rt, rt.alloc(), ("changed", *place), input, *ended, output);
     }
-    Ok(())
 }

@@ -2,14 +2,12 @@
 //! that a crash opens over what stood there.
 
 use crate::status::Status;
-use crate::tests::crashes::{FRESH, NODE, Row, Sequence, both, fails_from, letters_of};
-use crate::tests::disks::{Held, TWO, disk_of, leaves};
+use crate::tests::crashes::{FRESH, NODE, Row, Sequence, fails_at_each, kept};
+use crate::tests::disks::{Held, Left, TWO, tries_over};
 use crate::tests::feed_bytes::{END, feed_of, in_full};
-use crate::tests::{Ended, Ends, Trial, WIDE, Wanted, agrees, ran_over};
-use sp_disk::{MemDisk, Pick};
+use crate::tests::{Ends, Trial, WIDE, Wanted};
 use std::alloc::Global;
 use std::process::Abort;
-use std::test::Fail;
 
 /// Rubbish behind a closed gate. The length and a sync and a read are calls 0 to 2, and the creation has
 /// four calls, since a closed gate isn't written again.
@@ -18,6 +16,7 @@ const CLOSED: Sequence = Sequence {
     bytes: &[0x5A; 300],
     calls: 15,
     made: 7,
+    rows: FAILING_CLOSED,
 };
 
 /// What stood there is no journal, whatever of the new one stands before it.
@@ -44,6 +43,7 @@ const OPEN: Sequence = Sequence {
     bytes: &[0xA5; 300],
     calls: 17,
     made: 9,
+    rows: FAILING_OPEN,
 };
 
 const FAILING_OPEN: &[Row] = &[
@@ -62,19 +62,9 @@ const FAILING_OPEN: &[Row] = &[
 ];
 
 #[test]
-fn over_a_closed_gate(rt: HostRuntime) -> Result<(), Fail> {
-    for row in FAILING_CLOSED {
-        fails_from(&rt, rt.alloc(), &CLOSED, *row)?;
-    }
-    Ok(())
-}
-
-#[test]
-fn over_an_open_gate(rt: HostRuntime) -> Result<(), Fail> {
-    for row in FAILING_OPEN {
-        fails_from(&rt, rt.alloc(), &OPEN, *row)?;
-    }
-    Ok(())
+fn over_rubbish(rt: HostRuntime) {
+    fails_at_each(&rt, rt.alloc(), &CLOSED);
+    fails_at_each(&rt, rt.alloc(), &OPEN);
 }
 
 /// The head of a journal, but for its last byte.
@@ -92,116 +82,61 @@ const OVER: &[(&[u8], usize)] = &[
     (&[0x5A; 300], 300),
 ];
 
-fn runs(alloc: Global, words: &[u8], disk: &mut MemDisk) -> Result<Ended, Fail> {
-    let input = both(alloc)?;
+/// What stands on a disk, the bits of the feed of the two blocks, how a run ends there, and what it
+/// leaves.
+type Kept = (Held, u8, Status, &'static [u8], Left);
+
+/// Sends both blocks with these words over a disk, and compares how they are answered and what is left.
+fn answers_both(
+    rt: &impl Abort,
+    alloc: Global,
+    at: usize,
+    words: &[u8],
+    (disk, bits, status, lines, left): Kept,
+) {
+    let input = feed_of(alloc, bits, b"A\nB\n", END);
+    let output = in_full(alloc, lines);
     let trial = Trial {
         words,
-        input: &input,
-        ends: WIDE,
+        input: input.whole(rt),
+        ends: Ends { disk, ..WIDE },
     };
-    ran_over(alloc, &trial, disk)
+    let wanted = Wanted {
+        status,
+        lines: 0,
+        output: output.whole(rt),
+        rest: None,
+    };
+    tries_over(rt, alloc, ("fresh", at), &trial, &wanted, left);
 }
 
-/// Whether a run is refused, which leaves the bytes.
-fn is_refused(alloc: Global, ends: &Ends, bytes: &[u8]) -> Result<bool, Fail> {
-    let mut disk = disk_of(alloc, ends)?;
-    let ended = runs(alloc, NODE, &mut disk)?;
-    Ok(
-        ended.status == Status::NotJournal
-            && ended.output.as_slice() == b"fault not-journal\n".as_slice()
-            && leaves(&disk, bytes)?,
-    )
-}
-
-/// Whether a new journal is made where it is asked for, of both blocks, and so many bytes stand then.
-fn is_made(alloc: Global, ends: &Ends, size: usize) -> Result<bool, Fail> {
-    let mut disk = disk_of(alloc, ends)?;
-    let ended = runs(alloc, b"node\nf\n--fresh", &mut disk)?;
-    let image = disk.image(Pick::New)?;
-    Ok(
-        ended.status == Status::Done
-            && image.len() == size
-            && letters_of(alloc, &disk)?.as_slice() == b"2222".as_slice(),
-    )
-}
-
+/// Such a run is refused, which leaves the bytes; and a new journal is made where it is asked for.
 #[test]
-fn over_other_bytes(rt: HostRuntime) -> Result<(), Fail> {
+fn over_other_bytes(rt: HostRuntime) {
+    let refused: &[u8] = b"fault not-journal\n";
     for (at, (bytes, size)) in OVER.iter().enumerate() {
-        let ends = Ends {
-            disk: Held::Bytes(bytes),
-            ..WIDE
-        };
-        assert!(&rt; is_refused(rt.alloc(), &ends, bytes)?, "{at}");
-        assert!(&rt; is_made(rt.alloc(), &ends, *size)?, "{at}");
+        let held = Held::Bytes(bytes);
+        let row = (held, 0, Status::NotJournal, refused, Left::AsBefore);
+        answers_both(&rt, rt.alloc(), at, NODE, row);
+        let row = (held, 0, Status::Done, kept(2), Left::Made(*size));
+        answers_both(&rt, rt.alloc(), at, b"node\nf\n--fresh", row);
     }
-    Ok(())
 }
-
-/// What stands on a disk, the bits of the feed of the two blocks, and how `node --fresh` ends there.
-type Kept = (Held, u8, Status, &'static [u8]);
 
 /// A journal isn't discarded: neither one of this chain, nor that of another one, nor a damaged one.
 #[rattlefmt::skip]
 const KEPT: &[Kept] = &[
-    (TWO, 0, Status::Done, b"known A\nknown B\n"),
-    (Held::Journal(0, b"", b"\0"), 0, Status::Done, b"kept A present 1\nkept B present 1\n"),
-    (Held::Journal(0, b"B", b"\0rubbish"), 0, Status::Done, b"kept A present 1\nknown B\n"),
-    (TWO, 1, Status::OtherChain, b"fault other-chain 0 G 1 G\n"),
-    (Held::Journal(0, b"AB", b""), 0, Status::Damaged, b"fault damaged 148\n"),
-    (Held::Journal(0, b"AB", b"\xa5"), 1, Status::Damaged, b"fault damaged 148\n"),
+    (TWO, 0, Status::Done, b"known A\nknown B\n", Left::Found(b"2222")),
+    (Held::Journal(0, b"", b"\0"), 0, Status::Done, b"kept A present 1\nkept B present 1\n", Left::Found(b"2222")),
+    (Held::Journal(0, b"B", b"\0rubbish"), 0, Status::Done, b"kept A present 1\nknown B\n", Left::Found(b"2222")),
+    (TWO, 1, Status::OtherChain, b"fault other-chain 0 G 1 G\n", Left::AsBefore),
+    (Held::Journal(0, b"AB", b""), 0, Status::Damaged, b"fault damaged 148\n", Left::AsBefore),
+    (Held::Journal(0, b"AB", b"\xa5"), 1, Status::Damaged, b"fault damaged 148\n", Left::AsBefore),
 ];
 
-/// Runs on this disk, and compares what is written.
-fn answers_so(
-    rt: &impl Abort,
-    alloc: Global,
-    at: usize,
-    (_, bits, status, output): Kept,
-    disk: &mut MemDisk,
-) -> Result<(), Fail> {
-    let input = feed_of(alloc, bits, b"A\nB\n", END)?;
-    let trial = Trial {
-        words: FRESH,
-        input: &input,
-        ends: WIDE,
-    };
-    let ended = ran_over(alloc, &trial, disk)?;
-    let output = in_full(alloc, output)?;
-    let wanted = Wanted {
-        status,
-        lines: 0,
-        output: &output,
-        rest: None,
-    };
-    agrees(rt, "kept", at, &ended, &wanted);
-    Ok(())
-}
-
-/// Whether each crash leaves the two blocks where a run was done, and else what was there before.
-fn stands(alloc: Global, status: Status, disk: &MemDisk, before: &[u8]) -> Result<bool, Fail> {
-    if status == Status::Done {
-        return Ok(letters_of(alloc, disk)?.as_slice() == b"2222".as_slice());
-    }
-    leaves(disk, before)
-}
-
-fn is_kept(rt: &impl Abort, alloc: Global, at: usize, row: Kept) -> Result<(), Fail> {
-    let ends = Ends {
-        disk: row.0,
-        ..WIDE
-    };
-    let mut disk = disk_of(alloc, &ends)?;
-    let before = disk.image(Pick::New)?;
-    answers_so(rt, alloc, at, row, &mut disk)?;
-    assert!(rt; stands(alloc, row.2, &disk, &before)?, "{at}");
-    Ok(())
-}
-
 #[test]
-fn over_a_journal(rt: HostRuntime) -> Result<(), Fail> {
+fn over_a_journal(rt: HostRuntime) {
     for (at, row) in KEPT.iter().enumerate() {
-        is_kept(&rt, rt.alloc(), at, *row)?;
+        answers_both(&rt, rt.alloc(), at, FRESH, *row);
     }
-    Ok(())
 }

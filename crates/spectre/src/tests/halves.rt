@@ -3,14 +3,14 @@
 
 use crate::status::Status;
 use crate::tests::alike::{EXAMPLES, written};
+use crate::tests::behind;
 use crate::tests::crashes::{NODE, SHOW};
 use crate::tests::disks::runs_on;
 use crate::tests::feed_bytes::{END, feed_of};
+use crate::tests::text::{Text, joined};
 use crate::tests::worked::{DECIDED, SPENT_TWICE};
-use crate::tests::{behind, joined};
 use std::alloc::Global;
 use std::process::Abort;
-use std::test::Fail;
 
 /// Messages: blocks that wait, that come twice and that are refused.
 const MESSAGES: &[&[u8]] = &[
@@ -20,112 +20,107 @@ const MESSAGES: &[&[u8]] = &[
     b"P\nO\nM\nL\nK\nH\nJ\nI\nB\nA\nAB\nBI\nIA\n",
 ];
 
-/// Where the frame ends that begins at this place, if it is whole.
-fn end_of(feed: &[u8], at: usize) -> Option<usize> {
-    let length = feed.get(at.checked_add(1)?..at.checked_add(5)?)?;
-    let size = u32::from_le_bytes(*length.first_chunk::<4>()?);
-    at.checked_add(5)?.checked_add(size as usize)
+/// Where the frame ends that begins at this place.
+fn end_of(feed: &[u8], at: usize) -> usize {
+    let length = match feed.get(at.saturating_add(1)..at.saturating_add(5)) {
+        Some([a, b, c, d]) => u32::from_le_bytes([*a, *b, *c, *d]),
+        _ => 0,
+    };
+    at.saturating_add(5).saturating_add(length as usize)
 }
 
 /// What one run over these bytes writes, and what it leaves.
-fn half(alloc: Global, feed: &[u8], bytes: &[u8]) -> Result<(Vec<u8>, Vec<u8>), Fail> {
-    let (ended, left) = runs_on(alloc, NODE, feed, bytes)?;
-    if ended.status != Status::Done {
-        return Err("half a feed has a fault".into());
-    }
-    Ok((ended.output, left))
+fn half(rt: &impl Abort, alloc: Global, feed: &[u8], bytes: &[u8]) -> (Text, Vec<u8>) {
+    let (ended, left) = runs_on(rt, alloc, NODE, feed, bytes);
+    assert!(rt; ended.status == Status::Done, "half a feed has a fault");
+    (ended.output, left)
 }
 
 /// What two runs write of a feed that is cut at this place, where its head ends at that one, and what is
 /// left then.
-fn halves(alloc: Global, feed: &[u8], head: usize, at: usize) -> Result<(Vec<u8>, Vec<u8>), Fail> {
-    let first = joined(alloc, feed.get(..at).unwrap_or(b""), END)?;
+fn halves(rt: &impl Abort, alloc: Global, feed: &[u8], head: usize, at: usize) -> (Text, Vec<u8>) {
+    let first = joined(alloc, feed.get(..at).unwrap_or(b""), END);
     let second = joined(
         alloc,
         feed.get(..head).unwrap_or(b""),
         feed.get(at..).unwrap_or(b""),
-    )?;
-    let (one, left) = half(alloc, &first, b"")?;
-    let (other, left) = half(alloc, &second, &left)?;
-    Ok((joined(alloc, &one, &other)?, left))
+    );
+    let (one, left) = half(rt, alloc, first.whole(rt), b"");
+    let (other, left) = half(rt, alloc, second.whole(rt), left.as_slice());
+    (joined(alloc, one.whole(rt), other.whole(rt)), left)
 }
 
-/// What is reported behind a feed.
-fn reported(alloc: Global, feed: &[u8], lines: usize) -> Result<Vec<u8>, Fail> {
+/// What is written of a feed that asks for a report at its end, behind the lines of the feed.
+fn reported(rt: &impl Abort, alloc: Global, feed: &[u8]) -> Text {
     let end = feed.len().saturating_sub(END.len());
-    let asked = joined(alloc, feed.get(..end).unwrap_or(b""), b"R\0\0\0\0")?;
-    let output = written(alloc, b"replay", &joined(alloc, &asked, END)?)?;
-    Ok(Vec::from_slice(alloc, behind(&output, lines))?)
+    let mut asked = joined(alloc, feed.get(..end).unwrap_or(b""), b"R\0\0\0\0");
+    asked.put(END);
+    let whole = written(rt, alloc, b"replay", feed);
+    let report = written(rt, alloc, b"replay", asked.whole(rt));
+    assert!(rt;
+        report.whole(rt).starts_with(whole.whole(rt)),
+        "other lines"
+    );
+    report
 }
 
-/// What is shown behind its first line.
-fn shown(alloc: Global, bytes: &[u8]) -> Result<Vec<u8>, Fail> {
-    let (ended, _) = runs_on(alloc, SHOW, b"", bytes)?;
-    if ended.status != Status::Done {
-        return Err("nothing is shown".into());
-    }
-    Ok(Vec::from_slice(alloc, behind(&ended.output, 1))?)
-}
-
-fn count_lines(text: &[u8]) -> usize {
-    text.iter().filter(|byte| **byte == b'\n').count()
+/// What is shown, of which the first line isn't reported.
+fn shown(rt: &impl Abort, alloc: Global, bytes: &[u8]) -> Text {
+    let (ended, _) = runs_on(rt, alloc, SHOW, b"", bytes);
+    assert!(rt; ended.status == Status::Done, "nothing is shown");
+    ended.output
 }
 
 /// Whether a feed that is cut at this place, where its head ends at that one, gives all lines, and then
-/// its report is shown.
+/// its report is shown: together they are what is written where it is asked for.
 fn is_same_cut(
+    rt: &impl Abort,
     alloc: Global,
     feed: &[u8],
-    head: usize,
-    at: usize,
-    (whole, report): (&[u8], &[u8]),
-) -> Result<bool, Fail> {
-    let (output, left) = halves(alloc, feed, head, at)?;
-    Ok(output.as_slice() == whole && shown(alloc, &left)?.as_slice() == report)
+    (head, at): (usize, usize),
+    report: &[u8],
+) -> bool {
+    let (output, left) = halves(rt, alloc, feed, head, at);
+    let shown = shown(rt, alloc, left.as_slice());
+    let both = joined(alloc, output.whole(rt), behind(shown.whole(rt), 1));
+    both.whole(rt) == report
 }
 
 /// Cuts a feed behind its head and behind the frame of each message.
-fn is_same_in_halves(rt: &impl Abort, alloc: Global, name: usize, feed: &[u8]) -> Result<(), Fail> {
-    let whole = written(alloc, b"replay", feed)?;
-    let report = reported(alloc, feed, count_lines(&whole))?;
-    let head = end_of(feed, 9).unwrap_or(0);
+fn is_same_in_halves(rt: &impl Abort, alloc: Global, name: usize, feed: &[u8]) {
+    let report = reported(rt, alloc, feed);
+    let head = end_of(feed, 9);
     let mut at = head;
-    for _ in 0..64u8 {
-        let is_same = is_same_cut(alloc, feed, head, at, (&whole, &report))?;
-        assert!(rt; is_same, "{name}, cut at {at}");
-        if feed.get(at) == Some(&b'E') {
-            return Ok(());
+    for _ in 0..feed.len() {
+        if feed.len() <= at {
+            return;
         }
-        at = end_of(feed, at).unwrap_or(0);
+        let is_same = is_same_cut(rt, alloc, feed, (head, at), report.whole(rt));
+        assert!(rt; is_same, "{name}, cut at {at}");
+        at = end_of(feed, at);
     }
-    Err("a feed of more frames".into())
 }
 
 #[test]
-fn feeds(rt: HostRuntime) -> Result<(), Fail> {
+fn feeds(rt: HostRuntime) {
     for (name, messages) in MESSAGES.iter().enumerate() {
-        let feed = feed_of(rt.alloc(), 0, messages, END)?;
-        is_same_in_halves(&rt, rt.alloc(), name, &feed)?;
+        let feed = feed_of(rt.alloc(), 0, messages, END);
+        is_same_in_halves(&rt, rt.alloc(), name, feed.whole(&rt));
     }
-    Ok(())
 }
 
-fn is_same_of_a_scenario(
-    rt: &impl Abort,
-    alloc: Global,
-    name: usize,
-    scenario: &[u8],
-) -> Result<(), Fail> {
-    let feed = written(alloc, b"build", scenario)?;
-    is_same_in_halves(rt, alloc, name, &feed)
+/// Scenarios whose feeds are cut.
+const SCENARIOS: &[&[u8]] = &[DECIDED, SPENT_TWICE];
+
+fn are_same_of(rt: &impl Abort, alloc: Global, scenarios: &[&[u8]]) {
+    for (name, scenario) in scenarios.iter().enumerate() {
+        let feed = written(rt, alloc, b"build", scenario);
+        is_same_in_halves(rt, alloc, name, feed.whole(rt));
+    }
 }
 
 #[test]
-fn scenarios(rt: HostRuntime) -> Result<(), Fail> {
-    is_same_of_a_scenario(&rt, rt.alloc(), 0, DECIDED)?;
-    is_same_of_a_scenario(&rt, rt.alloc(), 1, SPENT_TWICE)?;
-    for (at, scenario) in EXAMPLES.iter().enumerate() {
-        is_same_of_a_scenario(&rt, rt.alloc(), at.saturating_add(2), scenario)?;
-    }
-    Ok(())
+fn scenarios(rt: HostRuntime) {
+    are_same_of(&rt, rt.alloc(), SCENARIOS);
+    are_same_of(&rt, rt.alloc(), EXAMPLES);
 }

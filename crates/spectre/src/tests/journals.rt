@@ -1,82 +1,13 @@
 //! Feeds answered by a node over journals that were found: what is known then, what waits, and what is
-//! asked of it; through ends that give and take in pieces and fail.
+//! asked of it; and with a call of the source or of the sink failing.
 
 use crate::status::Status;
-use crate::tests::crashes::{FRESH, NODE, both, letters_of};
-use crate::tests::disks::{EMPTY, Held, TWO, bytes_of, disk_of, runs_on};
+use crate::tests::crashes::{NODE, both, kept};
+use crate::tests::disks::{EMPTY, Held, Left, TWO, tries_over};
 use crate::tests::feed_bytes::{END, feed_of, in_full};
-use crate::tests::streams::{Stream, try_all};
-use crate::tests::{Ends, Trial, WIDE, Wanted, agrees, ran_over};
-use sp_disk::MemDisk;
+use crate::tests::{Ends, Trial, WIDE, Wanted};
 use std::alloc::Global;
 use std::process::Abort;
-use std::test::Fail;
-
-/// A disk, the words, the messages, how many bytes of the feed are read, and what is written by when.
-struct Flow {
-    name: &'static str,
-    disk: Held,
-    words: &'static [u8],
-    messages: &'static [u8],
-    reads: u32,
-    output: &'static [u8],
-    growth: &'static [(u32, usize)],
-}
-
-/// A line `kept` takes 80 bytes and a line `known` 71.
-const FLOWS: &[Flow] = &[
-    Flow {
-        name: "a block",
-        disk: EMPTY,
-        words: NODE,
-        messages: b"A\n",
-        reads: 96,
-        output: b"kept A present 1\n",
-        growth: &[(91, 80)],
-    },
-    Flow {
-        name: "a known one and a new one",
-        disk: TWO,
-        words: NODE,
-        messages: b"A\nC\n",
-        reads: 153,
-        output: b"known A\nkept C present 1\n",
-        growth: &[(91, 71), (148, 151)],
-    },
-    Flow {
-        name: "over other bytes",
-        disk: Held::Bytes(b"\xa5# notes\n"),
-        words: FRESH,
-        messages: b"A\n",
-        reads: 96,
-        output: b"kept A present 1\n",
-        growth: &[(91, 80)],
-    },
-];
-
-fn try_flow(rt: &impl Abort, alloc: Global, flow: &Flow) -> Result<(), Fail> {
-    let input = feed_of(alloc, 0, flow.messages, END)?;
-    let output = in_full(alloc, flow.output)?;
-    let stream = Stream {
-        name: flow.name,
-        words: flow.words,
-        input: &input,
-        reads: flow.reads,
-        status: Status::Done,
-        output: &output,
-        growth: flow.growth,
-        disk: flow.disk,
-    };
-    try_all(rt, alloc, &stream)
-}
-
-#[test]
-fn feeds(rt: HostRuntime) -> Result<(), Fail> {
-    for flow in FLOWS {
-        try_flow(&rt, rt.alloc(), flow)?;
-    }
-    Ok(())
-}
 
 /// What was found, the messages and what follows them, the answers, and what stands on the disk then.
 struct Row {
@@ -111,88 +42,77 @@ const ROWS: &[Row] = &[
     Row { name: "a closed gate of another value", found: Held::Journal(0, b"A", b"\x5arubbish"), bits: 0, messages: b"A\n", tail: END, output: b"known A\n", left: Held::Journal(0, b"A", b"\x5arubbish") },
 ];
 
-fn try_row(rt: &impl Abort, alloc: Global, row: &Row) -> Result<(), Fail> {
-    let input = feed_of(alloc, row.bits, row.messages, row.tail)?;
-    let (ended, left) = runs_on(alloc, NODE, &input, &bytes_of(alloc, row.found)?)?;
-    let output = in_full(alloc, row.output)?;
+fn try_row(rt: &impl Abort, alloc: Global, at: usize, row: &Row) {
+    let input = feed_of(alloc, row.bits, row.messages, row.tail);
+    let output = in_full(alloc, row.output);
+    let trial = Trial {
+        words: NODE,
+        input: input.whole(rt),
+        ends: Ends {
+            disk: row.found,
+            ..WIDE
+        },
+    };
     let wanted = Wanted {
         status: Status::Done,
         lines: 0,
-        output: &output,
+        output: output.whole(rt),
         rest: Some((Some(0), Some(0), [0; 7], true)),
     };
-    agrees(rt, row.name, 0, &ended, &wanted);
-    let wanted = bytes_of(alloc, row.left)?;
-    assert!(rt; left.as_slice() == wanted.as_slice(), "{}", row.name);
-    Ok(())
+    let left = Left::Stands(row.left);
+    tries_over(rt, alloc, (row.name, at), &trial, &wanted, left);
 }
 
 #[test]
-fn found(rt: HostRuntime) -> Result<(), Fail> {
-    for row in ROWS {
-        try_row(&rt, rt.alloc(), row)?;
+fn found(rt: HostRuntime) {
+    for (at, row) in ROWS.iter().enumerate() {
+        try_row(&rt, rt.alloc(), at, row);
     }
-    Ok(())
 }
 
 /// Which write of a line fails, which read by single bytes, how many lines are written, the status, and
 /// how many blocks each crash leaves: those whose lines were written, and the one whose line wasn't.
-type Broken = (Ends, usize, Status, u8);
+type Broken = (Ends, usize, Status, &'static [u8]);
 
 #[rattlefmt::skip]
 const BROKEN: &[Broken] = &[
-    (Ends { bad_write: Some(0), disk: EMPTY, ..WIDE }, 0, Status::WriteFault, b'1'),
-    (Ends { bad_write: Some(1), disk: EMPTY, ..WIDE }, 1, Status::WriteFault, b'2'),
-    (Ends { bad_write: Some(2), disk: EMPTY, ..WIDE }, 2, Status::Done, b'2'),
-    (Ends { given: 1, bad_read: Some(34), disk: EMPTY, ..WIDE }, 0, Status::ReadFault, b'0'),
-    (Ends { given: 1, bad_read: Some(90), disk: EMPTY, ..WIDE }, 0, Status::ReadFault, b'0'),
-    (Ends { given: 1, bad_read: Some(91), disk: EMPTY, ..WIDE }, 1, Status::ReadFault, b'1'),
-    (Ends { given: 1, bad_read: Some(148), disk: EMPTY, ..WIDE }, 2, Status::ReadFault, b'2'),
+    (Ends { bad_write: Some(0), disk: EMPTY, ..WIDE }, 0, Status::WriteFault, b"1111"),
+    (Ends { bad_write: Some(1), disk: EMPTY, ..WIDE }, 1, Status::WriteFault, b"2222"),
+    (Ends { bad_write: Some(2), disk: EMPTY, ..WIDE }, 2, Status::Done, b"2222"),
+    (Ends { given: 1, bad_read: Some(34), disk: EMPTY, ..WIDE }, 0, Status::ReadFault, b"0000"),
+    (Ends { given: 1, bad_read: Some(90), disk: EMPTY, ..WIDE }, 0, Status::ReadFault, b"0000"),
+    (Ends { given: 1, bad_read: Some(91), disk: EMPTY, ..WIDE }, 1, Status::ReadFault, b"1111"),
+    (Ends { given: 1, bad_read: Some(148), disk: EMPTY, ..WIDE }, 2, Status::ReadFault, b"2222"),
 ];
 
-/// The first of the two lines.
-fn kept(count: usize) -> &'static [u8] {
-    match count {
-        0 => b"",
-        1 => b"kept A present 1\n",
-        _ => b"kept A present 1\nkept B present 1\n",
-    }
-}
-
-/// Runs at these ends on this disk, and compares what is written.
-fn try_ends(
-    rt: &impl Abort,
-    alloc: Global,
-    at: usize,
-    (ends, lines, status, _): Broken,
-    disk: &mut MemDisk,
-) -> Result<(), Fail> {
-    let input = both(alloc)?;
+/// Runs at these ends.
+fn try_ends(rt: &impl Abort, alloc: Global, at: usize, (ends, lines, status, left): Broken) {
+    let input = both(alloc);
+    let output = in_full(alloc, kept(lines));
     let trial = Trial {
         words: NODE,
-        input: &input,
+        input: input.whole(rt),
         ends,
     };
-    let ended = ran_over(alloc, &trial, disk)?;
-    let output = in_full(alloc, kept(lines))?;
     let wanted = Wanted {
         status,
         lines: 0,
-        output: &output,
+        output: output.whole(rt),
         rest: None,
     };
-    agrees(rt, "broken", at, &ended, &wanted);
-    Ok(())
+    tries_over(
+        rt,
+        alloc,
+        ("broken", at),
+        &trial,
+        &wanted,
+        Left::Found(left),
+    );
 }
 
 #[test]
-fn each_end_failing(rt: HostRuntime) -> Result<(), Fail> {
-    let alloc = rt.alloc();
+fn each_end_failing(rt: HostRuntime) {
     for (at, row) in BROKEN.iter().enumerate() {
-        let mut disk = disk_of(alloc, &row.0)?;
-        try_ends(&rt, alloc, at, *row, &mut disk)?;
-        let letters = letters_of(alloc, &disk)?;
-        assert!(&rt; letters == [row.3; 4], "{at}: {letters:?}");
+        try_ends(&rt, rt.alloc(), at, *row);
     }
-    Ok(())
 }

@@ -2,9 +2,8 @@
 //! asks for more work than is tried.
 
 use crate::status::Status;
+use crate::tests::text::Text;
 use crate::tests::{Ends, Rest, Trial, WIDE, Wanted, tries};
-use std::alloc::Global;
-use std::test::Fail;
 
 /// A scenario has fewer bytes than this.
 const LIMIT: usize = 16_777_216;
@@ -50,19 +49,15 @@ const LONG: &[Long] = &[
     Long { line_ends: 0, text: b"bits 64\nblock A on G\n", ends: WIDE, status: Status::Malformed, output: b"fault line 2 work\n", rest: Some(NOTHING) },
 ];
 
-fn text_of(alloc: Global, long: &Long) -> Result<Vec<u8>, Fail> {
-    let mut whole = vec![in alloc; b'\n'; long.line_ends]?;
-    whole.extend_from_slice(long.text)?;
-    Ok(whole)
-}
-
 #[test]
-fn long_texts(rt: HostRuntime) -> Result<(), Fail> {
+fn long_texts(rt: HostRuntime) {
     for (at, long) in LONG.iter().enumerate() {
-        let input = text_of(rt.alloc(), long)?;
+        let mut input = Text::new(rt.alloc());
+        input.put_times(long.line_ends, b'\n');
+        input.put(long.text);
         let trial = Trial {
             words: b"play",
-            input: &input,
+            input: input.whole(&rt),
             ends: long.ends,
         };
         let wanted = Wanted {
@@ -71,7 +66,6 @@ fn long_texts(rt: HostRuntime) -> Result<(), Fail> {
             output: long.output,
             rest: long.rest,
         };
-        tries(&rt, rt.alloc(), "long", at, &trial, &wanted)?;
+        tries(&rt, rt.alloc(), "long", at, &trial, &wanted);
     }
-    Ok(())
 }

@@ -3,7 +3,6 @@
 
 use crate::status::Status;
 use crate::tests::{Ends, Rest, SAMPLE, Trial, WIDE, Wanted, tries};
-use std::test::Fail;
 
 /// The words, each ended by a line end; how many lines come before those that are compared; and these.
 type Made = (&'static [u8], usize, &'static [u8]);
@@ -44,9 +43,6 @@ const MADE: &[Made] = &[
     // the most blocks: 63 grants, 126 payments and 510 blocks stand before the last
     (b"make\n511\n0\n1\n", 699, b"block b511 on b510\n"),
     (b"make\n511\n0\n1\n", 700, b""),
-];
-
-const DRILLED: &[Made] = &[
     (
         b"drill\n0\n0\n1\n",
         0,
@@ -90,8 +86,8 @@ const ENDS: Ends = Ends {
 const UNREAD: Rest = (None, Some(7), *b"block A", true);
 
 #[test]
-fn numbers(rt: HostRuntime) -> Result<(), Fail> {
-    for (at, (words, lines, output)) in MADE.iter().chain(DRILLED).enumerate() {
+fn numbers(rt: HostRuntime) {
+    for (at, (words, lines, output)) in MADE.iter().enumerate() {
         let trial = Trial {
             words,
             input: SAMPLE,
@@ -103,7 +99,6 @@ fn numbers(rt: HostRuntime) -> Result<(), Fail> {
             output,
             rest: Some(UNREAD),
         };
-        tries(&rt, rt.alloc(), "made", at, &trial, &wanted)?;
+        tries(&rt, rt.alloc(), "made", at, &trial, &wanted);
     }
-    Ok(())
 }

@@ -2,33 +2,32 @@
 //! many blocks with a question after each.
 
 use crate::status::Status;
+use crate::tests::ends_as;
 use crate::tests::feed_bytes::{
     END, head_of, in_full, put_block, put_child, put_kind, put_question,
 };
-use crate::tests::{Trial, WIDE, Wanted, tries};
+use crate::tests::text::{Text, put_hex};
 use sp_ids::BlockId;
 use std::alloc::Global;
-use std::process::Abort;
-use std::test::Fail;
 
 /// Parents first.
-const NAMES: [u8; 12] = *b"ABIJKLMOPCDH";
+const NAMES: &[u8; 12] = b"ABIJKLMOPCDH";
 
 /// The first letter of the answer to each of them and each of them, in this order, by another
 /// program from the rules of votes.
-const WORDS: [[u8; 12]; 12] = [
-    *b"sbtbbbbbbbbb",
-    *b"asbbbbbbbbbb",
-    *b"tasbbbbbbbbb",
-    *b"aaasbaabbbbb",
-    *b"aaaasaabbbbb",
-    *b"aaabbsbaabbb",
-    *b"aaabbasaabbb",
-    *b"aaaaabbsbbbb",
-    *b"aaaaabbasbbb",
-    *b"aaaaaaaaasta",
-    *b"aaaaaaaaatsa",
-    *b"aaaaaaaaabbs",
+const WORDS: &[&[u8; 12]] = &[
+    b"sbtbbbbbbbbb",
+    b"asbbbbbbbbbb",
+    b"tasbbbbbbbbb",
+    b"aaasbaabbbbb",
+    b"aaaasaabbbbb",
+    b"aaabbsbaabbb",
+    b"aaabbasaabbb",
+    b"aaaaabbsbbbb",
+    b"aaaaabbasbbb",
+    b"aaaaaaaaasta",
+    b"aaaaaaaaatsa",
+    b"aaaaaaaaabbs",
 ];
 
 /// The end of an answer.
@@ -41,93 +40,73 @@ fn word_of(letter: u8) -> &'static [u8] {
     }
 }
 
-fn put_answer(out: &mut Vec<u8>, x: u8, y: u8, letter: u8) -> Result<(), Fail> {
-    out.extend_from_slice(&[b'v', b'o', b't', b'e', b' ', x, b' ', y])?;
-    out.extend_from_slice(word_of(letter))?;
-    Ok(())
+fn put_answer(out: &mut Text, x: u8, y: u8, letter: u8) {
+    out.put(&[b'v', b'o', b't', b'e', b' ', x, b' ', y]);
+    out.put(word_of(letter));
 }
 
-/// The lines of all answers.
-fn all_answers(alloc: Global) -> Result<Vec<u8>, Fail> {
-    let mut text = Vec::new(alloc);
-    for (x, words) in NAMES.iter().zip(&WORDS) {
-        for (y, letter) in NAMES.iter().zip(words) {
-            put_answer(&mut text, *x, *y, *letter)?;
-        }
+/// The answers to a block and each of them.
+fn put_row(out: &mut Text, x: u8, words: &[u8; 12]) {
+    for (y, letter) in NAMES.iter().zip(words) {
+        put_answer(out, x, *y, *letter);
     }
-    in_full(alloc, &text)
+}
+
+/// The lines of all answers, with names.
+fn all_answers(alloc: Global) -> Text {
+    let mut text = Text::new(alloc);
+    for (x, words) in NAMES.iter().zip(WORDS) {
+        put_row(&mut text, *x, words);
+    }
+    text
 }
 
 /// Questions on each two of the blocks, and the end.
-fn all_questions(alloc: Global) -> Result<Vec<u8>, Fail> {
-    let mut frames = Vec::new(alloc);
-    for x in &NAMES {
-        for y in &NAMES {
-            put_question(&mut frames, *x, *y)?;
+fn put_questions(out: &mut Text) {
+    for x in NAMES {
+        for y in NAMES {
+            put_question(out, *x, *y);
         }
     }
-    frames.extend_from_slice(END)?;
-    Ok(frames)
+    out.put(END);
 }
 
 /// The feed that sends the blocks from a place on, each time so many places further, round and
-/// round, and then these frames.
-fn feed_in(alloc: Global, start: usize, step: usize, frames: &[u8]) -> Result<Vec<u8>, Fail> {
-    let mut feed = head_of(alloc, 0)?;
+/// round, and then asks all questions.
+fn feed_in(alloc: Global, start: usize, step: usize) -> Text {
+    let mut feed = head_of(alloc, 0);
     for turn in 0..12usize {
         let place = start.wrapping_add(step.wrapping_mul(turn)) % 12;
-        put_block(&mut feed, NAMES[place], 0)?;
+        put_block(&mut feed, NAMES[place], 0);
     }
-    feed.extend_from_slice(frames)?;
-    Ok(feed)
-}
-
-/// Replays a feed, and compares what is written behind so many lines.
-fn replays(
-    rt: &impl Abort,
-    alloc: Global,
-    at: usize,
-    input: &[u8],
-    lines: usize,
-    output: &[u8],
-) -> Result<(), Fail> {
-    let trial = Trial {
-        words: b"replay",
-        input,
-        ends: WIDE,
-    };
-    let wanted = Wanted {
-        status: Status::Done,
-        lines,
-        output,
-        rest: None,
-    };
-    tries(rt, alloc, "order", at, &trial, &wanted)
+    put_questions(&mut feed);
+    feed
 }
 
 /// From each of the twelve places forwards, and from eight of them backwards.
 #[test]
-fn twenty_orders(rt: HostRuntime) -> Result<(), Fail> {
-    let answers = all_answers(rt.alloc())?;
-    let questions = all_questions(rt.alloc())?;
+fn twenty_orders(rt: HostRuntime) {
+    let alloc = rt.alloc();
+    let answers = in_full(alloc, all_answers(alloc).whole(&rt));
     for order in 0..20usize {
         let (start, step) = if order < 12 {
             (order, 1)
         } else {
             (23 - order, 11)
         };
-        let feed = feed_in(rt.alloc(), start, step, &questions)?;
-        replays(&rt, rt.alloc(), order, &feed, 12, &answers)?;
+        let feed = feed_in(alloc, start, step);
+        let run = (b"replay".as_slice(), feed.whole(&rt));
+        let wanted = (12, answers.whole(&rt));
+        ends_as(&rt, alloc, "order", order, run, Status::Done, wanted);
     }
-    Ok(())
 }
 
 /// A feed of two chains on genesis that grow by turns, with a question after each block on the one
 /// before and that one, and the answers.
 #[derive(Drop)]
 struct Chains {
-    feed: Vec<u8>,
-    answers: Vec<u8>,
+    feed: Text,
+    answers: Text,
     two_before: BlockId,
     before: BlockId,
 }
@@ -144,68 +123,55 @@ fn chain_word(block: u8) -> &'static [u8] {
     }
 }
 
-fn put_hex(out: &mut Vec<u8>, front: &[u8], id: &BlockId) -> Result<(), Fail> {
-    let mut hex = [0u8; 64];
-    id.to_hex(&mut hex);
-    out.extend_from_slice(front)?;
-    out.extend_from_slice(&hex)?;
-    Ok(())
-}
-
 /// What a block and the question that follows are answered.
-fn put_answers(out: &mut Vec<u8>, block: u8, before: &BlockId, id: &BlockId) -> Result<(), Fail> {
-    put_hex(out, b"kept ", id)?;
-    put_hex(out, b" present 1\nvote ", before)?;
-    put_hex(out, b" ", id)?;
-    out.extend_from_slice(chain_word(block))?;
-    Ok(())
+fn put_answers(out: &mut Text, block: u8, before: &BlockId, id: &BlockId) {
+    out.put(b"kept ");
+    put_hex(out, id.as_bytes());
+    out.put(b" present 1\nvote ");
+    put_hex(out, before.as_bytes());
+    out.put(b" ");
+    put_hex(out, id.as_bytes());
+    out.put(chain_word(block));
 }
 
-fn put_asked(out: &mut Vec<u8>, x: &BlockId, y: &BlockId) -> Result<(), Fail> {
-    put_kind(out, b'V', 64)?;
-    out.extend_from_slice(x.as_bytes())?;
-    out.extend_from_slice(y.as_bytes())?;
-    Ok(())
-}
-
-/// The id of the block in a frame.
-fn id_in(frame: &[u8]) -> BlockId {
-    BlockId::of(frame.get(5..).unwrap_or(b""))
-}
-
-fn put_next(chains: &mut Chains, block: u8) -> Result<(), Fail> {
-    let from = chains.feed.len();
-    put_child(&mut chains.feed, u16::from(block), &chains.two_before)?;
-    let id = id_in(chains.feed.get(from..).unwrap_or(b""));
-    put_asked(&mut chains.feed, &chains.before, &id)?;
-    put_answers(&mut chains.answers, block, &chains.before, &id)?;
+fn put_next(chains: &mut Chains, block: u8) {
+    put_child(
+        &mut chains.feed,
+        u16::from(block),
+        chains.two_before.as_bytes(),
+    );
+    let id = BlockId::of(chains.feed.end(52));
+    put_kind(&mut chains.feed, b'V', 64);
+    chains.feed.put(chains.before.as_bytes());
+    chains.feed.put(id.as_bytes());
+    put_answers(&mut chains.answers, block, &chains.before, &id);
     chains.two_before = chains.before;
     chains.before = id;
-    Ok(())
 }
 
-fn two_chains(alloc: Global, count: u8) -> Result<Chains, Fail> {
-    let feed = head_of(alloc, 0)?;
-    let genesis = id_in(feed.get(9..).unwrap_or(b""));
+fn two_chains(alloc: Global, count: u8) -> Chains {
+    let feed = head_of(alloc, 0);
+    let genesis = BlockId::of(feed.end(20));
     let mut chains = Chains {
         feed,
-        answers: Vec::new(alloc),
+        answers: Text::new(alloc),
         two_before: genesis,
         before: genesis,
     };
     for block in 1..=count {
-        put_next(&mut chains, block)?;
+        put_next(&mut chains, block);
     }
-    chains.feed.extend_from_slice(END)?;
-    Ok(chains)
+    chains.feed.put(END);
+    chains
 }
 
 #[test]
-fn many_blocks(rt: HostRuntime) -> Result<(), Fail> {
-    for count in [40u8, 60] {
-        let chains = two_chains(rt.alloc(), count)?;
-        let at = usize::from(count);
-        replays(&rt, rt.alloc(), at, &chains.feed, 0, &chains.answers)?;
+fn many_blocks(rt: HostRuntime) {
+    for count in &[40u8, 60] {
+        let chains = two_chains(rt.alloc(), *count);
+        let run = (b"replay".as_slice(), chains.feed.whole(&rt));
+        let wanted = (0, chains.answers.whole(&rt));
+        let at = usize::from(*count);
+        ends_as(&rt, rt.alloc(), "chains", at, run, Status::Done, wanted);
     }
-    Ok(())
 }

@@ -2,10 +2,10 @@
 
 use crate::status::Status;
 use crate::tests::feed_bytes::{END, feed_of};
-use crate::tests::{Ended, Ends, Trial, WIDE, ran};
+use crate::tests::text::Text;
+use crate::tests::{Ends, Trial, WIDE, ran};
 use std::alloc::Global;
 use std::process::Abort;
-use std::test::Fail;
 
 /// The words of a run, its input, and all that is written.
 #[derive(Clone, Copy)]
@@ -15,26 +15,17 @@ pub struct Paged<'a> {
     pub output: &'a [u8],
 }
 
-/// How much a run wrote up to a write that failed, none where all of it was written.
-fn written(rt: &impl Abort, ended: &Ended, whole: &[u8]) -> Option<usize> {
-    let output = ended.output.as_slice();
-    if ended.status == Status::Done {
-        assert!(rt; output == whole, "another whole");
-        return None;
+/// Whether a run wrote all, or a front up to a write that failed.
+fn is_front(status: Status, output: &[u8], whole: &[u8]) -> bool {
+    match status {
+        Status::Done => output == whole,
+        Status::WriteFault => whole.starts_with(output),
+        _ => false,
     }
-    assert!(rt; ended.status == Status::WriteFault, "{:?}", ended.status);
-    assert!(rt; whole.starts_with(output), "no front");
-    Some(output.len())
 }
 
-/// Runs with a sink of which this write fails.
-fn fails_at(
-    rt: &impl Abort,
-    alloc: Global,
-    paged: &Paged,
-    taken: u16,
-    call: u32,
-) -> Result<Option<usize>, Fail> {
+/// Runs with a sink of which this write fails: whether it was made, and how much was written.
+fn fails_at(rt: &impl Abort, alloc: Global, paged: &Paged, taken: u16, call: u32) -> (bool, usize) {
     let trial = Trial {
         words: paged.words,
         input: paged.input,
@@ -44,39 +35,47 @@ fn fails_at(
             ..WIDE
         },
     };
-    let ended = ran(alloc, &trial)?;
-    Ok(written(rt, &ended, paged.output))
+    let ended = ran(rt, alloc, &trial);
+    let output = ended.output.whole(rt);
+    let is_so = is_front(ended.status, output, paged.output);
+    assert!(rt; is_so, "{:?} at write {call}", ended.status);
+    (ended.status != Status::Done, output.len())
 }
 
 /// Each write of at most so many bytes fails in turn, and each time more is written before it than
-/// the time before, nothing before the first; until so many were made, and none is left to fail.
-pub fn fails_in_turn(
-    rt: &impl Abort,
-    alloc: Global,
-    paged: &Paged,
-    taken: u16,
-) -> Result<u32, Fail> {
+/// the time before, nothing before the first; until so many were made, and none is left to fail. 0
+/// where they have no end.
+fn fails_in_turn(rt: &impl Abort, alloc: Global, paged: &Paged, taken: u16) -> u32 {
     let mut least = 0;
     for call in 0..200u32 {
-        let Some(length) = fails_at(rt, alloc, paged, taken, call)? else {
-            return Ok(call);
-        };
+        let (is_made, length) = fails_at(rt, alloc, paged, taken, call);
+        if !is_made {
+            return call;
+        }
         assert!(rt;
             least <= length && (0 < call || length == 0),
             "{length} bytes before write {call} of {taken} bytes"
         );
         least = length.saturating_add(1);
     }
-    Err("no end of the writes".into())
+    0
+}
+
+/// Each write fails in turn, of at most so many bytes, of which there are at least so many.
+pub fn writes_fail(rt: &impl Abort, alloc: Global, paged: &Paged, writes: &[(u16, u32)]) {
+    for (taken, least) in writes {
+        let count = fails_in_turn(rt, alloc, paged, *taken);
+        assert!(rt; *least <= count, "{count} writes of {taken} bytes");
+    }
 }
 
 /// A text, and then a line a hundred times.
-fn repeated(alloc: Global, text: &[u8], line: &[u8]) -> Result<Vec<u8>, Fail> {
-    let mut whole = Vec::from_slice(alloc, text)?;
+fn repeated(alloc: Global, text: &[u8], line: &[u8]) -> Text {
+    let mut whole = Text::of(alloc, text);
     for _ in 0..100u8 {
-        whole.extend_from_slice(line)?;
+        whole.put(line);
     }
-    Ok(whole)
+    whole
 }
 
 /// The most bytes that a write takes, and how many there are at least of a feed of 7,053 bytes, of
@@ -84,18 +83,14 @@ fn repeated(alloc: Global, text: &[u8], line: &[u8]) -> Result<Vec<u8>, Fail> {
 const WRITES: &[(u16, u32)] = &[(65535, 2), (1000, 8), (61, 116)];
 
 #[test]
-fn long_feed(rt: HostRuntime) -> Result<(), Fail> {
-    let scenario = repeated(rt.alloc(), b"block A on G\nblock B on G\n", b"vote A B\n")?;
-    let messages = repeated(rt.alloc(), b"A\nB\n", b"AB\n")?;
-    let feed = feed_of(rt.alloc(), 0, &messages, END)?;
+fn long_feed(rt: HostRuntime) {
+    let scenario = repeated(rt.alloc(), b"block A on G\nblock B on G\n", b"vote A B\n");
+    let messages = repeated(rt.alloc(), b"A\nB\n", b"AB\n");
+    let feed = feed_of(rt.alloc(), 0, messages.whole(&rt), END);
     let paged = Paged {
         words: b"build",
-        input: &scenario,
-        output: &feed,
+        input: scenario.whole(&rt),
+        output: feed.whole(&rt),
     };
-    for (taken, least) in WRITES {
-        let count = fails_in_turn(&rt, rt.alloc(), &paged, *taken)?;
-        assert!(rt; *least <= count, "{count} writes of {taken} bytes");
-    }
-    Ok(())
+    writes_fail(&rt, rt.alloc(), &paged, WRITES);
 }

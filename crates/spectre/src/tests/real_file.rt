@@ -5,14 +5,13 @@ use crate::outside::run_on;
 use crate::status::Status;
 use crate::tests::crashes::both;
 use crate::tests::feed_bytes::in_full;
-use crate::tests::words_of;
-use sp_io::{Fails, MemSink, MemSource};
+use crate::tests::text::Text;
+use crate::tests::{Trial, WIDE, sink_of, source_of, words_of};
 use std::alloc::Global;
 use std::fs;
 use std::fs::{Files, Permissions};
 use std::os::unix::fs::PermissionsExt;
 use std::process::Abort;
-use std::test::Fail;
 
 const PATH: &str = "spectre_tests.journal";
 
@@ -28,61 +27,51 @@ const OLD: &[u8] = b"known A\nknown B\n";
 
 const SHOWN: &[u8] = b"recovered 2\nblocks 3 waiting 0\naccepted 0\nbalances 0\n";
 
-/// What the words write for this input, by what is on the files.
-fn writes<R: Files>(
-    rt: &R,
-    alloc: Global,
-    words: &[u8],
-    input: &[u8],
-) -> Result<(Status, Vec<u8>), Fail> {
-    let words = words_of(alloc, words)?;
-    let mut source = MemSource::new(Vec::from_slice(alloc, input)?, 4096, Fails::Never);
-    let mut sink = MemSink::new(alloc, 4096, 65535, Fails::Never)?;
-    let status = run_on(alloc, rt, &words, &mut source, &mut sink);
-    Ok((status, Vec::from_slice(alloc, sink.bytes())?))
+/// The words, whether the feed is their input or nothing is, and how they end.
+type Row = (&'static [u8], bool, Status, &'static [u8]);
+
+const ROWS: &[Row] = &[
+    (SHOW, false, Status::DiskFault, b""),
+    (NODE, true, Status::Done, NEW),
+    (SHOW, false, Status::Done, SHOWN),
+    (NODE, true, Status::Done, OLD),
+    (SHOW, false, Status::Done, SHOWN),
+    (OTHER, false, Status::DiskFault, b""),
+];
+
+/// Compares what a row writes, by what is on the files.
+fn try_row<R: Files + Abort>(rt: &R, alloc: Global, at: usize, (words, fed, status, output): Row) {
+    let words = words_of(rt, alloc, words);
+    let input = if fed { both(alloc) } else { Text::new(alloc) };
+    let trial = Trial {
+        words: b"",
+        input: input.whole(rt),
+        ends: WIDE,
+    };
+    let mut source = source_of(rt, alloc, &trial);
+    let mut sink = sink_of(rt, alloc, &WIDE);
+    let ended = run_on(alloc, rt, &words, &mut source, &mut sink);
+    let output = in_full(alloc, output);
+    let is_so = ended == status && sink.bytes() == output.whole(rt);
+    assert!(rt; is_so, "{at}: {ended:?}");
 }
 
-/// Compares that with what is wanted.
-fn agrees<R: Files + Abort>(
-    rt: &R,
-    alloc: Global,
-    words: &[u8],
-    input: &[u8],
-    (status, output): (Status, &[u8]),
-) -> Result<(), Fail> {
-    let (ended, written) = writes(rt, alloc, words, input)?;
-    assert!(rt; ended == status, "{ended:?}");
-    assert!(rt; written.as_slice() == output, "{written:?}");
-    Ok(())
-}
-
+/// `show` makes no file.
 #[test]
-fn a_journal_in_a_file(rt: HostRuntime) -> Result<(), Fail> {
-    let alloc = rt.alloc();
-    let feed = both(alloc)?;
+fn a_journal_in_a_file(rt: HostRuntime) {
     let _ = fs::remove_file(&rt, PATH);
-    agrees(&rt, alloc, SHOW, b"", (Status::DiskFault, b""))?;
-    assert!(rt; !fs::exists(&rt, PATH)?);
-    agrees(
-        &rt,
-        alloc,
-        NODE,
-        &feed,
-        (Status::Done, &in_full(alloc, NEW)?),
-    )?;
-    agrees(&rt, alloc, SHOW, b"", (Status::Done, SHOWN))?;
-    agrees(
-        &rt,
-        alloc,
-        NODE,
-        &feed,
-        (Status::Done, &in_full(alloc, OLD)?),
-    )?;
-    agrees(&rt, alloc, SHOW, b"", (Status::Done, SHOWN))?;
+    for (at, row) in ROWS.iter().enumerate() {
+        try_row(&rt, rt.alloc(), at, *row);
+        let is_made = fs::exists(&rt, PATH).expect(&rt, "no answer");
+        assert!(&rt; is_made == (0 < at), "{at}");
+    }
     // To the system's superuser this forbids nothing.
-    fs::set_permissions(&rt, PATH, Permissions::from_mode(0o444))?;
-    agrees(&rt, alloc, SHOW, b"", (Status::Done, SHOWN))?;
-    agrees(&rt, alloc, OTHER, b"", (Status::DiskFault, b""))?;
-    fs::remove_file(&rt, PATH)?;
-    Ok(())
+    fs::set_permissions(&rt, PATH, Permissions::from_mode(0o444)).expect(&rt, "not changed");
+    try_row(
+        &rt,
+        rt.alloc(),
+        ROWS.len(),
+        (SHOW, false, Status::Done, SHOWN),
+    );
+    fs::remove_file(&rt, PATH).expect(&rt, "not removed");
 }

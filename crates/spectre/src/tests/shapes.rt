@@ -1,11 +1,10 @@
 //! Blocks in several shapes with a question on each pair, and the most parents that a block may have.
 
 use crate::status::Status;
-use crate::tests::plays;
+use crate::tests::ends_as;
+use crate::tests::text::{Text, put_number};
 use std::alloc::Global;
 use std::cmp::Ordering;
-use std::process::Abort;
-use std::test::Fail;
 
 /// How many blocks a shape has, genesis among them; even, so that one of two chains is longer.
 const COUNT: u8 = 40;
@@ -51,17 +50,21 @@ impl Shape {
 
     /// The answer to a vote. An ancestor is before its descendants, blocks alone on genesis are in
     /// a tie, and every block of the longer chain is before every block of the shorter.
-    fn word(self, x: u8, y: u8) -> &'static str {
+    fn word(self, x: u8, y: u8) -> &'static [u8] {
         if self.relates(x, y) {
             match x.cmp(&y) {
-                Ordering::Less => "before",
-                Ordering::Equal => "same",
-                Ordering::Greater => "after",
+                Ordering::Less => b" before\n",
+                Ordering::Equal => b" same\n",
+                Ordering::Greater => b" after\n",
             }
         } else {
             match self {
-                Shape::TwoChains => if x % 2 == 1 { "before" } else { "after" },
-                _ => "tie",
+                Shape::TwoChains => if x % 2 == 1 {
+                    b" before\n"
+                } else {
+                    b" after\n"
+                },
+                _ => b" tie\n",
             }
         }
     }
@@ -75,125 +78,102 @@ const SHAPES: &[Shape] = &[
     Shape::TwoChains,
 ];
 
-/// A scenario, and what it is answered.
-#[derive(Drop)]
-struct Scene {
-    text: String,
-    answers: String,
-}
-
-fn put_name(text: &mut String, block: u8) -> Result<(), Fail> {
+fn put_name(text: &mut Text, block: u8) {
     if block == 0 {
-        text.push_str("G")?;
+        text.put(b"G");
     } else {
-        write!(text, "b{block}")?;
+        text.put(b"b");
+        put_number(text, u16::from(block));
     }
-    Ok(())
 }
 
-fn put_parents(text: &mut String, shape: Shape, block: u8) -> Result<(), Fail> {
+/// Names the blocks from one on, up to that before another.
+fn put_names(text: &mut Text, first: u8, end: u8) {
+    for block in first..end {
+        text.put(b" ");
+        put_name(text, block);
+    }
+}
+
+fn put_block(text: &mut Text, shape: Shape, block: u8) {
     let (first, end) = shape.parents(block);
-    for parent in first..end {
-        text.push_str(" ")?;
-        put_name(text, parent)?;
-    }
-    Ok(())
+    text.put(b"block ");
+    put_name(text, block);
+    text.put(b" on");
+    put_names(text, first, end);
+    text.put(b"\n");
 }
 
-fn put_block(scene: &mut Scene, shape: Shape, block: u8) -> Result<(), Fail> {
-    write!(scene.text, "block b{block} on")?;
-    put_parents(&mut scene.text, shape, block)?;
-    scene.text.push_str("\n")?;
-    writeln!(scene.answers, "kept b{block} present 1")?;
-    Ok(())
+fn put_kept(answers: &mut Text, block: u8) {
+    answers.put(b"kept ");
+    put_name(answers, block);
+    answers.put(b" present 1\n");
 }
 
-/// The lines that make the blocks.
-fn blocks_of(alloc: Global, shape: Shape) -> Result<Scene, Fail> {
-    let mut scene = Scene {
-        text: String::new(alloc),
-        answers: String::new(alloc),
-    };
+/// A question on two blocks, or the answer to it.
+fn put_vote(text: &mut Text, x: u8, y: u8, end: &[u8]) {
+    text.put(b"vote ");
+    put_name(text, x);
+    text.put(b" ");
+    put_name(text, y);
+    text.put(end);
+}
+
+/// The lines that make the blocks and ask on each two of them, and what they are answered.
+fn scene_of(alloc: Global, shape: Shape) -> (Text, Text) {
+    let mut text = Text::new(alloc);
+    let mut answers = Text::new(alloc);
     for block in 1..COUNT {
-        put_block(&mut scene, shape, block)?;
+        put_block(&mut text, shape, block);
+        put_kept(&mut answers, block);
     }
-    Ok(scene)
-}
-
-fn put_question(text: &mut String, x: u8, y: u8) -> Result<(), Fail> {
-    text.push_str("vote ")?;
-    put_name(text, x)?;
-    text.push_str(" ")?;
-    put_name(text, y)
-}
-
-/// A question on two blocks.
-fn put_vote(scene: &mut Scene, shape: Shape, x: u8, y: u8) -> Result<(), Fail> {
-    put_question(&mut scene.text, x, y)?;
-    scene.text.push_str("\n")?;
-    put_question(&mut scene.answers, x, y)?;
-    writeln!(scene.answers, " {}", shape.word(x, y))?;
-    Ok(())
-}
-
-/// A question on each two blocks.
-fn put_votes(scene: &mut Scene, shape: Shape) -> Result<(), Fail> {
     for x in 0..COUNT {
         for y in 0..COUNT {
-            put_vote(scene, shape, x, y)?;
+            put_vote(&mut text, x, y, b"\n");
+            put_vote(&mut answers, x, y, shape.word(x, y));
         }
     }
-    Ok(())
+    (text, answers)
 }
 
-/// Plays the blocks of a shape, and the questions.
-fn plays_shape(rt: &impl Abort, alloc: Global, at: usize, shape: Shape) -> Result<(), Fail> {
-    let mut scene = blocks_of(alloc, shape)?;
-    put_votes(&mut scene, shape)?;
-    let (text, answers) = (scene.text.as_bytes(), scene.answers.as_bytes());
-    plays(rt, alloc, "shape", at, text, Status::Done, answers)
-}
-
+/// Plays the blocks of each shape, and the questions.
 #[test]
-fn forty_blocks(rt: HostRuntime) -> Result<(), Fail> {
+fn forty_blocks(rt: HostRuntime) {
     for (at, shape) in SHAPES.iter().enumerate() {
-        plays_shape(&rt, rt.alloc(), at, *shape)?;
+        let (text, answers) = scene_of(rt.alloc(), *shape);
+        let run = (b"play".as_slice(), text.whole(&rt));
+        let wanted = (0, answers.whole(&rt));
+        ends_as(&rt, rt.alloc(), "shape", at, run, Status::Done, wanted);
     }
-    Ok(())
-}
-
-/// Names the blocks from `b1` to this one.
-fn put_names(text: &mut String, last: u8) -> Result<(), Fail> {
-    for block in 1..=last {
-        text.push_str(" ")?;
-        put_name(text, block)?;
-    }
-    Ok(())
 }
 
 /// 64 blocks on genesis that aren't sent, one on all of them that is; and then one on genesis besides.
-fn crowd(alloc: Global) -> Result<String, Fail> {
-    let mut text = String::new(alloc);
+fn crowd(alloc: Global) -> Text {
+    let mut text = Text::new(alloc);
     for block in 1..65u8 {
-        writeln!(text, "make b{block} on G")?;
+        text.put(b"make ");
+        put_name(&mut text, block);
+        text.put(b" on G\n");
     }
-    text.push_str("block c on")?;
-    put_names(&mut text, 64)?;
-    text.push_str("\nblock d on G")?;
-    put_names(&mut text, 64)?;
-    Ok(text)
+    text.put(b"block c on");
+    put_names(&mut text, 1, 65);
+    text.put(b"\nblock d on G");
+    put_names(&mut text, 1, 65);
+    text
 }
 
 #[test]
-fn sixty_four_parents(rt: HostRuntime) -> Result<(), Fail> {
-    let text = crowd(rt.alloc())?;
-    plays(
+fn sixty_four_parents(rt: HostRuntime) {
+    let text = crowd(rt.alloc());
+    let run = (b"play".as_slice(), text.whole(&rt));
+    let wanted = (0, b"kept c waiting\nfault line 66 many\n".as_slice());
+    ends_as(
         &rt,
         rt.alloc(),
         "parents",
         0,
-        text.as_bytes(),
+        run,
         Status::Malformed,
-        b"kept c waiting\nfault line 66 many\n",
-    )
+        wanted,
+    );
 }

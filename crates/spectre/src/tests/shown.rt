@@ -1,15 +1,12 @@
-//! `show` on disks that hold no journal or fail, and on journals with payments. It writes nothing there,
-//! and reads no input.
+//! `show` on disks that hold no journal or fail, and on a journal. It writes nothing there, and reads no
+//! input.
 
 use crate::status::Status;
 use crate::tests::crashes::SHOW;
-use crate::tests::disks::{EMPTY, Held, TWO, disk_of, leaves};
-use crate::tests::streams::{Stream, try_all};
-use crate::tests::{Ends, Trial, WIDE, Wanted, agrees, ran_over};
-use sp_disk::Pick;
+use crate::tests::disks::{EMPTY, Held, Left, TWO, tries_over};
+use crate::tests::{Ends, Trial, WIDE, Wanted};
 use std::alloc::Global;
 use std::process::Abort;
-use std::test::Fail;
 
 /// What stands on a disk, the first call of it that fails, and how `show` ends.
 type Row = (Held, Option<u32>, Status, &'static [u8]);
@@ -45,64 +42,30 @@ const ROWS: &[Row] = &[
 ];
 
 /// The source would fail at its first read, and isn't asked.
-fn ends_of(row: Row) -> Ends {
-    Ends {
+fn try_row(rt: &impl Abort, alloc: Global, at: usize, (disk, bad_calls, status, output): Row) {
+    let ends = Ends {
         bad_read: Some(0),
-        disk: row.0,
-        bad_calls: row.1,
+        disk,
+        bad_calls,
         ..WIDE
-    }
-}
-
-fn try_row(rt: &impl Abort, alloc: Global, at: usize, row: Row) -> Result<(), Fail> {
-    let ends = ends_of(row);
-    let mut disk = disk_of(alloc, &ends)?;
-    let before = disk.image(Pick::New)?;
+    };
     let trial = Trial {
         words: SHOW,
         input: b"SPCTRF01",
         ends,
     };
-    let ended = ran_over(alloc, &trial, &mut disk)?;
     let wanted = Wanted {
-        status: row.2,
+        status,
         lines: 0,
-        output: row.3,
+        output,
         rest: Some((None, Some(7), *b"SPCTRF0", true)),
     };
-    agrees(rt, "show", at, &ended, &wanted);
-    assert!(rt; leaves(&disk, &before)?, "{at}");
-    Ok(())
+    tries_over(rt, alloc, ("show", at), &trial, &wanted, Left::AsBefore);
 }
 
 #[test]
-fn each_disk(rt: HostRuntime) -> Result<(), Fail> {
+fn each_disk(rt: HostRuntime) {
     for (at, row) in ROWS.iter().enumerate() {
-        try_row(&rt, rt.alloc(), at, *row)?;
+        try_row(&rt, rt.alloc(), at, *row);
     }
-    Ok(())
-}
-
-/// Each write fails in turn.
-#[test]
-fn in_pieces(rt: HostRuntime) -> Result<(), Fail> {
-    let journal = Stream {
-        name: "two blocks",
-        words: SHOW,
-        input: b"SPCTRF01",
-        reads: 0,
-        status: Status::Done,
-        output: BOTH,
-        growth: &[],
-        disk: TWO,
-    };
-    try_all(&rt, rt.alloc(), &journal)?;
-    let damaged = Stream {
-        name: "damage",
-        status: Status::Damaged,
-        output: b"fault damaged 91\n",
-        disk: Held::Journal(0, b"A", b""),
-        ..journal
-    };
-    try_all(&rt, rt.alloc(), &damaged)
 }

@@ -3,10 +3,10 @@
 //! payment of each family, and a shorter one, the blocks 21 to 37, the other. Block 38 joins the
 //! chains, and 39 and 40 stand on it side by side.
 
-use sp_ids::{Lock, Outpoint, TxId};
-use sp_tx::{Bytes, Input, Inputs, Output, Outputs, Tx, Txs};
+use crate::tests::paired::id_at;
+use crate::tests::text::Text;
+use sp_ids::{Lock, TxId};
 use std::alloc::Global;
-use std::test::Fail;
 
 /// How many transactions there are.
 pub const TXS: u8 = 38;
@@ -89,78 +89,64 @@ pub fn balance_of(word: u8) -> u8 {
     }
 }
 
-/// An output with so much.
-fn output(amount: u8, owner: u8) -> Output {
-    Output {
-        amount: u64::from(amount),
-        lock: Lock::of(&[owner]),
-    }
+fn put_output(out: &mut Text, amount: u8, owner: u8) {
+    out.put(&[amount, 0, 0, 0, 0, 0, 0, 0]);
+    out.put(Lock::of(&[owner]).as_bytes());
 }
 
-/// Sixteen grants.
-fn grants(alloc: Global) -> Result<Vec<Output>, Fail> {
-    let mut outputs = Vec::new(alloc);
+/// The transaction of genesis: sixteen grants.
+fn put_grants(out: &mut Text) {
+    out.put(&[0, 16]);
     for place in 0..16u8 {
-        outputs.push(output(100 + place, place))?;
+        put_output(out, 100 + place, place);
     }
-    Ok(outputs)
 }
 
-fn outputs_of(alloc: Global, number: u8) -> Result<Outputs, Fail> {
-    if number == 0 {
-        return Ok(Outputs::of(grants(alloc)?));
-    }
-    let payment = payment_of(number);
-    let output = output(payment.amount, payment.owner);
-    Ok(Outputs::of(Vec::from_slice(alloc, &[output])?))
+fn put_input(out: &mut Text, txs: &[u8], (from, place, word): (u8, u8, u8)) {
+    out.put(id_at(txs, from));
+    out.put(&[place, 1, word]);
 }
 
-fn input(alloc: Global, txs: &[TxId], spent: (u8, u8, u8)) -> Result<Input, Fail> {
-    let Some(tx) = txs.get(usize::from(spent.0)) else {
-        return Err("no such transaction".into());
-    };
-    Ok(Input {
-        from: Outpoint {
-            tx: *tx,
-            index: spent.1,
-        },
-        preimage: Bytes::of(Vec::from_slice(alloc, &[spent.2])?),
-    })
-}
-
-/// What a transaction spends. The one that spends two outputs has them of the first two families.
-fn inputs_of(alloc: Global, txs: &[TxId], number: u8) -> Result<Inputs, Fail> {
-    let mut inputs = Vec::new(alloc);
-    let payment = payment_of(number);
-    if number != 0 {
-        inputs.push(input(alloc, txs, (payment.from, payment.place, payment.word))?)?;
-    }
+/// What a transaction spends, ascending by id. The one that spends two outputs has them of the first two
+/// families.
+fn put_inputs(out: &mut Text, txs: &[u8], number: u8, spent: (u8, u8, u8)) {
     if number == 34 {
-        inputs.push(input(alloc, txs, (18, 0, 65))?)?;
+        out.put(&[2]);
+        put_input(out, txs, (18, 0, 65));
+        put_input(out, txs, spent);
+    } else {
+        out.put(&[1]);
+        put_input(out, txs, spent);
     }
-    Ok(Inputs::of(inputs))
 }
 
-/// A transaction, by the ids of those before it.
-fn tx_of(alloc: Global, txs: &[TxId], number: u8) -> Result<Tx, Fail> {
-    let inputs = inputs_of(alloc, txs, number)?;
-    let outputs = outputs_of(alloc, number)?;
-    Ok(Tx::new(alloc, inputs, outputs)?)
+/// The bytes of a transaction, by the ids of those before it.
+fn put_tx(out: &mut Text, txs: &[u8], number: u8) {
+    if number == 0 {
+        put_grants(out);
+    } else {
+        let payment = payment_of(number);
+        let spent = (payment.from, payment.place, payment.word);
+        put_inputs(out, txs, number, spent);
+        out.put(&[1]);
+        put_output(out, payment.amount, payment.owner);
+    }
 }
 
-fn tx_id_of(alloc: Global, txs: &[TxId], number: u8) -> Result<TxId, Fail> {
-    let tx = tx_of(alloc, txs, number)?;
-    Ok(sp_tx::id(alloc, &tx)?)
+fn tx_id_of(alloc: Global, txs: &[u8], number: u8) -> TxId {
+    let mut tx = Text::new(alloc);
+    put_tx(&mut tx, txs, number);
+    TxId::of(tx.so_far())
 }
 
-/// The ids of all transactions.
-pub fn tx_ids(alloc: Global) -> Result<Vec<TxId>, Fail> {
-    let mut txs = Vec::new(alloc);
+/// The ids of all transactions, one behind another.
+pub fn tx_ids(alloc: Global) -> Text {
+    let mut txs = Text::new(alloc);
     for number in 0..TXS {
-        let id = tx_id_of(alloc, &txs, number)?;
-        txs.push(id)?;
+        let id = tx_id_of(alloc, txs.so_far(), number);
+        txs.put(id.as_bytes());
     }
-    Ok(txs)
+    txs
 }
 
 fn carries(block: u8, number: u8) -> bool {
@@ -171,13 +157,22 @@ fn carries(block: u8, number: u8) -> bool {
     first == block || second == block
 }
 
-/// The transactions that a block carries.
-pub fn txs_of(alloc: Global, txs: &[TxId], block: u8) -> Result<Txs, Fail> {
-    let mut carried = Vec::new(alloc);
+fn count_of(block: u8) -> u8 {
+    let mut count = 0u8;
     for number in 0..TXS {
         if carries(block, number) {
-            carried.push(tx_of(alloc, txs, number)?)?;
+            count = count.saturating_add(1);
         }
     }
-    Ok(Txs::of(carried))
+    count
+}
+
+/// How many transactions a block carries, and these.
+pub fn put_txs(out: &mut Text, txs: &[u8], block: u8) {
+    out.put(&[count_of(block), 0]);
+    for number in 0..TXS {
+        if carries(block, number) {
+            put_tx(out, txs, number);
+        }
+    }
 }
