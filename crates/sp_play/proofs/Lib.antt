@@ -14,3 +14,6 @@ pub mod Spellable
 pub mod Fitting
 pub mod Twins
 mod MadeBlocks
+pub mod TextBytes
+pub mod WordBytes
+pub mod SceneBytes

@@ -12,6 +12,7 @@ mod found;
 mod frames;
 mod judging;
 mod known;
+pub mod laws;
 mod limits;
 mod lookups;
 mod made;

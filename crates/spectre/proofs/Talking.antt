@@ -1,5 +1,6 @@
--- What the answers of each command rest on: feeds and journals of bytes bring bytes, and so their kept blocks agree.
-use Rattle.std.proofs.Common.{◌≡◌, ◌⊎◌, inl, inr, ⊎_elim, ℕ, List, [], ◌∷◌, ◌++◌, Option, Some, None, IfSome, Result, refl, sym, ap, subst, ◌∙◌, arith}
+-- What the answers of each command rest on: feeds and journals of bytes bring bytes, and so does each scenario, and so
+-- their kept blocks agree.
+use Rattle.std.proofs.Common.{◌≡◌, inl, inr, ⊎_elim, ℕ, List, [], ◌∷◌, ◌++◌, Option, Some, None, IfSome, Result, refl, sym, ap, subst, ◌∙◌, arith}
 use Rattle.std.specs.Prelude.{Contains}
 use Rattle.std.specs.List.{flat_map}
 use Rattle.std.specs.Int.{to_le_bytes, w32}
@@ -17,15 +18,18 @@ use Rattle.sp_journal.specs.Format.{name, set}
 use Rattle.sp_journal.specs.Journal.{Contents, front, record_text}
 use Rattle.sp_journal.specs.Records.{Damaged, Found, NoJournal, Records, records}
 use Rattle.sp_journal.proofs.RecordLaws.{front_found}
+use Rattle.sp_make.specs.Made.{made}
 use Rattle.sp_node.specs.Answers.{answers, arrivals_of, reply}
 use Rattle.sp_node.proofs.AnswerLists.{answers-append}
 use Rattle.sp_node.proofs.SameReplies.{order_is_no_matter as same_replies}
+use Rattle.sp_play.specs.Scene.{scene}
+use Rattle.sp_play.proofs.SceneBytes.{blocks_are_bytes as blocks_of_scene, genesis_is_bytes as genesis_of_scene}
 use Rattle.spectre.specs.Journals.{blocks_in, found_blocks}
 use Rattle.spectre.specs.Output.{OnDisk, OnInput}
 use Rattle.spectre.specs.Replay.{fed, feed_limit}
 use Rattle.spectre.specs.Rests.{arrived}
 use Rattle.spectre.specs.Scenes.{lines_by}
-use Rattle.spectre.specs.Talks.{arrived_by, BringsBytes, feed_talk, HasQuestion, IsAnsweredIn, IsOfBytes, JobAgrees, JobAnswersAlike, journal_talk, Talk, talk_by, TalksAnswerAlike}
+use Rattle.spectre.specs.Talks.{arrived_by, feed_talk, HasQuestion, IsAnsweredIn, IsOfBytes, JobAgrees, JobAnswersAlike, journal_talk, scene_talk, Talk, talk_by, TalksAnswerAlike}
 use Rattle.spectre.specs.declared.job.Job.{Job}
 use Rattle.spectre.specs.declared.job.Job.TheVariants as jobs
 use Rattle.spectre.proofs.TopCall.{in_all, on_all}
@@ -42,11 +46,15 @@ brings (SaysBalance lock) bytes there = absurd there
 brings SaysPairs bytes there = absurd there
 brings SaysReport bytes there = absurd there
 
+-- so they are said by some message
+said_in : (messages : List Said) (bytes : List ℕ) → IsIn (arrived messages) bytes → Contains messages (SaysBlock bytes)
+said_in messages bytes there =
+    let m : (m : Said) × IsIn messages m × IsIn (arrivals_of m) bytes = in_flat_map arrivals_of messages bytes there in
+    contains_from_in messages (SaysBlock bytes) (subst (λ (x : Said). IsIn messages x) (brings m.0 bytes m.2) m.1)
+
 -- the blocks of the messages of a feed
 sent : (input : List ℕ) → IsBytes input → (bytes : List ℕ) → IsIn (arrived (fed input).messages) bytes → IsBytes bytes
-sent input all bytes there =
-    let m : (m : Said) × IsIn (fed input).messages m × IsIn (arrivals_of m) bytes = in_flat_map arrivals_of (fed input).messages bytes there in
-    payloads_are_bytes feed_limit input bytes all (contains_from_in (fed input).messages (SaysBlock bytes) (subst (λ (x : Said). IsIn (fed input).messages x) (brings m.0 bytes m.2) m.1))
+sent input all bytes there = payloads_are_bytes feed_limit input bytes all (said_in (fed input).messages bytes there)
 
 -- the parts of a journal
 
@@ -79,6 +87,11 @@ found_bytes disk all bytes there = by (records disk) refl there
 
 -- ---- what a talk brings
 
+-- its genesis block is bytes, and so is each of its blocks
+pub record BringsBytes (talk : Talk) : Type 0 where
+  pub genesis : IsBytes talk.genesis
+  pub blocks : (bytes : List ℕ) → Contains (arrived_by talk talk.messages) bytes → IsBytes bytes
+
 some_is : {a b : Talk} → Some a ≡ Some b → a ≡ b
 some_is e = cc e
 
@@ -107,15 +120,22 @@ journal_brings disk all (Found c) is talk says = subst BringsBytes (some_is says
   blocks = λ bytes there. ⊎_elim (λ old. blocks_bytes disk c all is bytes old) (λ new. absurd new) (in_append c.blocks [] bytes (in_from_contains (c.blocks ++ []) bytes there));
 })
 
-pub brings_bytes : (job : Option Job) (disk input : List ℕ) → IsBytes disk → (talk : Talk) → talk_by job disk input ≡ Some talk → IsOfBytes job input talk → BringsBytes talk
+-- a scenario's are bytes, whatever its text is
+scene_brings : (text : List ℕ) (talk : Talk) → (let o : Option Talk = scene_talk (scene text) in o) ≡ Some talk → BringsBytes talk
+scene_brings text talk says = subst BringsBytes (some_is says) (record {
+  genesis = genesis_of_scene text;
+  blocks = λ bytes there. blocks_of_scene text bytes (said_in (scene text).messages bytes (in_from_contains (arrived (scene text).messages) bytes there));
+})
+
+pub brings_bytes : (job : Option Job) (disk input : List ℕ) → IsBytes disk → (talk : Talk) → talk_by job disk input ≡ Some talk → IsOfBytes job input → BringsBytes talk
 brings_bytes None disk input all talk says of = none_is says
 brings_bytes (Some jobs.Replay) disk input all talk says of = feed_brings [] input of (λ bytes there. absurd there) (fed input).head refl talk says
 brings_bytes (Some (jobs.Keep path fresh)) disk input all talk says of = feed_brings (found_blocks disk) input of (found_bytes disk all) (fed input).head refl talk says
 brings_bytes (Some (jobs.Show path)) disk input all talk says of = journal_brings disk all (records disk) refl talk says
-brings_bytes (Some jobs.Play) disk input all talk says of = of
+brings_bytes (Some jobs.Play) disk input all talk says of = scene_brings input talk says
 brings_bytes (Some jobs.Build) disk input all talk says of = none_is says
 brings_bytes (Some (jobs.Make n seed width)) disk input all talk says of = none_is says
-brings_bytes (Some (jobs.Drill n seed width)) disk input all talk says of = of
+brings_bytes (Some (jobs.Drill n seed width)) disk input all talk says of = scene_brings (made n seed width) talk says
 
 -- by the end of the first messages fewer blocks have arrived
 pub fewer_arrived : (talk : Talk) (before after : List Said) → talk.messages ≡ before ++ after → BringsBytes talk → (bytes : List ℕ) → Contains (arrived_by talk before) bytes → IsBytes bytes

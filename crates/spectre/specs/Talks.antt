@@ -1,5 +1,5 @@
 -- The messages that each command answers, the kept blocks on which its answers rest, and what is true of both.
-use Rattle.std.specs.Prelude.{◌≡◌, ℕ, true, List, [], ◌∷◌, ◌++◌, Option, Some, None, Ok, Contains}
+use Rattle.std.specs.Prelude.{◌≡◌, ℕ, true, List, [], ◌∷◌, ◌++◌, Option, Some, None, Ok}
 use Rattle.sp_form.specs.Bytes.{IsBytes}
 use Rattle.sp_block.specs.Block.{ReadBlock}
 use Rattle.sp_engine.specs.AnyOrder.{AreSameArrivals}
@@ -59,31 +59,26 @@ talk_by (Some (jobs.Drill n seed width)) disk input = scene_talk (scene (made n 
 abbrev pub arrived_by : Talk → List Said → List (List ℕ)
 arrived_by talk before = talk.found ++ arrived before
 
--- What a talk brings are bytes: its genesis block, and each of its blocks
-pub record BringsBytes (talk : Talk) : Type 0 where
-  pub genesis : IsBytes talk.genesis
-  pub blocks : (bytes : List ℕ) → Contains (arrived_by talk talk.messages) bytes → IsBytes bytes
-
 -- Behind any of its first messages, it is true of the kept blocks that their accepted transactions agree
 abbrev pub TalkAgrees : Talk → Type 0
 TalkAgrees talk =
     (genesis : ReadBlock) → block_in true talk.genesis ≡ Ok genesis → (before after : List Said) → talk.messages ≡ before ++ after →
     Agrees genesis (kept_by_all talk.bits genesis (arrived_by talk before))
 
--- what is asked of the bytes of an input: of a feed that it is bytes, of a scenario that its blocks are
-abbrev pub IsOfBytes : Option Job → List ℕ → Talk → Type 0
-IsOfBytes None input talk = Unit {0}
-IsOfBytes (Some jobs.Replay) input talk = IsBytes input
-IsOfBytes (Some (jobs.Keep path fresh)) input talk = IsBytes input
-IsOfBytes (Some (jobs.Show path)) input talk = Unit {0}
-IsOfBytes (Some jobs.Play) input talk = BringsBytes talk
-IsOfBytes (Some jobs.Build) input talk = Unit {0}
-IsOfBytes (Some (jobs.Make n seed width)) input talk = Unit {0}
-IsOfBytes (Some (jobs.Drill n seed width)) input talk = BringsBytes talk
+-- what is asked of an input: of a feed that it is bytes, of a scenario nothing
+abbrev pub IsOfBytes : Option Job → List ℕ → Type 0
+IsOfBytes None input = Unit {0}
+IsOfBytes (Some jobs.Replay) input = IsBytes input
+IsOfBytes (Some (jobs.Keep path fresh)) input = IsBytes input
+IsOfBytes (Some (jobs.Show path)) input = Unit {0}
+IsOfBytes (Some jobs.Play) input = Unit {0}
+IsOfBytes (Some jobs.Build) input = Unit {0}
+IsOfBytes (Some (jobs.Make n seed width)) input = Unit {0}
+IsOfBytes (Some (jobs.Drill n seed width)) input = Unit {0}
 
 -- so it is with each command that answers anything
 abbrev pub JobAgrees : Option Job → List ℕ → List ℕ → Type 0
-JobAgrees job disk input = (talk : Talk) → talk_by job disk input ≡ Some talk → IsOfBytes job input talk → TalkAgrees talk
+JobAgrees job disk input = (talk : Talk) → talk_by job disk input ≡ Some talk → IsOfBytes job input → TalkAgrees talk
 
 -- a question stands behind these messages, over this genesis block
 pub record HasQuestion (talk : Talk) (genesis : ReadBlock) (before : List Said) (question : Said) : Type 0 where
