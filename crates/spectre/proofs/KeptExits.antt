@@ -31,18 +31,19 @@ use Rattle.spectre.specs.Chains.{EndAtHead, EndsAtHead, EndsByChain}
 use Rattle.spectre.specs.Codes.{code_of}
 use Rattle.spectre.specs.Crashes.{all_of, contents_by, EndsEarly, contents_of, contents_under, HoldsAcknowledged, HoldsAtLeast, HoldsFoundOrMore, HoldsOnward, IsSure, Recovers, Recovery}
 use Rattle.spectre.specs.Faults.{EndsMalformed, EndsTooLong, EndsTruncated, EndsWhole, feed_fault_text, status_of}
+use Rattle.spectre.specs.JobEnds.{JobEnds, WritesBy}
 use Rattle.spectre.specs.Journals.{Fits, FitsHead, found_blocks, HasOtherChain, kept_output, other_chain_text}
 use Rattle.spectre.specs.Keeping.{bytes_of, FitsStored, IsAmiss, IsUntried, KeepAnswers, NamesBothOf, UntriedBy}
-use Rattle.spectre.specs.Kept.{EndsBy, KeptEnds, OnBoth}
 use Rattle.spectre.specs.Replay.{but_last, fed, lines_under, replied, replied_but_last}
 use Rattle.spectre.specs.Replaying.{Replies, SaysReply}
 use Rattle.spectre.specs.Taken.{TakesFeed}
+use Rattle.spectre.specs.declared.job.Job.TheVariants as jobs
 use Rattle.spectre.specs.declared.keep.KeepFault.{KeepFault}
 use Rattle.spectre.specs.declared.keep.KeepFault.TheVariants.{DiskFault, Feed, Memory, OtherChain, WriteFault}
 use Rattle.spectre.specs.declared.replay.ReplayFault.TheVariants as replays
 use Rattle.spectre.specs.declared.status.Status.{Status}
 use Rattle.spectre.specs.declared.status.Status.TheVariants as status
-use Rattle.spectre.proofs.KeptRuns.{Accepts, answered_recovery, at_one, early_recovery, feed_taken, fits_here, fits_there, fitting, front_of_text, holds_all, looked_since, on_both, on_one, other_is, other_recovery, same_found, stopped_recovery, sure_synced, told_by, whole_text}
+use Rattle.spectre.proofs.KeptRuns.{Accepts, answered_recovery, at_one, early_recovery, feed_taken, fits_here, fits_there, fitting, front_of_text, holds_all, looked_since, on_both, on_one, OnBoth, other_is, other_recovery, same_found, stopped_recovery, sure_synced, told_by, whole_text}
 use Rattle.spectre.proofs.Keeping.{none_ends}
 use Rattle.spectre.proofs.Onward.{answered_stays, looked_stays}
 use Rattle.spectre.proofs.Replayed.{done_rest, done_text, Ends, fault_front, fault_written, is_malformed, is_too_long, is_truncated, limit_taken, memory_text, nothing_left, takes, takes_then, with_input, write_text}
@@ -91,6 +92,10 @@ appends_same old new e = subst (λ (o : Option (List ℕ)). Appends old o []) (s
 front_none : (left reads : Option (List ℕ)) (old new : Option (List ℕ)) (text : List ℕ → List ℕ → List ℕ) → new ≡ old → OnBoth left reads (λ disk input. AppendsFront old new (text disk input))
 front_none left reads old new text e = on_both left reads _ (λ disk input l r. subst (λ (o : Option (List ℕ)). AppendsFront old o (text disk input)) (sym e) (text disk input, wrote_none old (text disk input)))
 
+-- what was told of the disk, where it tells its bytes
+told_at : (fresh : Bool) (stored : Stored) {reads : Option (List ℕ)} {disk : List ℕ} → IfSome reads (λ disk. Tells fresh disk (Ok stored)) → reads ≡ Some disk → Tells fresh disk (Ok stored)
+told_at fresh stored tells r = at_one (λ (d : List ℕ). Tells fresh d (Ok stored)) r tells
+
 -- ---- the feed is of another chain
 
 -- the disk of another chain doesn't fit the feed
@@ -102,7 +107,7 @@ other_misfits fresh disk input h fits =
 pub fitting_chain : (fresh : Bool) (stored : Stored) (left reads after : Option (List ℕ)) (s : Status) → IfSome reads (λ disk. Tells fresh disk (Ok stored)) → IfSome left (λ input. FitsStored stored (fed input).head)
     → OnBoth left reads (λ disk input. HasOtherChain disk input → EndsAtHead left after s)
 fitting_chain fresh stored left reads after s tells fits = on_both left reads _ (λ disk input l r other.
-    absurd (other_misfits fresh disk input other (fits_there fresh disk stored input (at_one (λ (d : List ℕ). Tells fresh d (Ok stored)) r tells) (at_one (λ (i : List ℕ). FitsStored stored (fed i).head) l fits))))
+    absurd (other_misfits fresh disk input other (fits_there fresh disk stored input (told_at fresh stored tells r) (at_one (λ (i : List ℕ). FitsStored stored (fed i).head) l fits))))
 
 -- a feed without a head is of no chain
 headless_chain : (left reads after : Option (List ℕ)) (s : Status) → IfSome left (λ input. (fed input).head ≡ None) → OnBoth left reads (λ disk input. HasOtherChain disk input → EndsAtHead left after s)
@@ -114,52 +119,63 @@ pub untried_chain : (stored : Stored) {start now : Moment} {old new : Option (Li
     → OnBoth start.left reads (λ disk input. HasOtherChain disk input → EndsAtHead start.left now.left s)
 untried_chain stored {start = start} reads s u ends not_disk = on_both start.left reads _ (λ disk input l r other. (ends, record { given = u.given; consumed = u.took.consumed; needed = u.headed; opened = λ e. absurd (not_disk e) }))
 
-module _ (fresh : Bool) (stored : Stored) {start now : Moment} (old : Option (List ℕ)) (first last : DiskMoment) (law : IsMoment first) (last_law : IsMoment last) (tells : IfSome first.reads (λ disk. Tells fresh disk (Ok stored))) where
+module _ (path : List ℕ) (fresh : Bool) (stored : Stored) {start now : Moment} (old : Option (List ℕ)) (first last : DiskMoment) (law : IsMoment first) (last_law : IsMoment last)
+    (tells : IfSome first.reads (λ disk. Tells fresh disk (Ok stored))) where
   untried_takes : {new : Option (List ℕ)} {result : Result (Unit {0}) KeepFault} → IsUntried stored start now old new first last result → TakesFeed (bytes_of stored) start.left now.left old old
   untried_takes u = record { given = u.given; consumed = u.took.consumed; within = omega (arith, u.took.counted, u.took.within); needed = u.needed; answered = u.answered }
 
   -- the end was read
-  pub exit_done : {new : Option (List ℕ)} → KeepAnswers stored start now old new first last (Ok tt) → KeptEnds fresh first.reads start.left now.left old new first last status.Done
+  pub exit_done : {new : Option (List ℕ)} → KeepAnswers stored start now old new first last (Ok tt)
+      → JobEnds (Some (jobs.Keep path fresh)) first.reads start.left now.left old new first last status.Done
   exit_done (inl u) = absurd u.why
   exit_done {new = new} (inr t) = record {
     by = (
-      on_map start.left first.reads _ _ (λ disk input l r h. (h.0, (fits_there fresh disk stored input (at_one (λ (d : List ℕ). Tells fresh d (Ok stored)) r tells) (at_one (λ (i : List ℕ). FitsStored stored (fed i).head) l t.1.fits), h.1)))
+      on_map start.left first.reads _ _ (λ disk input l r h. (h.0, (fits_there fresh disk stored input (told_at fresh stored tells r) (at_one (λ (i : List ℕ). FitsStored stored (fed i).head) l t.1.fits), h.1)))
           (whole_text fresh stored start.left first.reads tells old new EndsWhole (fitting fresh stored start.left first.reads tells t.1.fits) (done_text t.0)),
       done_rest t.0,
     );
-    taken = feed_taken fresh stored start.left first.reads tells now.left old new (takes t.0);
+    taken = λ takes. absurd takes;
+    taken_fed = λ _. feed_taken fresh stored start.left first.reads tells now.left old new (takes t.0);
     onward = answered_stays fresh stored first last law tells {result = Ok tt} (inr t);
     chain = fitting_chain fresh stored start.left first.reads now.left status.Done tells t.1.fits;
-    recovery = on_both start.left first.reads _ (λ disk input l r. answered_recovery fresh disk input stored (at_one (λ (d : List ℕ). Tells fresh d (Ok stored)) r tells) new first last law r l t (t.1.whole (told_by first disk r)) status.Done);
+    crash = on_both start.left first.reads _ (λ disk input l r.
+        answered_recovery fresh disk input stored (told_at fresh stored tells r) new first last law r l t (t.1.whole (told_by first disk r)) status.Done);
   }
 
   -- the sink failed at an answer
-  pub exit_write : {new : Option (List ℕ)} → KeepAnswers stored start now old new first last (Err WriteFault) → KeptEnds fresh first.reads start.left now.left old new first last status.WriteFault
+  pub exit_write : {new : Option (List ℕ)} → KeepAnswers stored start now old new first last (Err WriteFault)
+      → JobEnds (Some (jobs.Keep path fresh)) first.reads start.left now.left old new first last status.WriteFault
   exit_write (inl u) = absurd u.why
   exit_write {new = new} (inr t) = record {
     by = front_of_text fresh stored start.left first.reads tells old new (fitting fresh stored start.left first.reads tells t.1.fits) (write_text t.0);
-    taken = feed_taken fresh stored start.left first.reads tells now.left old new (takes t.0);
+    taken = λ takes. absurd takes;
+    taken_fed = λ _. feed_taken fresh stored start.left first.reads tells now.left old new (takes t.0);
     onward = answered_stays fresh stored first last law tells {result = Err WriteFault} (inr t);
     chain = fitting_chain fresh stored start.left first.reads now.left status.WriteFault tells t.1.fits;
-    recovery = on_both start.left first.reads _ (λ disk input l r. stopped_recovery fresh disk input stored (at_one (λ (d : List ℕ). Tells fresh d (Ok stored)) r tells) first last law r l t status.WriteFault (λ e. cc));
+    crash = on_both start.left first.reads _ (λ disk input l r. stopped_recovery fresh disk input stored (told_at fresh stored tells r) first last law r l t status.WriteFault (λ e. cc));
   }
 
   -- memory was refused
-  pub exit_memory : {new : Option (List ℕ)} → KeepAnswers stored start now old new first last (Err Memory) → KeptEnds fresh first.reads start.left now.left old new first last status.Memory
+  pub exit_memory : {new : Option (List ℕ)} → KeepAnswers stored start now old new first last (Err Memory)
+      → JobEnds (Some (jobs.Keep path fresh)) first.reads start.left now.left old new first last status.Memory
   exit_memory {new = new} (inl u) = record {
     by = front_none start.left first.reads old new (kept_output fresh) u.silent;
-    taken = subst (λ (o : Option (List ℕ)). IfSome first.reads (λ disk. TakesFeed (found_blocks disk) start.left now.left old o)) (sym u.silent) (feed_taken fresh stored start.left first.reads tells now.left old old (untried_takes u));
+    taken = λ takes. absurd takes;
+    taken_fed = λ _. subst (λ (o : Option (List ℕ)). IfSome first.reads (λ disk. TakesFeed (found_blocks disk) start.left now.left old o)) (sym u.silent)
+        (feed_taken fresh stored start.left first.reads tells now.left old old (untried_takes u));
     onward = answered_stays fresh stored first last law tells {result = Err Memory} (inl u);
     chain = untried_chain stored first.reads status.Memory u tt (λ e. cc);
-    recovery = on_both start.left first.reads _ (λ disk input l r.
-        early_recovery fresh disk input now.left old new first last status.Memory law last_law r u.given (subst (λ (o : Option (List ℕ)). Consumes o now.left u.given) l u.took.consumed) u.why (appends_same old new u.silent) tt u.headed (λ e. cc));
+    crash = on_both start.left first.reads _ (λ disk input l r.
+        early_recovery fresh disk input now.left old new first last status.Memory law last_law r u.given (subst (λ (o : Option (List ℕ)). Consumes o now.left u.given) l u.took.consumed)
+        u.why (appends_same old new u.silent) tt u.headed (λ e. cc));
   }
   exit_memory {new = new} (inr t) = record {
     by = front_of_text fresh stored start.left first.reads tells old new (fitting fresh stored start.left first.reads tells t.1.fits) (memory_text t.0);
-    taken = feed_taken fresh stored start.left first.reads tells now.left old new (takes t.0);
+    taken = λ takes. absurd takes;
+    taken_fed = λ _. feed_taken fresh stored start.left first.reads tells now.left old new (takes t.0);
     onward = answered_stays fresh stored first last law tells {result = Err Memory} (inr t);
     chain = fitting_chain fresh stored start.left first.reads now.left status.Memory tells t.1.fits;
-    recovery = on_both start.left first.reads _ (λ disk input l r. stopped_recovery fresh disk input stored (at_one (λ (d : List ℕ). Tells fresh d (Ok stored)) r tells) first last law r l t status.Memory (λ e. cc));
+    crash = on_both start.left first.reads _ (λ disk input l r. stopped_recovery fresh disk input stored (told_at fresh stored tells r) first last law r l t status.Memory (λ e. cc));
   }
 
 -- ---- the disk failed
@@ -207,30 +223,40 @@ module _ (fresh : Bool) (first last : DiskMoment) (law : IsMoment first) (last_l
         other = λ misfit. absurd (misfit (fits_there fresh disk (Empty gate) input t fits));
       }
 
-exit_amiss : (fresh : Bool) (gate : Gate) {start now : Moment} (old : Option (List ℕ)) (first last : DiskMoment) → IsMoment first → IsMoment last → IfSome first.reads (λ disk. Tells fresh disk (Ok (Empty gate))) → {new : Option (List ℕ)}
-    → IsUntried (Empty gate) start now old new first last (Err DiskFault) → KeptEnds fresh first.reads start.left now.left old new first last status.DiskFault
-exit_amiss fresh gate {start = start} {now = now} old first last law last_law tells {new = new} u = record {
-  by = same_found fresh (Empty gate) start.left first.reads tells (λ (l : List (List ℕ)). (given : List ℕ) × Consumes start.left now.left given × Appends old new (replied_but_last l given))
-      (u.given, u.took.consumed, subst (λ (x : List ℕ). Appends old new x) (sym (amiss_silent fresh first last law last_law old u.given u.headed u.why)) (appends_same old new u.silent));
-  taken = subst (λ (o : Option (List ℕ)). IfSome first.reads (λ disk. TakesFeed (found_blocks disk) start.left now.left old o)) (sym u.silent) (feed_taken fresh (Empty gate) start.left first.reads tells now.left old old (untried_takes fresh (Empty gate) old first last law last_law tells u));
+exit_amiss : (path : List ℕ) (fresh : Bool) (gate : Gate) {start now : Moment} (old : Option (List ℕ)) (first last : DiskMoment) → IsMoment first → IsMoment last
+    → IfSome first.reads (λ disk. Tells fresh disk (Ok (Empty gate))) → {new : Option (List ℕ)} → IsUntried (Empty gate) start now old new first last (Err DiskFault)
+    → JobEnds (Some (jobs.Keep path fresh)) first.reads start.left now.left old new first last status.DiskFault
+exit_amiss path fresh gate {start = start} {now = now} old first last law last_law tells {new = new} u = record {
+  by = λ _. same_found fresh (Empty gate) start.left first.reads tells (λ (l : List (List ℕ)). (given : List ℕ) × Consumes start.left now.left given × Appends old new (replied_but_last l given)) (
+    u.given,
+    u.took.consumed,
+    subst (λ (x : List ℕ). Appends old new x) (sym (amiss_silent fresh first last law last_law old u.given u.headed u.why)) (appends_same old new u.silent),
+  );
+  taken = λ takes. absurd takes;
+  taken_fed = λ _. subst (λ (o : Option (List ℕ)). IfSome first.reads (λ disk. TakesFeed (found_blocks disk) start.left now.left old o)) (sym u.silent)
+      (feed_taken fresh (Empty gate) start.left first.reads tells now.left old old (untried_takes path fresh (Empty gate) old first last law last_law tells u));
   onward = answered_stays fresh (Empty gate) first last law tells {result = Err DiskFault} (inl u);
-  chain = on_both start.left first.reads _ (λ disk input l r other. (
-      let no : NoJournal ≡ found other.contents = sym (at_one (λ (d : List ℕ). Tells fresh d (Ok (Empty gate))) r tells).0.none ∙ other.found in absurd cc));
-  recovery = on_both start.left first.reads _ (λ disk input l r.
-      amiss_recovery fresh first last law last_law old u.given u.headed u.why gate disk input now.left new r (at_one (λ (d : List ℕ). Tells fresh d (Ok (Empty gate))) r tells) (subst (λ (o : Option (List ℕ)). Consumes o now.left u.given) l u.took.consumed) u.silent);
+  chain = on_both start.left first.reads _ (λ disk input l r other. (let no : NoJournal ≡ found other.contents = sym (told_at fresh (Empty gate) tells r).0.none ∙ other.found in absurd cc));
+  crash = on_both start.left first.reads _ (λ disk input l r.
+      amiss_recovery fresh first last law last_law old u.given u.headed u.why gate disk input now.left new r (told_at fresh (Empty gate) tells r)
+      (subst (λ (o : Option (List ℕ)). Consumes o now.left u.given) l u.took.consumed) u.silent);
 }
 
-pub exit_disk : (fresh : Bool) (stored : Stored) {start now : Moment} (old : Option (List ℕ)) (first last : DiskMoment) → IsMoment first → IsMoment last → IfSome first.reads (λ disk. Tells fresh disk (Ok stored)) → {new : Option (List ℕ)}
-    → KeepAnswers stored start now old new first last (Err DiskFault) → KeptEnds fresh first.reads start.left now.left old new first last status.DiskFault
-exit_disk fresh stored {start = start} {now = now} old first last law last_law tells {new = new} (inr t) = record {
-  by = same_found fresh stored start.left first.reads tells (λ (l : List (List ℕ)). (given : List ℕ) × Consumes start.left now.left given × Appends old new (replied_but_last l given)) (t.0.given, t.0.took.consumed, t.0.says.0);
-  taken = feed_taken fresh stored start.left first.reads tells now.left old new (takes t.0);
+pub exit_disk : (path : List ℕ) (fresh : Bool) (stored : Stored) {start now : Moment} (old : Option (List ℕ)) (first last : DiskMoment) → IsMoment first → IsMoment last
+    → IfSome first.reads (λ disk. Tells fresh disk (Ok stored)) → {new : Option (List ℕ)} → KeepAnswers stored start now old new first last (Err DiskFault)
+    → JobEnds (Some (jobs.Keep path fresh)) first.reads start.left now.left old new first last status.DiskFault
+exit_disk path fresh stored {start = start} {now = now} old first last law last_law tells {new = new} (inr t) = record {
+  by = λ _. same_found fresh stored start.left first.reads tells (λ (l : List (List ℕ)). (given : List ℕ) × Consumes start.left now.left given × Appends old new (replied_but_last l given))
+      (t.0.given, t.0.took.consumed, t.0.says.0);
+  taken = λ takes. absurd takes;
+  taken_fed = λ _. feed_taken fresh stored start.left first.reads tells now.left old new (takes t.0);
   onward = answered_stays fresh stored first last law tells {result = Err DiskFault} (inr t);
   chain = fitting_chain fresh stored start.left first.reads now.left status.DiskFault tells t.1.fits;
-  recovery = on_both start.left first.reads _ (λ disk input l r. stopped_recovery fresh disk input stored (at_one (λ (d : List ℕ). Tells fresh d (Ok stored)) r tells) first last law r l t status.DiskFault (λ e. cc));
+  crash = on_both start.left first.reads _ (λ disk input l r.
+      stopped_recovery fresh disk input stored (told_at fresh stored tells r) first last law r l t status.DiskFault (λ e. cc));
 }
-exit_disk fresh (Empty gate) old first last law last_law tells (inl u) = exit_amiss fresh gate old first last law last_law tells u
-exit_disk fresh (Found o) old first last law last_law tells (inl u) = absurd u.why
+exit_disk path fresh (Empty gate) old first last law last_law tells (inl u) = exit_amiss path fresh gate old first last law last_law tells u
+exit_disk path fresh (Found o) old first last law last_law tells (inl u) = absurd u.why
 
 -- ---- the feed is at fault, or its source
 
@@ -310,36 +336,46 @@ feed_status P faults.ReadFault malformed truncated read long = read
 feed_status P (faults.TooLong taken) malformed truncated read long = long
 
 -- by the fault
-by_fault : (fresh : Bool) (stored : Stored) {start now : Moment} (old : Option (List ℕ)) (first last : DiskMoment) → IsMoment first → IsMoment last → (tells : IfSome first.reads (λ disk. Tells fresh disk (Ok stored)))
-    → {mid : Option (List ℕ)} (new : Option (List ℕ)) (e : FeedFault) → KeepAnswers stored start now old mid first last (Err (Feed e)) → Appends mid new (feed_fault_text e) → AppendsFront mid new (feed_fault_text e) → EndsBy fresh first.reads start.left now.left old new (status_of e)
-by_fault fresh stored old first last law last_law tells new (faults.Malformed at) a b front =
-    written fresh stored old first last law last_law tells new (faults.Malformed at) a status.Malformed (λ h. refl) (λ h. b) front (λ h. cc) (λ h. cc) b EndsMalformed (is_malformed_end at)
+by_fault : (path : List ℕ) (fresh : Bool) (stored : Stored) {start now : Moment} (old : Option (List ℕ)) (first last : DiskMoment) → IsMoment first → IsMoment last
+    → IfSome first.reads (λ disk. Tells fresh disk (Ok stored)) → {mid : Option (List ℕ)} (new : Option (List ℕ)) (e : FeedFault) → KeepAnswers stored start now old mid first last (Err (Feed e))
+    → Appends mid new (feed_fault_text e) → AppendsFront mid new (feed_fault_text e) → WritesBy (Some (jobs.Keep path fresh)) first.reads start.left now.left old new (status_of e)
+by_fault path fresh stored old first last law last_law tells new (faults.Malformed at) a b front = (
+  written fresh stored old first last law last_law tells new (faults.Malformed at) a status.Malformed (λ h. refl) (λ h. b) front (λ h. cc) (λ h. cc) b EndsMalformed (is_malformed_end at),
+  λ takes. absurd takes,
+)
   where
     is_malformed_end : (at : ℕ) (end : End) → Ends (faults.Malformed at) end → EndsMalformed end
     is_malformed_end at end h = is_malformed (faults.Malformed at) end refl h
-by_fault fresh stored {start = start} {now = now} old first last law last_law tells new (faults.Truncated at) a b front = (
-  written fresh stored old first last law last_law tells new (faults.Truncated at) a status.Truncated (λ h. refl) (λ h. b) front (λ h. cc) (λ h. cc) b EndsTruncated (λ end h. is_truncated (faults.Truncated at) end refl h),
+by_fault path fresh stored {start = start} {now = now} old first last law last_law tells new (faults.Truncated at) a b front = (
+  written fresh stored old first last law last_law tells new (faults.Truncated at) a status.Truncated (λ h. refl) (λ h. b) front (λ h. cc) (λ h. cc) b EndsTruncated
+      (λ end h. is_truncated (faults.Truncated at) end refl h),
   nothing_left (faults.Truncated at) (feed_replies stored (faults.Truncated at) a) refl,
 )
-by_fault fresh stored {start = start} {now = now} old first last law last_law tells {mid = mid} new faults.ReadFault a b front =
+by_fault path fresh stored {start = start} {now = now} old first last law last_law tells {mid = mid} new faults.ReadFault a b front = λ _.
     let r = feed_replies stored faults.ReadFault a in
-    same_found fresh stored start.left first.reads tells (λ (l : List (List ℕ)). (given : List ℕ) × Consumes start.left now.left given × Appends old new (replied l given))
-    (r.given, r.took.consumed, subst (λ (x : List ℕ). Appends old new x) (append-nil (replied (bytes_of stored) r.given)) (appends_then old mid new (replied (bytes_of stored) r.given) [] r.says.0 b))
-by_fault fresh stored {start = start} {now = now} old first last law last_law tells new (faults.TooLong taken) a b front = (
-  written fresh stored old first last law last_law tells new (faults.TooLong taken) a status.TooLong (λ h. refl) (λ h. b) front (λ h. cc) (λ h. cc) b EndsTooLong (λ end h. is_too_long (faults.TooLong taken) end refl h),
+    same_found fresh stored start.left first.reads tells (λ (l : List (List ℕ)). (given : List ℕ) × Consumes start.left now.left given × Appends old new (replied l given)) (
+      r.given,
+      r.took.consumed,
+      subst (λ (x : List ℕ). Appends old new x) (append-nil (replied (bytes_of stored) r.given)) (appends_then old mid new (replied (bytes_of stored) r.given) [] r.says.0 b),
+    )
+by_fault path fresh stored {start = start} {now = now} old first last law last_law tells new (faults.TooLong taken) a b front = (
+  written fresh stored old first last law last_law tells new (faults.TooLong taken) a status.TooLong (λ h. refl) (λ h. b) front (λ h. cc) (λ h. cc) b EndsTooLong
+      (λ end h. is_too_long (faults.TooLong taken) end refl h),
   limit_taken (faults.TooLong taken) (feed_replies stored (faults.TooLong taken) a) refl,
 )
 
-pub exit_feed : (fresh : Bool) (stored : Stored) {start now : Moment} (old : Option (List ℕ)) (first last : DiskMoment) → IsMoment first → IsMoment last → (tells : IfSome first.reads (λ disk. Tells fresh disk (Ok stored)))
-    → {mid : Option (List ℕ)} (new : Option (List ℕ)) (e : FeedFault) → KeepAnswers stored start now old mid first last (Err (Feed e)) → (result : Status)
-    → (result ≢ status.WriteFault → result ≡ status_of e) → (result ≢ status.WriteFault → Appends mid new (feed_fault_text e)) → AppendsFront mid new (feed_fault_text e) → (e ≡ faults.ReadFault → result ≡ status.ReadFault)
-    → KeptEnds fresh first.reads start.left now.left old new first last result
-exit_feed fresh stored {start = start} {now = now} old first last law last_law tells {mid = mid} new e a result same text front read = record {
+pub exit_feed : (path : List ℕ) (fresh : Bool) (stored : Stored) {start now : Moment} (old : Option (List ℕ)) (first last : DiskMoment) → IsMoment first → IsMoment last
+    → IfSome first.reads (λ disk. Tells fresh disk (Ok stored)) → {mid : Option (List ℕ)} (new : Option (List ℕ)) (e : FeedFault) → KeepAnswers stored start now old mid first last (Err (Feed e))
+    → (result : Status) → (result ≢ status.WriteFault → result ≡ status_of e) → (result ≢ status.WriteFault → Appends mid new (feed_fault_text e)) → AppendsFront mid new (feed_fault_text e)
+    → (e ≡ faults.ReadFault → result ≡ status.ReadFault) → JobEnds (Some (jobs.Keep path fresh)) first.reads start.left now.left old new first last result
+exit_feed path fresh stored {start = start} {now = now} old first last law last_law tells {mid = mid} new e a result same text front read = record {
   by = elim (is_write result) [
-    | inl is ↦ subst (EndsBy fresh first.reads start.left now.left old new) (sym is) (cut fresh stored old first last law last_law tells new e a result same text front read is)
-    | inr no_write ↦ subst (EndsBy fresh first.reads start.left now.left old new) (sym (same no_write)) (by_fault fresh stored old first last law last_law tells new e a (text no_write) front)
+    | inl is ↦ subst (WritesBy (Some (jobs.Keep path fresh)) first.reads start.left now.left old new) (sym is) (cut fresh stored old first last law last_law tells new e a result same text front read is)
+    | inr no_write ↦ subst (WritesBy (Some (jobs.Keep path fresh)) first.reads start.left now.left old new) (sym (same no_write))
+        (by_fault path fresh stored old first last law last_law tells new e a (text no_write) front)
   ];
-  taken = feed_taken_now fresh stored old first last law last_law tells new e a result same text front read;
+  taken = λ takes. absurd takes;
+  taken_fed = λ _. feed_taken_now fresh stored old first last law last_law tells new e a result same text front read;
   onward = answered_stays fresh stored first last law tells a;
   chain = elim a [
     | inr t ↦ fitting_chain fresh stored start.left first.reads now.left result tells t.1.fits
@@ -348,20 +384,29 @@ exit_feed fresh stored {start = start} {now = now} old first last law last_law t
       | inr other ↦ headless_chain start.left first.reads now.left result (headless stored start now u.given first last e other u.took.consumed u.why)
     ]
   ];
-  recovery = on_both start.left first.reads _ (λ disk input l x.
-      let t = at_one (λ (d : List ℕ). Tells fresh d (Ok stored)) x tells in
+  crash = on_both start.left first.reads _ (λ disk input l x.
+      let t = told_at fresh stored tells x in
       elim a [
         | inr tried ↦ answered_recovery fresh disk input stored t new first last law x l tried (tried.1.whole (told_by first disk x)) result
         | inl u ↦ elim (is_read e) [
-          | inl is ↦ (let silent : Appends old new [] = (let b = subst (λ (f : FeedFault). Appends mid new (feed_fault_text f)) is (text (λ h. let no : status.WriteFault ≡ status.ReadFault = sym h ∙ read is in cc)) in subst (λ (o : Option (List ℕ)). Appends o new []) u.silent b) in
-              subst (Recovery fresh disk input now.left old new first last) (sym (read is))
-              (early_recovery fresh disk input now.left old new first last status.ReadFault law last_law x u.given (subst (λ (o : Option (List ℕ)). Consumes o now.left u.given) l u.took.consumed) (looked stored start now u.given first last e u.why) silent tt u.headed (λ f. unheaded stored start now u.given first last e is u.why)))
-          | inr other ↦ other_recovery fresh disk input now.left old new first last result law last_law x u.given (subst (λ (o : Option (List ℕ)). Consumes o now.left u.given) l u.took.consumed) (looked stored start now u.given first last e u.why)
+          | inl is ↦ subst (Recovery fresh disk input now.left old new first last) (sym (read is))
+              (early_recovery fresh disk input now.left old new first last status.ReadFault law last_law x u.given (consumed_of u l) (looked stored start now u.given first last e u.why) (silent u is) tt u.headed
+              (λ f. unheaded stored start now u.given first last e is u.why))
+          | inr other ↦ other_recovery fresh disk input now.left old new first last result law last_law x u.given (consumed_of u l) (looked stored start now u.given first last e u.why)
               (λ fits. let none = at_one (λ (i : List ℕ). (fed i).head ≡ None) l (headless stored start now u.given first last e other u.took.consumed u.why) in
               let no : FitsStored stored None = subst (FitsStored stored) none (fits_here fresh disk stored input t fits) in absurd no)
         ]
       ]);
 }
+  where
+    consumed_of : (u : IsUntried stored start now old mid first last (Err (Feed e))) {input : List ℕ} → start.left ≡ Some input → Consumes (Some input) now.left u.given
+    consumed_of u l = subst (λ (o : Option (List ℕ)). Consumes o now.left u.given) l u.took.consumed
+
+    -- of a failed read no line is written
+    silent : IsUntried stored start now old mid first last (Err (Feed e)) → e ≡ faults.ReadFault → Appends old new []
+    silent u is =
+        let b = subst (λ (f : FeedFault). Appends mid new (feed_fault_text f)) is (text (λ h. let no : status.WriteFault ≡ status.ReadFault = sym h ∙ read is in cc)) in
+        subst (λ (o : Option (List ℕ)). Appends o new []) u.silent b
 
 -- ---- the journal is that of another chain
 
@@ -369,30 +414,38 @@ exit_feed fresh stored {start = start} {now = now} old first last law last_law t
 other_parts : {a1 a2 b1 b2 c1 c2 d1 d2 : ℕ} → OtherChain a2 b2 c2 d2 ≡ OtherChain a1 b1 c1 d1 → (a2 ≡ a1) × (b2 ≡ b1) × (c2 ≡ c1) × (d2 ≡ d1)
 other_parts e = (cc e, cc e, cc e, cc e)
 
-pub exit_other : (fresh : Bool) (stored : Stored) {start now : Moment} (old : Option (List ℕ)) (first last : DiskMoment) → IsMoment first → IsMoment last → (tells : IfSome first.reads (λ disk. Tells fresh disk (Ok stored)))
-    → {mid : Option (List ℕ)} (new : Option (List ℕ)) (b c d e : ℕ) → KeepAnswers stored start now old mid first last (Err (OtherChain b c d e)) → (result : Status)
-    → (result ≢ status.WriteFault → result ≡ status.OtherChain) → (result ≢ status.WriteFault → Appends mid new (other_chain_text b c d e)) → AppendsFront mid new (other_chain_text b c d e)
-    → KeptEnds fresh first.reads start.left now.left old new first last result
-exit_other fresh stored old first last law last_law tells new b c d e (inr t) result same text front = absurd t
-exit_other fresh stored {start = start} {now = now} old first last law last_law tells {mid = mid} new b c d e (inl u) result same text front = record {
+pub exit_other : (path : List ℕ) (fresh : Bool) (stored : Stored) {start now : Moment} (old : Option (List ℕ)) (first last : DiskMoment) → IsMoment first → IsMoment last
+    → (tells : IfSome first.reads (λ disk. Tells fresh disk (Ok stored))) → {mid : Option (List ℕ)} (new : Option (List ℕ)) (b c d e : ℕ)
+    → KeepAnswers stored start now old mid first last (Err (OtherChain b c d e)) → (result : Status) → (result ≢ status.WriteFault → result ≡ status.OtherChain)
+    → (result ≢ status.WriteFault → Appends mid new (other_chain_text b c d e)) → AppendsFront mid new (other_chain_text b c d e)
+    → JobEnds (Some (jobs.Keep path fresh)) first.reads start.left now.left old new first last result
+exit_other path fresh stored old first last law last_law tells new b c d e (inr t) result same text front = absurd t
+exit_other path fresh stored {start = start} {now = now} old first last law last_law tells {mid = mid} new b c d e (inl u) result same text front = record {
   by = elim (is_write result) [
-    | inl is ↦ subst (EndsBy fresh first.reads start.left now.left old new) (sym is) (on_both start.left first.reads _ (λ disk input l x.
+    | inl is ↦ subst (WritesBy (Some (jobs.Keep path fresh)) first.reads start.left now.left old new) (sym is) (on_both start.left first.reads _ (λ disk input l x.
         subst (λ (o : List ℕ). AppendsFront old new o) (sym (is_text disk input l x).0) (subst (λ (o : Option (List ℕ)). AppendsFront o new (other_chain_text b c d e)) u.silent front)))
-    | inr no_write ↦ subst (EndsBy fresh first.reads start.left now.left old new) (sym (same no_write)) (on_both start.left first.reads _ (λ disk input l x.
-        (subst (λ (o : List ℕ). Appends old new o) (sym (is_text disk input l x).0) (subst (λ (o : Option (List ℕ)). Appends o new (other_chain_text b c d e)) u.silent (text no_write)), (is_text disk input l x).1)))
+    | inr no_write ↦ subst (WritesBy (Some (jobs.Keep path fresh)) first.reads start.left now.left old new) (sym (same no_write)) (on_both start.left first.reads _ (λ disk input l x. (
+      subst (λ (o : List ℕ). Appends old new o) (sym (is_text disk input l x).0) (subst (λ (o : Option (List ℕ)). Appends o new (other_chain_text b c d e)) u.silent (text no_write)),
+      (is_text disk input l x).1,
+    )))
   ];
-  taken = feed_taken fresh stored start.left first.reads tells now.left old new (takes_then (bytes_of stored) start.left now.left old mid new (other_chain_text b c d e)
-      (subst (λ (o : Option (List ℕ)). TakesFeed (bytes_of stored) start.left now.left old o) (sym u.silent) (untried_takes fresh stored old first last law last_law tells u)) front);
+  taken = λ takes. absurd takes;
+  taken_fed = λ _. feed_taken fresh stored start.left first.reads tells now.left old new (takes_then (bytes_of stored) start.left now.left old mid new (other_chain_text b c d e)
+      (subst (λ (o : Option (List ℕ)). TakesFeed (bytes_of stored) start.left now.left old o) (sym u.silent) (untried_takes path fresh stored old first last law last_law tells u)) front);
   onward = answered_stays fresh stored first last law tells {result = Err (OtherChain b c d e)} (inl u);
-  chain = untried_chain stored first.reads result u (line_ends EndsByChain result status.OtherChain same tt tt) (line_ends (λ s. s ≡ status.DiskFault → ⊥) result status.OtherChain same (λ e. cc) (λ e. cc));
-  recovery = on_both start.left first.reads _ (λ disk input l x. other_recovery fresh disk input now.left old new first last result law last_law x u.given (subst (λ (o : Option (List ℕ)). Consumes o now.left u.given) l u.took.consumed) u.why.1
-      (λ fits. u.why.0.other (subst (FitsStored stored) (head_is disk input l) (fits_here fresh disk stored input (at_one (λ (y : List ℕ). Tells fresh y (Ok stored)) x tells) fits))));
+  chain = untried_chain stored first.reads result u (line_ends EndsByChain result status.OtherChain same tt tt)
+      (line_ends (λ s. s ≡ status.DiskFault → ⊥) result status.OtherChain same (λ e. cc) (λ e. cc));
+  crash = on_both start.left first.reads _ (λ disk input l x.
+      other_recovery fresh disk input now.left old new first last result law last_law x u.given (subst (λ (o : Option (List ℕ)). Consumes o now.left u.given) l u.took.consumed) u.why.1
+      (λ fits. u.why.0.other (subst (FitsStored stored) (head_is disk input l) (fits_here fresh disk stored input (told_at fresh stored tells x) fits))));
 }
   where
     head_is : (disk input : List ℕ) → start.left ≡ Some input → (fed input).head ≡ Some u.why.0.head
-    head_is disk input l = at_one (λ (i : List ℕ). (fed i).head ≡ Some u.why.0.head) l (with_input (λ i. (fed i).head ≡ Some u.why.0.head) start.left now.left u.given u.took.consumed (λ rest x. u.why.0.whole rest))
+    head_is disk input l = at_one (λ (i : List ℕ). (fed i).head ≡ Some u.why.0.head) l
+        (with_input (λ i. (fed i).head ≡ Some u.why.0.head) start.left now.left u.given u.took.consumed (λ rest x. u.why.0.whole rest))
 
-    named : (s : Stored) (disk input : List ℕ) (h : Head) → Tells fresh disk (Ok s) → (fed input).head ≡ Some h → (FitsStored s (Some h) → ⊥) → NamesBothOf s h (OtherChain b c d e) → (kept_output fresh disk input ≡ other_chain_text b c d e) × HasOtherChain disk input
+    named : (s : Stored) (disk input : List ℕ) (h : Head) → Tells fresh disk (Ok s) → (fed input).head ≡ Some h → (FitsStored s (Some h) → ⊥) → NamesBothOf s h (OtherChain b c d e)
+        → (kept_output fresh disk input ≡ other_chain_text b c d e) × HasOtherChain disk input
     named (Empty gate) disk input h t is other names = absurd names
     named (Found o) disk input h t is other names = (
       other_is fresh disk o input h t is other ∙ same_text names,
@@ -403,7 +456,7 @@ exit_other fresh stored {start = start} {now = now} old first last law last_law 
         same_text eq = let p = other_parts eq in (λ i. other_chain_text (sym p.0 i) (sym p.1 i) (sym p.2 i) (sym p.3 i))
 
     is_text : (disk input : List ℕ) → start.left ≡ Some input → first.reads ≡ Some disk → (kept_output fresh disk input ≡ other_chain_text b c d e) × HasOtherChain disk input
-    is_text disk input l x = named stored disk input u.why.0.head (at_one (λ (y : List ℕ). Tells fresh y (Ok stored)) x tells) (head_is disk input l) u.why.0.other u.why.0.names
+    is_text disk input l x = named stored disk input u.why.0.head (told_at fresh stored tells x) (head_is disk input l) u.why.0.other u.why.0.names
 
 -- ---- the opening of the disk comes first
 
@@ -427,15 +480,18 @@ recovery_on fresh disk input after old new first mid last s law reads looks r = 
   other = λ misfit. looks_then first mid last law looks (r.other misfit);
 }
 
-pub ends_on : (fresh : Bool) (before after old new : Option (List ℕ)) (first mid last : DiskMoment) (s : Status) → IsMoment first → Looks first mid → KeptEnds fresh mid.reads before after old new mid last s → KeptEnds fresh first.reads before after old new first last s
-ends_on fresh before after old new first mid last s law looks k = record {
-  by = subst (λ (o : Option (List ℕ)). EndsBy fresh o before after old new s) looks.reads k.by;
-  taken = subst (λ (o : Option (List ℕ)). IfSome o (λ disk. TakesFeed (found_blocks disk) before after old new)) looks.reads k.taken;
-  onward = on_one first.reads _ (λ disk r synced. joined first mid last (λ image. records image ≡ records disk) (HoldsOnward (records disk)) (HoldsOnward (records disk)) (looked_since first mid law disk r looks synced)
+pub ends_on : (path : List ℕ) (fresh : Bool) (before after old new : Option (List ℕ)) (first mid last : DiskMoment) (s : Status) → IsMoment first → Looks first mid
+    → JobEnds (Some (jobs.Keep path fresh)) mid.reads before after old new mid last s → JobEnds (Some (jobs.Keep path fresh)) first.reads before after old new first last s
+ends_on path fresh before after old new first mid last s law looks k = record {
+  by = subst (λ (o : Option (List ℕ)). WritesBy (Some (jobs.Keep path fresh)) o before after old new s) looks.reads k.by;
+  taken = λ takes. absurd takes;
+  taken_fed = λ _. subst (λ (o : Option (List ℕ)). IfSome o (λ disk. TakesFeed (found_blocks disk) before after old new)) looks.reads (k.taken_fed tt);
+  onward = on_one first.reads _ (λ disk r synced.
+      joined first mid last (λ image. records image ≡ records disk) (HoldsOnward (records disk)) (HoldsOnward (records disk)) (looked_since first mid law disk r looks synced)
       (at_one (λ (d : List ℕ). IsSynced mid → Leaves mid last (HoldsOnward (records d))) (looks.reads ∙ r) k.onward (synced_on first mid looks synced)) (λ image h. inl h) (λ image h. h));
   chain = subst (λ (o : Option (List ℕ)). OnBoth before o (λ disk input. HasOtherChain disk input → EndsAtHead before after s)) looks.reads k.chain;
-  recovery = on_map before first.reads _ _ (λ disk input l r h. recovery_on fresh disk input after old new first mid last s law r looks h)
-      (subst (λ (o : Option (List ℕ)). OnBoth before o (λ disk input. Recovery fresh disk input after old new mid last s)) looks.reads k.recovery);
+  crash = on_map before first.reads _ _ (λ disk input l r h. recovery_on fresh disk input after old new first mid last s law r looks h)
+      (subst (λ (o : Option (List ℕ)). OnBoth before o (λ disk input. Recovery fresh disk input after old new mid last s)) looks.reads k.crash);
 }
 
 -- ---- the disk wasn't opened
@@ -475,7 +531,7 @@ nothing_taken arrived left old = record {
     none None = tt
     none (Some xs) = refl
 
-module _ (fresh : Bool) (left old : Option (List ℕ)) (first last : DiskMoment) (law : IsMoment first) (last_law : IsMoment last) (looks : Looks first last) where
+module _ (path : List ℕ) (fresh : Bool) (left old : Option (List ℕ)) (first last : DiskMoment) (law : IsMoment first) (last_law : IsMoment last) (looks : Looks first last) where
   none_consumed : (input : List ℕ) → left ≡ Some input → Consumes (Some input) left []
   none_consumed input l = subst (λ (o : Option (List ℕ)). Consumes (Some input) o []) (sym l) refl
 
@@ -484,24 +540,27 @@ module _ (fresh : Bool) (left old : Option (List ℕ)) (first last : DiskMoment)
   nothing_begun = refl
 
   -- an early end
-  pub exit_early : (s : Status) → EndsEarly s → EndsBy fresh first.reads left left old old s → KeptEnds fresh first.reads left left old old first last s
+  pub exit_early : (s : Status) → EndsEarly s → WritesBy (Some (jobs.Keep path fresh)) first.reads left left old old s
+      → JobEnds (Some (jobs.Keep path fresh)) first.reads left left old old first last s
   exit_early s early by = record {
     by = by;
-    taken = on_one first.reads _ (λ disk r. nothing_taken (found_blocks disk) left old);
+    taken = λ takes. absurd takes;
+    taken_fed = λ _. on_one first.reads _ (λ disk r. nothing_taken (found_blocks disk) left old);
     onward = looked_stays first last law looks;
     chain = on_both left first.reads _ (λ disk input l r other. nothing_headed left s (early_chain s early));
-    recovery = on_both left first.reads _ (λ disk input l r. early_recovery fresh disk input left old old first last s law last_law r [] (none_consumed input l) looks (appends_none old) early none_ends (λ e. nothing_begun));
+    crash = on_both left first.reads _ (λ disk input l r.
+        early_recovery fresh disk input left old old first last s law last_law r [] (none_consumed input l) looks (appends_none old) early none_ends (λ e. nothing_begun));
   }
 
-  pub silent_memory : EndsBy fresh first.reads left left old old status.Memory
+  pub silent_memory : WritesBy (Some (jobs.Keep path fresh)) first.reads left left old old status.Memory
   silent_memory = front_none left first.reads old old (kept_output fresh) refl
 
   no_lines : (before : List (List ℕ)) → Appends old old (replied_but_last before [])
   unfolding feed placed head_form bind
   no_lines before = appends_none old
 
-  pub silent_disk : EndsBy fresh first.reads left left old old status.DiskFault
-  silent_disk = on_one first.reads _ (λ disk r. ([], none left, no_lines (found_blocks disk)))
+  pub silent_disk : WritesBy (Some (jobs.Keep path fresh)) first.reads left left old old status.DiskFault
+  silent_disk = λ _. on_one first.reads _ (λ disk r. ([], none left, no_lines (found_blocks disk)))
     where
       none : (o : Option (List ℕ)) → Consumes o o []
       none None = tt
@@ -512,15 +571,19 @@ module _ (fresh : Bool) (left old : Option (List ℕ)) (first last : DiskMoment)
       → (result ≢ status.WriteFault → result ≡ status_is) → (result ≢ status.WriteFault → Appends old new text) → AppendsFront old new text
       → ((disk input : List ℕ) → first.reads ≡ Some disk → (kept_output fresh disk input ≡ text) × (Fits fresh disk input → ⊥))
       → ((disk : List ℕ) (c : Contents) → first.reads ≡ Some disk → records disk ≡ found c → ⊥)
-      → (OnBoth left first.reads (λ disk input. Appends old new (kept_output fresh disk input)) → EndsBy fresh first.reads left left old new status_is)
-      → KeptEnds fresh first.reads left left old new first last result
+      → (OnBoth left first.reads (λ disk input. Appends old new (kept_output fresh disk input)) → WritesBy (Some (jobs.Keep path fresh)) first.reads left left old new status_is)
+      → JobEnds (Some (jobs.Keep path fresh)) first.reads left left old new first last result
   exit_line new text status_is result same whole front says unfound ends_by = record {
     by = elim (is_write result) [
-      | inl is ↦ subst (EndsBy fresh first.reads left left old new) (sym is) (on_both left first.reads _ (λ disk input l r. subst (λ (t : List ℕ). AppendsFront old new t) (sym (says disk input r).0) front))
-      | inr no_write ↦ subst (EndsBy fresh first.reads left left old new) (sym (same no_write)) (ends_by (on_both left first.reads _ (λ disk input l r. subst (λ (t : List ℕ). Appends old new t) (sym (says disk input r).0) (whole no_write))))
+      | inl is ↦ subst (WritesBy (Some (jobs.Keep path fresh)) first.reads left left old new) (sym is)
+          (on_both left first.reads _ (λ disk input l r. subst (λ (t : List ℕ). AppendsFront old new t) (sym (says disk input r).0) front))
+      | inr no_write ↦ subst (WritesBy (Some (jobs.Keep path fresh)) first.reads left left old new) (sym (same no_write))
+          (ends_by (on_both left first.reads _ (λ disk input l r. subst (λ (t : List ℕ). Appends old new t) (sym (says disk input r).0) (whole no_write))))
     ];
-    taken = on_one first.reads _ (λ disk r. takes_then (found_blocks disk) left left old old new text (nothing_taken (found_blocks disk) left old) front);
+    taken = λ takes. absurd takes;
+    taken_fed = λ _. on_one first.reads _ (λ disk r. takes_then (found_blocks disk) left left old old new text (nothing_taken (found_blocks disk) left old) front);
     onward = looked_stays first last law looks;
     chain = on_both left first.reads _ (λ disk input l r other. absurd (unfound disk other.contents r other.found));
-    recovery = on_both left first.reads _ (λ disk input l r. other_recovery fresh disk input left old new first last result law last_law r [] (none_consumed input l) looks (says disk input r).1);
+    crash = on_both left first.reads _ (λ disk input l r.
+        other_recovery fresh disk input left old new first last result law last_law r [] (none_consumed input l) looks (says disk input r).1);
   }

@@ -1,5 +1,5 @@
 -- What the top call says of a run with a journal, and of one that wasn't begun for want of memory.
-use Rattle.std.proofs.Common.{◌≡◌, ℕ, Bool, List, [], Option, Some, None, IfSome, refl, sym, subst}
+use Rattle.std.proofs.Common.{◌≡◌, ℕ, List, [], Option, Some, None, IfSome, refl, sym, subst}
 use Rattle.sp_disk.specs.Moments.{IsMoment, Leaves, Moment}
 use Rattle.sp_io.specs.Whole.{AppendsFront}
 use Rattle.sp_io.proofs.Writing.{wrote_none}
@@ -9,7 +9,6 @@ use Rattle.spectre.specs.Chains.{EndsAtHead}
 use Rattle.spectre.specs.Crashes.{HoldsOnward, Recovery}
 use Rattle.spectre.specs.Faults.{IsOtherChain}
 use Rattle.spectre.specs.JobEnds.{JobEnds, WritesBy}
-use Rattle.spectre.specs.Kept.{EndsBy, KeptEnds}
 use Rattle.spectre.specs.Output.{blocks_before, OnDisk, OnInput, OnKeep, output_by}
 use Rattle.spectre.specs.Taken.{TakesFeed}
 use Rattle.spectre.specs.declared.job.Job.{Job}
@@ -44,31 +43,6 @@ on_status P status.OtherChain done usage malformed truncated read write disk no_
 on_status P status.Memory done usage malformed truncated read write disk no_journal other memory damaged long = memory refl
 on_status P status.Damaged done usage malformed truncated read write disk no_journal other memory damaged long = damaged refl
 on_status P status.TooLong done usage malformed truncated read write disk no_journal other memory damaged long = long refl
-
--- a run with a journal
-kept_by : (path : List ℕ) (fresh : Bool) (reads before after old new : Option (List ℕ)) (s : Status) → EndsBy fresh reads before after old new s → WritesBy (Some (jobs.Keep path fresh)) reads before after old new s
-kept_by path fresh reads before after old new status.Done k = k
-kept_by path fresh reads before after old new status.Usage k = k
-kept_by path fresh reads before after old new status.Malformed k = (k, λ takes. absurd takes)
-kept_by path fresh reads before after old new status.Truncated k = k
-kept_by path fresh reads before after old new status.ReadFault k = λ _. k
-kept_by path fresh reads before after old new status.WriteFault k = k
-kept_by path fresh reads before after old new status.DiskFault k = λ _. k
-kept_by path fresh reads before after old new status.NotJournal k = k
-kept_by path fresh reads before after old new status.OtherChain k = k
-kept_by path fresh reads before after old new status.Memory k = k
-kept_by path fresh reads before after old new status.Damaged k = k
-kept_by path fresh reads before after old new status.TooLong k = k
-
-pub kept_ends : (path : List ℕ) (fresh : Bool) (reads before after old new : Option (List ℕ)) (first last : Moment) (s : Status) → KeptEnds fresh reads before after old new first last s → JobEnds (Some (jobs.Keep path fresh)) reads before after old new first last s
-kept_ends path fresh reads before after old new first last s k = record {
-  by = kept_by path fresh reads before after old new s k.by;
-  taken = λ takes. absurd takes;
-  taken_fed = λ _. k.taken;
-  chain = k.chain;
-  onward = k.onward;
-  crash = k.recovery;
-}
 
 -- a run that takes nothing leaves all of it
 pub left_whole : (o : Option (List ℕ)) → IfSome o (λ input. o ≡ Some input)
@@ -115,7 +89,7 @@ nothing_behind job left reads = in_all job left _ (λ input. on_all job reads _ 
 pub nothing_asked : (job : Option Job) (left a : Option (List ℕ)) (m : Moment) → IsMoment m → OnKeep job (λ fresh. IfSome left (λ input. IfSome m.reads (λ bytes. Recovery fresh bytes input left a a m m status.Memory)))
 nothing_asked None left a m law = tt
 nothing_asked (Some jobs.Replay) left a m law = tt
-nothing_asked (Some (jobs.Keep path fresh)) left a m law = (exit_early fresh left a m m law law (looks_same m) status.Memory tt (silent_memory fresh left a m m law law (looks_same m))).recovery
+nothing_asked (Some (jobs.Keep path fresh)) left a m law = (exit_early path fresh left a m m law law (looks_same m) status.Memory tt (silent_memory path fresh left a m m law law (looks_same m))).crash
 nothing_asked (Some (jobs.Show path)) left a m law = tt
 nothing_asked (Some jobs.Play) left a m law = tt
 nothing_asked (Some jobs.Build) left a m law = tt

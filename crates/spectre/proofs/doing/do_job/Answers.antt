@@ -4,7 +4,7 @@ use Rattle.spectre.specs.JobEnds.{JobEnds, WritesBy}
 use Rattle.spectre.specs.declared.job.Job.{Job}
 use Rattle.spectre.specs.declared.job.Job.TheVariants as jobs
 use Rattle.spectre.proofs.DiskFirst.{first_of, shown_first, shown_journal}
-use Rattle.spectre.proofs.TopCall.{if_all, kept_ends, left_whole, on_status}
+use Rattle.spectre.proofs.TopCall.{if_all, left_whole, on_status}
 use Rattle.spectre.proofs.doing.do_job.Goals as goal
 
 pub returns-in-Replay-clause-ends : goal.returns-in-Replay-clause-ends
@@ -50,7 +50,7 @@ returns-in-Keep-clause-ends g c =
     let old = g.K.Sink.taken c.args.sink.now in
     let new = g.K.Sink.taken c.keep.new.sink in
     subst (λ (j : Job). JobEnds (Some j) first.reads before after old new first last c.keep.result) (sym c.in-Keep.is)
-    (kept_ends c.in-Keep.path c.in-Keep.fresh first.reads before after old new first last c.keep.result c.keep.ensures.ends)
+    (c.keep.ensures.ends c.in-Keep.path)
 
 pub returns-in-Show-clause-ends : goal.returns-in-Show-clause-ends
 returns-in-Show-clause-ends g c =
