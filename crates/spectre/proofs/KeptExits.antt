@@ -52,18 +52,8 @@ use Rattle.spectre.proofs.Running.{whole_front}
 
 -- a status is that of a failed write, or another
 is_write : (s : Status) → (s ≡ status.WriteFault) ⊎ (s ≢ status.WriteFault)
-is_write status.Done = inr (λ e. cc)
-is_write status.Usage = inr (λ e. cc)
-is_write status.Malformed = inr (λ e. cc)
-is_write status.Truncated = inr (λ e. cc)
-is_write status.ReadFault = inr (λ e. cc)
 is_write status.WriteFault = inl refl
-is_write status.DiskFault = inr (λ e. cc)
-is_write status.NotJournal = inr (λ e. cc)
-is_write status.OtherChain = inr (λ e. cc)
-is_write status.Memory = inr (λ e. cc)
-is_write status.Damaged = inr (λ e. cc)
-is_write status.TooLong = inr (λ e. cc)
+is_write other = inr (λ e. cc)
 
 -- a run that ends with a line ends by its status, where no write failed
 pub line_ends : (P : Status → Type 0) (result ended : Status) → (result ≢ status.WriteFault → result ≡ ended) → P status.WriteFault → P ended → P result
@@ -300,10 +290,8 @@ unheaded stored start now given first last faults.ReadFault is w = ap (λ (f : F
 unheaded stored start now given first last (faults.TooLong taken) is w = absurd cc
 
 is_read : (e : FeedFault) → (e ≡ faults.ReadFault) ⊎ (e ≡ faults.ReadFault → ⊥)
-is_read (faults.Malformed at) = inr (λ x. cc)
-is_read (faults.Truncated at) = inr (λ x. cc)
 is_read faults.ReadFault = inl refl
-is_read (faults.TooLong taken) = inr (λ x. cc)
+is_read other = inr (λ x. cc)
 
 module _ (fresh : Bool) (stored : Stored) {start now : Moment} (old : Option (List ℕ)) (first last : DiskMoment) (law : IsMoment first) (last_law : IsMoment last) (tells : IfSome first.reads (λ disk. Tells fresh disk (Ok stored)))
     {mid : Option (List ℕ)} (new : Option (List ℕ)) (e : FeedFault) (a : KeepAnswers stored start now old mid first last (Err (Feed e))) (result : Status)
@@ -498,18 +486,12 @@ ends_on path fresh before after old new first mid last s law looks k = record {
 
 -- what ends a run early may end it where the feed is of another chain, and nothing of it was taken
 early_chain : (s : Status) → EndsEarly s → EndsByChain s
-early_chain status.Done early = early
-early_chain status.Usage early = early
-early_chain status.Malformed early = early
-early_chain status.Truncated early = early
 early_chain status.ReadFault early = tt
 early_chain status.WriteFault early = tt
 early_chain status.DiskFault early = tt
-early_chain status.NotJournal early = early
 early_chain status.OtherChain early = tt
 early_chain status.Memory early = tt
-early_chain status.Damaged early = early
-early_chain status.TooLong early = early
+early_chain other early = early
 
 pub nothing_headed : (left : Option (List ℕ)) (s : Status) → EndsByChain s → EndsAtHead left left s
 nothing_headed left s ends = (ends, record { given = []; consumed = none left; needed = none_ends; opened = λ e. refl })
