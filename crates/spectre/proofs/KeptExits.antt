@@ -293,29 +293,6 @@ is_read : (e : FeedFault) → (e ≡ faults.ReadFault) ⊎ (e ≡ faults.ReadFau
 is_read faults.ReadFault = inl refl
 is_read other = inr (λ x. cc)
 
-module _ (fresh : Bool) (stored : Stored) {start now : Moment} (old : Option (List ℕ)) (first last : DiskMoment) (law : IsMoment first) (last_law : IsMoment last) (tells : IfSome first.reads (λ disk. Tells fresh disk (Ok stored)))
-    {mid : Option (List ℕ)} (new : Option (List ℕ)) (e : FeedFault) (a : KeepAnswers stored start now old mid first last (Err (Feed e))) (result : Status)
-    (same : result ≢ status.WriteFault → result ≡ status_of e) (text : result ≢ status.WriteFault → Appends mid new (feed_fault_text e)) (front : AppendsFront mid new (feed_fault_text e)) (read : e ≡ faults.ReadFault → result ≡ status.ReadFault) where
-  r : Replies (bytes_of stored) start now old mid (Err (replays.Feed e))
-  r = feed_replies stored e a
-
-  accepted : (e ≡ faults.ReadFault → ⊥) → IfSome start.left (λ input. Accepts stored (fed input).head)
-  accepted other = elim a [
-    | inr t ↦ fitting fresh stored start.left first.reads tells t.1.fits
-    | inl u ↦ on_one start.left _ (λ input l. subst (Accepts stored) (sym (at_one (λ (i : List ℕ). (fed i).head ≡ None) l (headless stored start now u.given first last e other u.took.consumed u.why))) tt)
-  ]
-
-  cut : result ≡ status.WriteFault → OnBoth start.left first.reads (λ disk input. AppendsFront old new (kept_output fresh disk input))
-  cut is =
-      let other : (e ≡ faults.ReadFault → ⊥) = λ h. (let no : status.WriteFault ≡ status.ReadFault = sym is ∙ read h in cc) in
-      front_of_text fresh stored start.left first.reads tells old new (accepted other) (fault_front new e r other front)
-
-  written : (e ≡ faults.ReadFault → ⊥) → Appends mid new (feed_fault_text e) → (P : End → Type 0) → ((end : End) → Ends e end → P end) → OnBoth start.left first.reads (λ disk input. Appends old new (kept_output fresh disk input) × P (fed input).end)
-  written other b P f = on_map start.left first.reads _ _ (λ disk input l x h. (h.0, f (fed input).end h.1)) (whole_text fresh stored start.left first.reads tells old new (Ends e) (accepted other) (fault_written new e r other b))
-
-  feed_taken_now : IfSome first.reads (λ disk. TakesFeed (found_blocks disk) start.left now.left old new)
-  feed_taken_now = feed_taken fresh stored start.left first.reads tells now.left old new (takes_then (bytes_of stored) start.left now.left old mid new (feed_fault_text e) (takes r) front)
-
 -- by each status that a feed's fault gives
 pub feed_status : (P : Status → Type 0) (e : FeedFault) → P status.Malformed → P status.Truncated → P status.ReadFault → P status.TooLong → P (status_of e)
 feed_status P (faults.Malformed at) malformed truncated read long = malformed
@@ -323,78 +300,105 @@ feed_status P (faults.Truncated at) malformed truncated read long = truncated
 feed_status P faults.ReadFault malformed truncated read long = read
 feed_status P (faults.TooLong taken) malformed truncated read long = long
 
--- by the fault
-by_fault : (path : List ℕ) (fresh : Bool) (stored : Stored) {start now : Moment} (old : Option (List ℕ)) (first last : DiskMoment) → IsMoment first → IsMoment last
-    → IfSome first.reads (λ disk. Tells fresh disk (Ok stored)) → {mid : Option (List ℕ)} (new : Option (List ℕ)) (e : FeedFault) → KeepAnswers stored start now old mid first last (Err (Feed e))
-    → Appends mid new (feed_fault_text e) → AppendsFront mid new (feed_fault_text e) → WritesBy (Some (jobs.Keep path fresh)) first.reads start.left now.left old new (status_of e)
-by_fault path fresh stored old first last law last_law tells new (faults.Malformed at) a b front = (
-  written fresh stored old first last law last_law tells new (faults.Malformed at) a status.Malformed (λ h. refl) (λ h. b) front (λ h. cc) (λ h. cc) b EndsMalformed (is_malformed_end at),
-  λ takes. absurd takes,
-)
-  where
-    is_malformed_end : (at : ℕ) (end : End) → Ends (faults.Malformed at) end → EndsMalformed end
-    is_malformed_end at end h = is_malformed (faults.Malformed at) end refl h
-by_fault path fresh stored {start = start} {now = now} old first last law last_law tells new (faults.Truncated at) a b front = (
-  written fresh stored old first last law last_law tells new (faults.Truncated at) a status.Truncated (λ h. refl) (λ h. b) front (λ h. cc) (λ h. cc) b EndsTruncated
-      (λ end h. is_truncated (faults.Truncated at) end refl h),
-  nothing_left (faults.Truncated at) (feed_replies stored (faults.Truncated at) a) refl,
-)
-by_fault path fresh stored {start = start} {now = now} old first last law last_law tells {mid = mid} new faults.ReadFault a b front = λ _.
-    let r = feed_replies stored faults.ReadFault a in
-    same_found fresh stored start.left first.reads tells (λ (l : List (List ℕ)). (given : List ℕ) × Consumes start.left now.left given × Appends old new (replied l given)) (
-      r.given,
-      r.took.consumed,
-      subst (λ (x : List ℕ). Appends old new x) (append-nil (replied (bytes_of stored) r.given)) (appends_then old mid new (replied (bytes_of stored) r.given) [] r.says.0 b),
-    )
-by_fault path fresh stored {start = start} {now = now} old first last law last_law tells new (faults.TooLong taken) a b front = (
-  written fresh stored old first last law last_law tells new (faults.TooLong taken) a status.TooLong (λ h. refl) (λ h. b) front (λ h. cc) (λ h. cc) b EndsTooLong
-      (λ end h. is_too_long (faults.TooLong taken) end refl h),
-  limit_taken (faults.TooLong taken) (feed_replies stored (faults.TooLong taken) a) refl,
-)
+module _ (path : List ℕ) (fresh : Bool) (stored : Stored) {start now : Moment} (old : Option (List ℕ)) (first last : DiskMoment)
+    (law : IsMoment first) (last_law : IsMoment last) (tells : IfSome first.reads (λ disk. Tells fresh disk (Ok stored)))
+    {mid : Option (List ℕ)} (new : Option (List ℕ)) (e : FeedFault) (a : KeepAnswers stored start now old mid first last (Err (Feed e)))
+    (result : Status) (same : result ≢ status.WriteFault → result ≡ status_of e)
+    (text : result ≢ status.WriteFault → Appends mid new (feed_fault_text e)) (front : AppendsFront mid new (feed_fault_text e))
+    (read : e ≡ faults.ReadFault → result ≡ status.ReadFault) where
+  r : Replies (bytes_of stored) start now old mid (Err (replays.Feed e))
+  r = feed_replies stored e a
 
-pub exit_feed : (path : List ℕ) (fresh : Bool) (stored : Stored) {start now : Moment} (old : Option (List ℕ)) (first last : DiskMoment) → IsMoment first → IsMoment last
-    → IfSome first.reads (λ disk. Tells fresh disk (Ok stored)) → {mid : Option (List ℕ)} (new : Option (List ℕ)) (e : FeedFault) → KeepAnswers stored start now old mid first last (Err (Feed e))
-    → (result : Status) → (result ≢ status.WriteFault → result ≡ status_of e) → (result ≢ status.WriteFault → Appends mid new (feed_fault_text e)) → AppendsFront mid new (feed_fault_text e)
-    → (e ≡ faults.ReadFault → result ≡ status.ReadFault) → JobEnds (Some (jobs.Keep path fresh)) first.reads start.left now.left old new first last result
-exit_feed path fresh stored {start = start} {now = now} old first last law last_law tells {mid = mid} new e a result same text front read = record {
-  by = elim (is_write result) [
-    | inl is ↦ subst (WritesBy (Some (jobs.Keep path fresh)) first.reads start.left now.left old new) (sym is) (cut fresh stored old first last law last_law tells new e a result same text front read is)
-    | inr no_write ↦ subst (WritesBy (Some (jobs.Keep path fresh)) first.reads start.left now.left old new) (sym (same no_write))
-        (by_fault path fresh stored old first last law last_law tells new e a (text no_write) front)
-  ];
-  taken = λ takes. absurd takes;
-  taken_fed = λ _. feed_taken_now fresh stored old first last law last_law tells new e a result same text front read;
-  onward = answered_stays fresh stored first last law tells a;
-  chain = elim a [
-    | inr t ↦ fitting_chain fresh stored start.left first.reads now.left result tells t.1.fits
-    | inl u ↦ elim (is_read e) [
-      | inl is ↦ untried_chain stored first.reads result u (subst EndsByChain (sym (read is)) tt) (λ d. (let no : status.ReadFault ≡ status.DiskFault = sym (read is) ∙ d in cc))
-      | inr other ↦ headless_chain start.left first.reads now.left result (headless stored start now u.given first last e other u.took.consumed u.why)
-    ]
-  ];
-  crash = on_both start.left first.reads _ (λ disk input l x.
-      let t = told_at fresh stored tells x in
-      elim a [
-        | inr tried ↦ answered_recovery fresh disk input stored t new first last law x l tried (tried.1.whole (told_by first disk x)) result
-        | inl u ↦ elim (is_read e) [
-          | inl is ↦ subst (Recovery fresh disk input now.left old new first last) (sym (read is))
-              (early_recovery fresh disk input now.left old new first last status.ReadFault law last_law x u.given (consumed_of u l) (looked stored start now u.given first last e u.why) (silent u is) tt u.headed
-              (λ f. unheaded stored start now u.given first last e is u.why))
-          | inr other ↦ other_recovery fresh disk input now.left old new first last result law last_law x u.given (consumed_of u l) (looked stored start now u.given first last e u.why)
-              (λ fits. let none = at_one (λ (i : List ℕ). (fed i).head ≡ None) l (headless stored start now u.given first last e other u.took.consumed u.why) in
-              let no : FitsStored stored None = subst (FitsStored stored) none (fits_here fresh disk stored input t fits) in absurd no)
-        ]
-      ]);
-}
-  where
-    consumed_of : (u : IsUntried stored start now old mid first last (Err (Feed e))) {input : List ℕ} → start.left ≡ Some input → Consumes (Some input) now.left u.given
-    consumed_of u l = subst (λ (o : Option (List ℕ)). Consumes o now.left u.given) l u.took.consumed
+  accepted : (e ≡ faults.ReadFault → ⊥) → IfSome start.left (λ input. Accepts stored (fed input).head)
+  accepted other = elim a [
+    | inr t ↦ fitting fresh stored start.left first.reads tells t.1.fits
+    | inl u ↦ on_one start.left _ (λ input l.
+        let none = at_one (λ (i : List ℕ). (fed i).head ≡ None) l (headless stored start now u.given first last e other u.took.consumed u.why) in
+        subst (Accepts stored) (sym none) tt)
+  ]
 
-    -- of a failed read no line is written
-    silent : IsUntried stored start now old mid first last (Err (Feed e)) → e ≡ faults.ReadFault → Appends old new []
-    silent u is =
-        let b = subst (λ (f : FeedFault). Appends mid new (feed_fault_text f)) is (text (λ h. let no : status.WriteFault ≡ status.ReadFault = sym h ∙ read is in cc)) in
-        subst (λ (o : Option (List ℕ)). Appends o new []) u.silent b
+  -- the line wasn't written whole
+  cut : result ≡ status.WriteFault → OnBoth start.left first.reads (λ disk input. AppendsFront old new (kept_output fresh disk input))
+  cut is =
+      let other : (e ≡ faults.ReadFault → ⊥) = λ h. (let no : status.WriteFault ≡ status.ReadFault = sym is ∙ read h in cc) in
+      front_of_text fresh stored start.left first.reads tells old new (accepted other) (fault_front new e r other front)
+
+  -- it was
+  written : (e ≡ faults.ReadFault → ⊥) → Appends mid new (feed_fault_text e) → (P : End → Type 0) → ((end : End) → Ends e end → P end)
+      → OnBoth start.left first.reads (λ disk input. Appends old new (kept_output fresh disk input) × P (fed input).end)
+  written other b P f = on_map start.left first.reads _ _ (λ disk input l x h. (h.0, f (fed input).end h.1))
+      (whole_text fresh stored start.left first.reads tells old new (Ends e) (accepted other) (fault_written new e r other b))
+
+  -- by the fault
+  by_fault : (f : FeedFault) → e ≡ f → Appends mid new (feed_fault_text e) → WritesBy (Some (jobs.Keep path fresh)) first.reads start.left now.left old new (status_of f)
+  by_fault (faults.Malformed at) is b = (
+    written (λ h. let no : faults.Malformed at ≡ faults.ReadFault = sym is ∙ h in cc) b EndsMalformed (λ end h. is_malformed e end (ap status_of is) h),
+    λ takes. absurd takes,
+  )
+  by_fault (faults.Truncated at) is b = (
+    written (λ h. let no : faults.Truncated at ≡ faults.ReadFault = sym is ∙ h in cc) b EndsTruncated (λ end h. is_truncated e end (ap status_of is) h),
+    nothing_left e r (ap status_of is),
+  )
+  by_fault faults.ReadFault is b = λ _.
+      let t = subst (λ (f : FeedFault). Replies (bytes_of stored) start now old mid (Err (replays.Feed f))) is r in
+      let none = subst (λ (f : FeedFault). Appends mid new (feed_fault_text f)) is b in
+      let lines = replied (bytes_of stored) t.given in
+      same_found fresh stored start.left first.reads tells
+      (λ (l : List (List ℕ)). (given : List ℕ) × Consumes start.left now.left given × Appends old new (replied l given))
+      (t.given, t.took.consumed, subst (λ (x : List ℕ). Appends old new x) (append-nil lines) (appends_then old mid new lines [] t.says.0 none))
+  by_fault (faults.TooLong taken) is b = (
+    written (λ h. let no : faults.TooLong taken ≡ faults.ReadFault = sym is ∙ h in cc) b EndsTooLong (λ end h. is_too_long e end (ap status_of is) h),
+    limit_taken e r (ap status_of is),
+  )
+
+  consumed_of : (u : IsUntried stored start now old mid first last (Err (Feed e))) {input : List ℕ} → start.left ≡ Some input
+      → Consumes (Some input) now.left u.given
+  consumed_of u l = subst (λ (o : Option (List ℕ)). Consumes o now.left u.given) l u.took.consumed
+
+  -- of a failed read no line is written
+  silent : IsUntried stored start now old mid first last (Err (Feed e)) → e ≡ faults.ReadFault → Appends old new []
+  silent u is =
+      let whole = text (λ h. let no : status.WriteFault ≡ status.ReadFault = sym h ∙ read is in cc) in
+      let none = subst (λ (f : FeedFault). Appends mid new (feed_fault_text f)) is whole in
+      subst (λ (o : Option (List ℕ)). Appends o new []) u.silent none
+
+  -- what a crash leaves, where no node was started
+  untried_recovery : (u : IsUntried stored start now old mid first last (Err (Feed e))) (disk input : List ℕ) → start.left ≡ Some input → first.reads ≡ Some disk
+      → Recovery fresh disk input now.left old new first last result
+  untried_recovery u disk input l x = elim (is_read e) [
+    | inl is ↦ subst (Recovery fresh disk input now.left old new first last) (sym (read is))
+        (early_recovery fresh disk input now.left old new first last status.ReadFault law last_law x u.given (consumed_of u l)
+        (looked stored start now u.given first last e u.why) (silent u is) tt u.headed (λ f. unheaded stored start now u.given first last e is u.why))
+    | inr other ↦ other_recovery fresh disk input now.left old new first last result law last_law x u.given (consumed_of u l)
+        (looked stored start now u.given first last e u.why) (λ fits.
+        let none = at_one (λ (i : List ℕ). (fed i).head ≡ None) l (headless stored start now u.given first last e other u.took.consumed u.why) in
+        let no : FitsStored stored None = subst (FitsStored stored) none (fits_here fresh disk stored input (told_at fresh stored tells x) fits) in absurd no)
+  ]
+
+  pub exit_feed : JobEnds (Some (jobs.Keep path fresh)) first.reads start.left now.left old new first last result
+  exit_feed = record {
+    by = elim (is_write result) [
+      | inl is ↦ subst (WritesBy (Some (jobs.Keep path fresh)) first.reads start.left now.left old new) (sym is) (cut is)
+      | inr no_write ↦ subst (WritesBy (Some (jobs.Keep path fresh)) first.reads start.left now.left old new) (sym (same no_write))
+          (by_fault e refl (text no_write))
+    ];
+    taken = λ takes. absurd takes;
+    taken_fed = λ _. feed_taken fresh stored start.left first.reads tells now.left old new
+        (takes_then (bytes_of stored) start.left now.left old mid new (feed_fault_text e) (takes r) front);
+    onward = answered_stays fresh stored first last law tells a;
+    chain = elim a [
+      | inr t ↦ fitting_chain fresh stored start.left first.reads now.left result tells t.1.fits
+      | inl u ↦ elim (is_read e) [
+        | inl is ↦ untried_chain stored first.reads result u (subst EndsByChain (sym (read is)) tt)
+            (λ d. (let no : status.ReadFault ≡ status.DiskFault = sym (read is) ∙ d in cc))
+        | inr other ↦ headless_chain start.left first.reads now.left result (headless stored start now u.given first last e other u.took.consumed u.why)
+      ]
+    ];
+    crash = on_both start.left first.reads _ (λ disk input l x. elim a [
+      | inr tried ↦ answered_recovery fresh disk input stored (told_at fresh stored tells x) new first last law x l tried (tried.1.whole (told_by first disk x)) result
+      | inl u ↦ untried_recovery u disk input l x
+    ]);
+  }
 
 -- ---- the journal is that of another chain
 
