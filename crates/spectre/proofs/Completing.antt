@@ -1,15 +1,16 @@
 -- Where nothing failed, and neither the input nor what the disk held has a fault, a run is done, or memory was refused.
 use Rattle.std.proofs.Common.{◌≡◌, ◌⊎◌, inl, inr, ℕ, ◌<◌, ◌≤◌, true, false, List, [], length, Option, Some, None, IfSome, IsNone, IsSome, refl, sym, ◌∙◌, arith}
 use Rattle.std.specs.Io.KnownBytes.{Appends}
-use Rattle.sp_feed.specs.Feed.{End, Malformed, TooLong, Truncated, Whole}
+use Rattle.sp_disk.specs.Moments.{Moment}
+use Rattle.sp_feed.specs.Feed.{End, Malformed, TooLong, Truncated}
 use Rattle.sp_journal.specs.Journal.{Contents}
 use Rattle.sp_journal.specs.Records.{Damaged, Found, NoJournal, Records, records}
 use Rattle.sp_make.specs.Made.{made}
 use Rattle.sp_play.specs.Scene.{scene}
 use Rattle.spectre.specs.Faults.{EndsMalformed, EndsTooLong, EndsTruncated, EndsWhole, IsDamaged, IsFaultless, IsMalformed, IsNoJournal, IsOtherChain, IsTooLong, IsTruncated}
-use Rattle.spectre.specs.JobEnds.{WritesBy}
+use Rattle.spectre.specs.JobEnds.{JobEnds, WritesBy}
 use Rattle.spectre.specs.Jobs.{TakesNothing}
-use Rattle.spectre.specs.Output.{OnDisk, OnInput, output_by}
+use Rattle.spectre.specs.Output.{disk_told, input_told, OnDisk, OnInput, output_by}
 use Rattle.spectre.specs.Replay.{fed}
 use Rattle.spectre.specs.declared.job.Job.{Job}
 use Rattle.spectre.specs.declared.job.Job.TheVariants as jobs
@@ -22,22 +23,16 @@ use Rattle.spectre.proofs.TopCall.{if_all, in_all, on_all}
 -- ---- what has a fault isn't faultless
 
 malformed_end : (e : End) → EndsMalformed e → EndsWhole e → ⊥
-malformed_end (Whole rest) bad good = bad
 malformed_end (Malformed at) bad good = good
-malformed_end (Truncated at) bad good = bad
-malformed_end (TooLong taken) bad good = bad
+malformed_end other bad good = bad
 
 truncated_end : (e : End) → EndsTruncated e → EndsWhole e → ⊥
-truncated_end (Whole rest) bad good = bad
-truncated_end (Malformed at) bad good = bad
 truncated_end (Truncated at) bad good = good
-truncated_end (TooLong taken) bad good = bad
+truncated_end other bad good = bad
 
 long_end : (e : End) → EndsTooLong e → EndsWhole e → ⊥
-long_end (Whole rest) bad good = bad
-long_end (Malformed at) bad good = bad
-long_end (Truncated at) bad good = bad
 long_end (TooLong taken) bad good = good
+long_end other bad good = bad
 
 some_none : {A : Type 0} (o : Option A) → IsSome o → IsNone o → ⊥
 some_none None some none = absurd (let no : false ≡ true = some in cc)
@@ -47,34 +42,24 @@ too_long : (a b : ℕ) → b ≤ a → a < b → ⊥
 too_long a b more less = absurd (omega (arith, more, less))
 
 malformed : (job : Option Job) (disk input : List ℕ) → IsMalformed job input → IsFaultless job disk input → ⊥
-malformed None disk input bad good = bad
 malformed (Some jobs.Replay) disk input bad good = malformed_end (fed input).end bad good
 malformed (Some (jobs.Keep path fresh)) disk input bad good = malformed_end (fed input).end bad good.1
-malformed (Some (jobs.Show path)) disk input bad good = bad
 malformed (Some jobs.Play) disk input bad good = some_none (scene input).fault bad.wrong good.right
 malformed (Some jobs.Build) disk input bad good = some_none (scene input).fault bad.wrong good.right
-malformed (Some (jobs.Make n seed width)) disk input bad good = bad
 malformed (Some (jobs.Drill n seed width)) disk input bad good = some_none (scene (made n seed width)).fault bad good
+malformed other disk input bad good = bad
 
 truncated : (job : Option Job) (disk input : List ℕ) → IsTruncated job input → IsFaultless job disk input → ⊥
-truncated None disk input bad good = bad
 truncated (Some jobs.Replay) disk input bad good = truncated_end (fed input).end bad good
 truncated (Some (jobs.Keep path fresh)) disk input bad good = truncated_end (fed input).end bad good.1
-truncated (Some (jobs.Show path)) disk input bad good = bad
-truncated (Some jobs.Play) disk input bad good = bad
-truncated (Some jobs.Build) disk input bad good = bad
-truncated (Some (jobs.Make n seed width)) disk input bad good = bad
-truncated (Some (jobs.Drill n seed width)) disk input bad good = bad
+truncated other disk input bad good = bad
 
 long : (job : Option Job) (disk input : List ℕ) → IsTooLong job input → IsFaultless job disk input → ⊥
-long None disk input bad good = bad
 long (Some jobs.Replay) disk input bad good = long_end (fed input).end bad good
 long (Some (jobs.Keep path fresh)) disk input bad good = long_end (fed input).end bad good.1
-long (Some (jobs.Show path)) disk input bad good = bad
 long (Some jobs.Play) disk input bad good = too_long (length input) _ bad good.short
 long (Some jobs.Build) disk input bad good = too_long (length input) _ bad good.short
-long (Some (jobs.Make n seed width)) disk input bad good = bad
-long (Some (jobs.Drill n seed width)) disk input bad good = bad
+long other disk input bad good = bad
 
 one_kind : (disk : List ℕ) (c : Contents) → records disk ≡ Found c → (r : Records) → records disk ≡ r → r ≡ Found c
 one_kind disk c found r is = sym is ∙ found
@@ -86,34 +71,18 @@ not_damaged : (at : ℕ) (c : Contents) → Damaged at ≡ Found c → ⊥
 not_damaged at c e = cc
 
 no_journal : (job : Option Job) (disk input : List ℕ) → IsNoJournal job disk → IsFaultless job disk input → ⊥
-no_journal None disk input bad good = bad
-no_journal (Some jobs.Replay) disk input bad good = bad
 no_journal (Some (jobs.Keep path fresh)) disk input bad good = (none_says fresh disk input bad).1 good.0
 no_journal (Some (jobs.Show path)) disk input bad good = not_none good.0 (one_kind disk good.0 good.1 NoJournal bad)
-no_journal (Some jobs.Play) disk input bad good = bad
-no_journal (Some jobs.Build) disk input bad good = bad
-no_journal (Some (jobs.Make n seed width)) disk input bad good = bad
-no_journal (Some (jobs.Drill n seed width)) disk input bad good = bad
+no_journal other disk input bad good = bad
 
 damaged : (job : Option Job) (disk input : List ℕ) → IsDamaged job disk → IsFaultless job disk input → ⊥
-damaged None disk input bad good = bad
-damaged (Some jobs.Replay) disk input bad good = bad
 damaged (Some (jobs.Keep path fresh)) disk input bad good = (damaged_says fresh disk input bad.0 bad.1).1 good.0
 damaged (Some (jobs.Show path)) disk input bad good = not_damaged bad.0 good.0 (one_kind disk good.0 good.1 (Damaged bad.0) bad.1)
-damaged (Some jobs.Play) disk input bad good = bad
-damaged (Some jobs.Build) disk input bad good = bad
-damaged (Some (jobs.Make n seed width)) disk input bad good = bad
-damaged (Some (jobs.Drill n seed width)) disk input bad good = bad
+damaged other disk input bad good = bad
 
 other_chain : (job : Option Job) (disk input : List ℕ) → IsOtherChain job disk input → IsFaultless job disk input → ⊥
-other_chain None disk input bad good = bad
-other_chain (Some jobs.Replay) disk input bad good = bad
 other_chain (Some (jobs.Keep path fresh)) disk input bad good = other_misfits fresh disk input bad good.0
-other_chain (Some (jobs.Show path)) disk input bad good = bad
-other_chain (Some jobs.Play) disk input bad good = bad
-other_chain (Some jobs.Build) disk input bad good = bad
-other_chain (Some (jobs.Make n seed width)) disk input bad good = bad
-other_chain (Some (jobs.Drill n seed width)) disk input bad good = bad
+other_chain other disk input bad good = bad
 
 -- ---- where source and disk tell their bytes
 
@@ -122,36 +91,20 @@ if_each None P Q f h = tt
 if_each (Some x) P Q f h = f x h
 
 on_each : (job : Option Job) (reads : Option (List ℕ)) (P Q : List ℕ → Type 0) → ((disk : List ℕ) → P disk → Q disk) → OnDisk job reads P → OnDisk job reads Q
-on_each None reads P Q f h = f [] h
-on_each (Some jobs.Replay) reads P Q f h = f [] h
-on_each (Some (jobs.Keep path fresh)) reads P Q f h = if_each reads P Q f h
-on_each (Some (jobs.Show path)) reads P Q f h = if_each reads P Q f h
-on_each (Some jobs.Play) reads P Q f h = f [] h
-on_each (Some jobs.Build) reads P Q f h = f [] h
-on_each (Some (jobs.Make n seed width)) reads P Q f h = f [] h
-on_each (Some (jobs.Drill n seed width)) reads P Q f h = f [] h
+on_each job reads P Q f h = if_each (disk_told job reads) P Q f h
 
 in_each : (job : Option Job) (left : Option (List ℕ)) (P Q : List ℕ → Type 0) → ((input : List ℕ) → P input → Q input) → OnInput job left P → OnInput job left Q
-in_each None left P Q f h = f [] h
-in_each (Some jobs.Replay) left P Q f h = if_each left P Q f h
-in_each (Some (jobs.Keep path fresh)) left P Q f h = if_each left P Q f h
-in_each (Some (jobs.Show path)) left P Q f h = f [] h
-in_each (Some jobs.Play) left P Q f h = if_each left P Q f h
-in_each (Some jobs.Build) left P Q f h = if_each left P Q f h
-in_each (Some (jobs.Make n seed width)) left P Q f h = f [] h
-in_each (Some (jobs.Drill n seed width)) left P Q f h = f [] h
+in_each job left P Q f h = if_each (input_told job left) P Q f h
 
 -- What is said of a job that takes nothing is said of any input, where it says nothing of it
 pub whatever_input : (job : Option Job) (reads before old new : Option (List ℕ)) (P : List ℕ → List ℕ → Type 0) → (TakesNothing job → (disk input : List ℕ) → P disk [] → P disk input)
     → OnInput job before (λ input. OnDisk job reads (λ disk. Appends old new (output_by job disk input) × P disk input)) → IfSome before (λ input. OnDisk job reads (λ disk. Appends old new (output_by job disk input) × P disk input))
-whatever_input None reads before old new P any h = if_all before _ (λ input. (h.0, any tt [] input h.1))
 whatever_input (Some jobs.Replay) reads before old new P any h = h
 whatever_input (Some (jobs.Keep path fresh)) reads before old new P any h = h
 whatever_input (Some (jobs.Show path)) reads before old new P any h = if_all before _ (λ input. if_each reads _ _ (λ disk x. (x.0, any tt disk input x.1)) h)
 whatever_input (Some jobs.Play) reads before old new P any h = h
 whatever_input (Some jobs.Build) reads before old new P any h = h
-whatever_input (Some (jobs.Make n seed width)) reads before old new P any h = if_all before _ (λ input. (h.0, any tt [] input h.1))
-whatever_input (Some (jobs.Drill n seed width)) reads before old new P any h = if_all before _ (λ input. (h.0, any tt [] input h.1))
+whatever_input other reads before old new P any h = if_all before _ (λ input. (h.0, any tt [] input h.1))
 
 -- where nothing is at fault, the status is one of these two
 abbrev pub Completes : Option Job → Option (List ℕ) → Option (List ℕ) → Status → Type 0
@@ -164,17 +117,21 @@ at_fault job reads before old new s Bad refuted h = in_each job before _ _ (λ i
 at_rest : (job : Option Job) (reads before : Option (List ℕ)) (s : Status) → (s ≡ status.Done) ⊎ (s ≡ status.Memory) → Completes job reads before s
 at_rest job reads before s e = in_all job before _ (λ input. on_all job reads _ (λ disk good. e))
 
-pub completes : (job : Option Job) (reads before after old new : Option (List ℕ)) (s : Status) → (s ≡ status.ReadFault → ⊥) → (s ≡ status.WriteFault → ⊥) → (s ≡ status.DiskFault → ⊥)
+by_status : (job : Option Job) (reads before after old new : Option (List ℕ)) (s : Status) → (s ≡ status.ReadFault → ⊥) → (s ≡ status.WriteFault → ⊥) → (s ≡ status.DiskFault → ⊥)
     → WritesBy job reads before after old new s → Completes job reads before s
-completes job reads before after old new status.Done read write disk by = at_rest job reads before status.Done (inl refl)
-completes job reads before after old new status.Usage read write disk by = absurd by
-completes job reads before after old new status.Malformed read write disk by = at_fault job reads before old new status.Malformed _ (malformed job) by.0
-completes job reads before after old new status.Truncated read write disk by = at_fault job reads before old new status.Truncated _ (truncated job) by.0
-completes job reads before after old new status.ReadFault read write disk by = absurd (read refl)
-completes job reads before after old new status.WriteFault read write disk by = absurd (write refl)
-completes job reads before after old new status.DiskFault read write disk by = absurd (disk refl)
-completes job reads before after old new status.NotJournal read write disk by = at_fault job reads before old new status.NotJournal _ (no_journal job) by
-completes job reads before after old new status.OtherChain read write disk by = at_fault job reads before old new status.OtherChain _ (other_chain job) by
-completes job reads before after old new status.Memory read write disk by = at_rest job reads before status.Memory (inr refl)
-completes job reads before after old new status.Damaged read write disk by = at_fault job reads before old new status.Damaged _ (damaged job) by
-completes job reads before after old new status.TooLong read write disk by = at_fault job reads before old new status.TooLong _ (long job) by.0
+by_status job reads before after old new status.Done read write disk by = at_rest job reads before status.Done (inl refl)
+by_status job reads before after old new status.Usage read write disk by = absurd by
+by_status job reads before after old new status.Malformed read write disk by = at_fault job reads before old new status.Malformed _ (malformed job) by.0
+by_status job reads before after old new status.Truncated read write disk by = at_fault job reads before old new status.Truncated _ (truncated job) by.0
+by_status job reads before after old new status.ReadFault read write disk by = absurd (read refl)
+by_status job reads before after old new status.WriteFault read write disk by = absurd (write refl)
+by_status job reads before after old new status.DiskFault read write disk by = absurd (disk refl)
+by_status job reads before after old new status.NotJournal read write disk by = at_fault job reads before old new status.NotJournal _ (no_journal job) by
+by_status job reads before after old new status.OtherChain read write disk by = at_fault job reads before old new status.OtherChain _ (other_chain job) by
+by_status job reads before after old new status.Memory read write disk by = at_rest job reads before status.Memory (inr refl)
+by_status job reads before after old new status.Damaged read write disk by = at_fault job reads before old new status.Damaged _ (damaged job) by
+by_status job reads before after old new status.TooLong read write disk by = at_fault job reads before old new status.TooLong _ (long job) by.0
+
+pub completes : {job : Option Job} {reads before after old new : Option (List ℕ)} {first last : Moment} {s : Status} → JobEnds job reads before after old new first last s
+    → (s ≡ status.ReadFault → ⊥) → (s ≡ status.WriteFault → ⊥) → (s ≡ status.DiskFault → ⊥) → Completes job reads before s
+completes {job = job} {reads = reads} {before = before} {after = after} {old = old} {new = new} {s = s} ends read write disk = by_status job reads before after old new s read write disk ends.by

@@ -29,20 +29,21 @@ use Rattle.sp_node.specs.declared.stored.Stored.{Stored}
 use Rattle.sp_node.specs.declared.stored.Stored.TheVariants.{Empty, Found}
 use Rattle.spectre.specs.Chains.{EndAtHead, EndsAtHead, EndsByChain}
 use Rattle.spectre.specs.Codes.{code_of}
-use Rattle.spectre.specs.Crashes.{all_of, contents_by, EndsEarly, contents_of, contents_under, HoldsAcknowledged, HoldsAtLeast, HoldsFoundOrMore, HoldsOnward, IsSure, Recovers, Recovery}
+use Rattle.spectre.specs.Crashes.{all_of, contents_by, EndsEarly, contents_of, contents_under, HoldsAcknowledged, HoldsAtLeast, HoldsFoundOrMore, HoldsOnward, IsEarly, IsSure, Recovers, Recovery}
 use Rattle.spectre.specs.Faults.{EndsMalformed, EndsTooLong, EndsTruncated, EndsWhole, feed_fault_text, status_of}
+use Rattle.spectre.specs.JobEnds.{JobEnds, WritesBy}
 use Rattle.spectre.specs.Journals.{Fits, FitsHead, found_blocks, HasOtherChain, kept_output, other_chain_text}
 use Rattle.spectre.specs.Keeping.{bytes_of, FitsStored, IsAmiss, IsUntried, KeepAnswers, NamesBothOf, UntriedBy}
-use Rattle.spectre.specs.Kept.{EndsBy, KeptEnds, OnBoth}
 use Rattle.spectre.specs.Replay.{but_last, fed, lines_under, replied, replied_but_last}
 use Rattle.spectre.specs.Replaying.{Replies, SaysReply}
 use Rattle.spectre.specs.Taken.{TakesFeed}
+use Rattle.spectre.specs.declared.job.Job.TheVariants as jobs
 use Rattle.spectre.specs.declared.keep.KeepFault.{KeepFault}
 use Rattle.spectre.specs.declared.keep.KeepFault.TheVariants.{DiskFault, Feed, Memory, OtherChain, WriteFault}
 use Rattle.spectre.specs.declared.replay.ReplayFault.TheVariants as replays
 use Rattle.spectre.specs.declared.status.Status.{Status}
 use Rattle.spectre.specs.declared.status.Status.TheVariants as status
-use Rattle.spectre.proofs.KeptRuns.{Accepts, answered_recovery, at_one, early_recovery, feed_taken, fits_here, fits_there, fitting, front_of_text, holds_all, looked_since, on_both, on_one, other_is, other_recovery, same_found, stopped_recovery, sure_synced, told_by, whole_text}
+use Rattle.spectre.proofs.KeptRuns.{Accepts, answered_recovery, at_one, early_recovery, feed_taken, fits_here, fits_there, fitting, front_of_text, holds_all, looked_since, on_both, on_one, OnBoth, other_is, other_recovery, same_found, stopped_recovery, sure_synced, told_by, whole_text}
 use Rattle.spectre.proofs.Keeping.{none_ends}
 use Rattle.spectre.proofs.Onward.{answered_stays, looked_stays}
 use Rattle.spectre.proofs.Replayed.{done_rest, done_text, Ends, fault_front, fault_written, is_malformed, is_too_long, is_truncated, limit_taken, memory_text, nothing_left, takes, takes_then, with_input, write_text}
@@ -51,21 +52,12 @@ use Rattle.spectre.proofs.Running.{whole_front}
 
 -- a status is that of a failed write, or another
 is_write : (s : Status) → (s ≡ status.WriteFault) ⊎ (s ≢ status.WriteFault)
-is_write status.Done = inr (λ e. cc)
-is_write status.Usage = inr (λ e. cc)
-is_write status.Malformed = inr (λ e. cc)
-is_write status.Truncated = inr (λ e. cc)
-is_write status.ReadFault = inr (λ e. cc)
 is_write status.WriteFault = inl refl
-is_write status.DiskFault = inr (λ e. cc)
-is_write status.NotJournal = inr (λ e. cc)
-is_write status.OtherChain = inr (λ e. cc)
-is_write status.Memory = inr (λ e. cc)
-is_write status.Damaged = inr (λ e. cc)
-is_write status.TooLong = inr (λ e. cc)
+is_write other = inr (λ e. cc)
 
 -- a run that ends with a line ends by its status, where no write failed
-pub line_ends : (P : Status → Type 0) (result ended : Status) → (result ≢ status.WriteFault → result ≡ ended) → P status.WriteFault → P ended → P result
+pub line_ends : (P : Status → Type 0) (result ended : Status) → (result ≢ status.WriteFault → result ≡ ended) → P status.WriteFault → P ended
+    → P result
 line_ends P result ended same write other = elim (is_write result) [
   | inl is ↦ subst P (sym is) write
   | inr no_write ↦ subst P (sym (same no_write)) other
@@ -76,10 +68,13 @@ pub differ : (s t : Status) → eqb (code_of s) (code_of t) ≡ false → s ≡ 
 differ s t apart e = eqb-false (code_of s) (code_of t) apart (ap code_of e)
 
 -- and by no other: a code tells each of the two from it
-pub line_not : {X : Type 0} (t result ended : Status) → (result ≢ status.WriteFault → result ≡ ended) → eqb (code_of status.WriteFault) (code_of t) ≡ false → eqb (code_of ended) (code_of t) ≡ false → result ≡ t → X
-line_not t result ended same write other e = absurd (line_ends (λ s. s ≡ t → ⊥) result ended same (differ status.WriteFault t write) (differ ended t other) e)
+pub line_not : {X : Type 0} (t result ended : Status) → (result ≢ status.WriteFault → result ≡ ended)
+    → eqb (code_of status.WriteFault) (code_of t) ≡ false → eqb (code_of ended) (code_of t) ≡ false → result ≡ t → X
+line_not t result ended same write other e =
+    absurd (line_ends (λ s. s ≡ t → ⊥) result ended same (differ status.WriteFault t write) (differ ended t other) e)
 
-pub on_map : (left reads : Option (List ℕ)) (P Q : List ℕ → List ℕ → Type 0) → ((disk input : List ℕ) → left ≡ Some input → reads ≡ Some disk → P disk input → Q disk input) → OnBoth left reads P → OnBoth left reads Q
+pub on_map : (left reads : Option (List ℕ)) (P Q : List ℕ → List ℕ → Type 0)
+    → ((disk input : List ℕ) → left ≡ Some input → reads ≡ Some disk → P disk input → Q disk input) → OnBoth left reads P → OnBoth left reads Q
 on_map None reads P Q f h = tt
 on_map (Some input) None P Q f h = tt
 on_map (Some input) (Some disk) P Q f h = f disk input refl refl h
@@ -88,83 +83,131 @@ appends_same : (old new : Option (List ℕ)) → new ≡ old → Appends old new
 appends_same old new e = subst (λ (o : Option (List ℕ)). Appends old o []) (sym e) (appends_none old)
 
 -- no text was written, which is a front of any
-front_none : (left reads : Option (List ℕ)) (old new : Option (List ℕ)) (text : List ℕ → List ℕ → List ℕ) → new ≡ old → OnBoth left reads (λ disk input. AppendsFront old new (text disk input))
-front_none left reads old new text e = on_both left reads _ (λ disk input l r. subst (λ (o : Option (List ℕ)). AppendsFront old o (text disk input)) (sym e) (text disk input, wrote_none old (text disk input)))
+front_none : (left reads : Option (List ℕ)) (old new : Option (List ℕ)) (text : List ℕ → List ℕ → List ℕ) → new ≡ old
+    → OnBoth left reads (λ disk input. AppendsFront old new (text disk input))
+front_none left reads old new text e = on_both left reads _ (λ disk input l r.
+    subst (λ (o : Option (List ℕ)). AppendsFront old o (text disk input)) (sym e) (text disk input, wrote_none old (text disk input)))
+
+-- what was told of the disk, where it tells its bytes
+told_at : (fresh : Bool) (stored : Stored) {reads : Option (List ℕ)} {disk : List ℕ} → IfSome reads (λ disk. Tells fresh disk (Ok stored))
+    → reads ≡ Some disk → Tells fresh disk (Ok stored)
+told_at fresh stored tells r = at_one (λ (d : List ℕ). Tells fresh d (Ok stored)) r tells
+
+-- the disk fits the feed, where what was found fits its head
+fits_at : (fresh : Bool) (stored : Stored) {left reads : Option (List ℕ)} {disk input : List ℕ} → IfSome reads (λ disk. Tells fresh disk (Ok stored))
+    → IfSome left (λ input. FitsStored stored (fed input).head) → left ≡ Some input → reads ≡ Some disk → Fits fresh disk input
+fits_at fresh stored {disk = disk} {input = input} tells fits l r =
+    fits_there fresh disk stored input (told_at fresh stored tells r) (at_one (λ (i : List ℕ). FitsStored stored (fed i).head) l fits)
 
 -- ---- the feed is of another chain
 
 -- the disk of another chain doesn't fit the feed
 pub other_misfits : (fresh : Bool) (disk input : List ℕ) → HasOtherChain disk input → Fits fresh disk input → ⊥
 other_misfits fresh disk input h fits =
-    h.other (subst (λ (r : Records). FitsHead fresh disk r (Some h.head)) h.found (subst (λ (o : Option Head). FitsHead fresh disk (records disk) o) h.begins fits))
+    h.other (subst (λ (r : Records). FitsHead fresh disk r (Some h.head)) h.found
+    (subst (λ (o : Option Head). FitsHead fresh disk (records disk) o) h.begins fits))
 
 -- so the chain of a node that was started is that of the feed
-pub fitting_chain : (fresh : Bool) (stored : Stored) (left reads after : Option (List ℕ)) (s : Status) → IfSome reads (λ disk. Tells fresh disk (Ok stored)) → IfSome left (λ input. FitsStored stored (fed input).head)
+pub fitting_chain : (fresh : Bool) (stored : Stored) (left reads after : Option (List ℕ)) (s : Status)
+    → IfSome reads (λ disk. Tells fresh disk (Ok stored)) → IfSome left (λ input. FitsStored stored (fed input).head)
     → OnBoth left reads (λ disk input. HasOtherChain disk input → EndsAtHead left after s)
 fitting_chain fresh stored left reads after s tells fits = on_both left reads _ (λ disk input l r other.
-    absurd (other_misfits fresh disk input other (fits_there fresh disk stored input (at_one (λ (d : List ℕ). Tells fresh d (Ok stored)) r tells) (at_one (λ (i : List ℕ). FitsStored stored (fed i).head) l fits))))
+    absurd (other_misfits fresh disk input other (fits_at fresh stored tells fits l r)))
 
 -- a feed without a head is of no chain
-headless_chain : (left reads after : Option (List ℕ)) (s : Status) → IfSome left (λ input. (fed input).head ≡ None) → OnBoth left reads (λ disk input. HasOtherChain disk input → EndsAtHead left after s)
+headless_chain : (left reads after : Option (List ℕ)) (s : Status) → IfSome left (λ input. (fed input).head ≡ None)
+    → OnBoth left reads (λ disk input. HasOtherChain disk input → EndsAtHead left after s)
 headless_chain left reads after s none = on_both left reads _ (λ disk input l r other. (
     let no : None ≡ Some other.head = sym (at_one (λ (i : List ℕ). (fed i).head ≡ None) l none) ∙ other.begins in absurd cc))
 
 -- where none was started, the head was taken at most
-pub untried_chain : (stored : Stored) {start now : Moment} {old new : Option (List ℕ)} {first last : DiskMoment} {result : Result (Unit {0}) KeepFault} (reads : Option (List ℕ)) (s : Status) → IsUntried stored start now old new first last result → EndsByChain s → (s ≡ status.DiskFault → ⊥)
+pub untried_chain : (stored : Stored) {start now : Moment} {old new : Option (List ℕ)} {first last : DiskMoment}
+    {result : Result (Unit {0}) KeepFault} (reads : Option (List ℕ)) (s : Status)
+    → IsUntried stored start now old new first last result → EndsByChain s → (s ≡ status.DiskFault → ⊥)
     → OnBoth start.left reads (λ disk input. HasOtherChain disk input → EndsAtHead start.left now.left s)
-untried_chain stored {start = start} reads s u ends not_disk = on_both start.left reads _ (λ disk input l r other. (ends, record { given = u.given; consumed = u.took.consumed; needed = u.headed; opened = λ e. absurd (not_disk e) }))
+untried_chain stored {start = start} reads s u ends not_disk = on_both start.left reads _ (λ disk input l r other. (
+  ends,
+  record { given = u.given; consumed = u.took.consumed; needed = u.headed; opened = λ e. absurd (not_disk e) },
+))
 
-module _ (fresh : Bool) (stored : Stored) {start now : Moment} (old : Option (List ℕ)) (first last : DiskMoment) (law : IsMoment first) (last_law : IsMoment last) (tells : IfSome first.reads (λ disk. Tells fresh disk (Ok stored))) where
-  untried_takes : {new : Option (List ℕ)} {result : Result (Unit {0}) KeepFault} → IsUntried stored start now old new first last result → TakesFeed (bytes_of stored) start.left now.left old old
-  untried_takes u = record { given = u.given; consumed = u.took.consumed; within = omega (arith, u.took.counted, u.took.within); needed = u.needed; answered = u.answered }
+module _ (path : List ℕ) (fresh : Bool) (stored : Stored) {start now : Moment} (old : Option (List ℕ)) (first last : DiskMoment)
+    (law : IsMoment first) (last_law : IsMoment last)
+    (tells : IfSome first.reads (λ disk. Tells fresh disk (Ok stored))) where
+  untried_takes : {new : Option (List ℕ)} {result : Result (Unit {0}) KeepFault} → IsUntried stored start now old new first last result
+      → TakesFeed (bytes_of stored) start.left now.left old old
+  untried_takes u = record {
+    given = u.given;
+    consumed = u.took.consumed;
+    within = omega (arith, u.took.counted, u.took.within);
+    needed = u.needed;
+    answered = u.answered;
+  }
 
   -- the end was read
-  pub exit_done : {new : Option (List ℕ)} → KeepAnswers stored start now old new first last (Ok tt) → KeptEnds fresh first.reads start.left now.left old new first last status.Done
+  pub exit_done : {new : Option (List ℕ)} → KeepAnswers stored start now old new first last (Ok tt)
+      → JobEnds (Some (jobs.Keep path fresh)) first.reads start.left now.left old new first last status.Done
   exit_done (inl u) = absurd u.why
   exit_done {new = new} (inr t) = record {
     by = (
-      on_map start.left first.reads _ _ (λ disk input l r h. (h.0, (fits_there fresh disk stored input (at_one (λ (d : List ℕ). Tells fresh d (Ok stored)) r tells) (at_one (λ (i : List ℕ). FitsStored stored (fed i).head) l t.1.fits), h.1)))
+      on_map start.left first.reads _ _ (λ disk input l r h. (h.0, (fits_at fresh stored tells t.1.fits l r, h.1)))
           (whole_text fresh stored start.left first.reads tells old new EndsWhole (fitting fresh stored start.left first.reads tells t.1.fits) (done_text t.0)),
       done_rest t.0,
     );
-    taken = feed_taken fresh stored start.left first.reads tells now.left old new (takes t.0);
+    taken = λ takes. absurd takes;
+    taken_fed = λ _. feed_taken fresh stored start.left first.reads tells now.left old new (takes t.0);
     onward = answered_stays fresh stored first last law tells {result = Ok tt} (inr t);
     chain = fitting_chain fresh stored start.left first.reads now.left status.Done tells t.1.fits;
-    recovery = on_both start.left first.reads _ (λ disk input l r. answered_recovery fresh disk input stored (at_one (λ (d : List ℕ). Tells fresh d (Ok stored)) r tells) new first last law r l t (t.1.whole (told_by first disk r)) status.Done);
+    crash = on_both start.left first.reads _ (λ disk input l r.
+        answered_recovery fresh disk input stored (told_at fresh stored tells r) new first last law r l t
+        (t.1.whole (told_by first disk r)) status.Done);
   }
 
   -- the sink failed at an answer
-  pub exit_write : {new : Option (List ℕ)} → KeepAnswers stored start now old new first last (Err WriteFault) → KeptEnds fresh first.reads start.left now.left old new first last status.WriteFault
+  pub exit_write : {new : Option (List ℕ)} → KeepAnswers stored start now old new first last (Err WriteFault)
+      → JobEnds (Some (jobs.Keep path fresh)) first.reads start.left now.left old new first last status.WriteFault
   exit_write (inl u) = absurd u.why
   exit_write {new = new} (inr t) = record {
-    by = front_of_text fresh stored start.left first.reads tells old new (fitting fresh stored start.left first.reads tells t.1.fits) (write_text t.0);
-    taken = feed_taken fresh stored start.left first.reads tells now.left old new (takes t.0);
+    by = front_of_text fresh stored start.left first.reads tells old new (fitting fresh stored start.left first.reads tells t.1.fits)
+        (write_text t.0);
+    taken = λ takes. absurd takes;
+    taken_fed = λ _. feed_taken fresh stored start.left first.reads tells now.left old new (takes t.0);
     onward = answered_stays fresh stored first last law tells {result = Err WriteFault} (inr t);
     chain = fitting_chain fresh stored start.left first.reads now.left status.WriteFault tells t.1.fits;
-    recovery = on_both start.left first.reads _ (λ disk input l r. stopped_recovery fresh disk input stored (at_one (λ (d : List ℕ). Tells fresh d (Ok stored)) r tells) first last law r l t status.WriteFault (λ e. cc));
+    crash = on_both start.left first.reads _ (λ disk input l r.
+        stopped_recovery fresh disk input stored (told_at fresh stored tells r) first last law r l t status.WriteFault (λ e. cc));
   }
 
   -- memory was refused
-  pub exit_memory : {new : Option (List ℕ)} → KeepAnswers stored start now old new first last (Err Memory) → KeptEnds fresh first.reads start.left now.left old new first last status.Memory
+  pub exit_memory : {new : Option (List ℕ)} → KeepAnswers stored start now old new first last (Err Memory)
+      → JobEnds (Some (jobs.Keep path fresh)) first.reads start.left now.left old new first last status.Memory
   exit_memory {new = new} (inl u) = record {
     by = front_none start.left first.reads old new (kept_output fresh) u.silent;
-    taken = subst (λ (o : Option (List ℕ)). IfSome first.reads (λ disk. TakesFeed (found_blocks disk) start.left now.left old o)) (sym u.silent) (feed_taken fresh stored start.left first.reads tells now.left old old (untried_takes u));
+    taken = λ takes. absurd takes;
+    taken_fed = λ _.
+        subst (λ (o : Option (List ℕ)). IfSome first.reads (λ disk. TakesFeed (found_blocks disk) start.left now.left old o)) (sym u.silent)
+        (feed_taken fresh stored start.left first.reads tells now.left old old (untried_takes u));
     onward = answered_stays fresh stored first last law tells {result = Err Memory} (inl u);
     chain = untried_chain stored first.reads status.Memory u tt (λ e. cc);
-    recovery = on_both start.left first.reads _ (λ disk input l r.
-        early_recovery fresh disk input now.left old new first last status.Memory law last_law r u.given (subst (λ (o : Option (List ℕ)). Consumes o now.left u.given) l u.took.consumed) u.why (appends_same old new u.silent) tt u.headed (λ e. cc));
+    crash = on_both start.left first.reads _ (λ disk input l r.
+        early_recovery fresh disk input now.left old new first last status.Memory law last_law r u.given
+        (subst (λ (o : Option (List ℕ)). Consumes o now.left u.given) l u.took.consumed)
+        u.why (appends_same old new u.silent) tt u.headed (λ e. cc));
   }
   exit_memory {new = new} (inr t) = record {
-    by = front_of_text fresh stored start.left first.reads tells old new (fitting fresh stored start.left first.reads tells t.1.fits) (memory_text t.0);
-    taken = feed_taken fresh stored start.left first.reads tells now.left old new (takes t.0);
+    by = front_of_text fresh stored start.left first.reads tells old new (fitting fresh stored start.left first.reads tells t.1.fits)
+        (memory_text t.0);
+    taken = λ takes. absurd takes;
+    taken_fed = λ _. feed_taken fresh stored start.left first.reads tells now.left old new (takes t.0);
     onward = answered_stays fresh stored first last law tells {result = Err Memory} (inr t);
     chain = fitting_chain fresh stored start.left first.reads now.left status.Memory tells t.1.fits;
-    recovery = on_both start.left first.reads _ (λ disk input l r. stopped_recovery fresh disk input stored (at_one (λ (d : List ℕ). Tells fresh d (Ok stored)) r tells) first last law r l t status.Memory (λ e. cc));
+    crash = on_both start.left first.reads _ (λ disk input l r.
+        stopped_recovery fresh disk input stored (told_at fresh stored tells r) first last law r l t status.Memory (λ e. cc));
   }
 
 -- ---- the disk failed
 
-module _ (fresh : Bool) (first last : DiskMoment) (law : IsMoment first) (last_law : IsMoment last) (old : Option (List ℕ)) (given : List ℕ) (headed : EndAtHead given) (m : IsAmiss given first last) where
+module _ (fresh : Bool) (first last : DiskMoment) (law : IsMoment first) (last_law : IsMoment last) (old : Option (List ℕ)) (given : List ℕ)
+    (headed : EndAtHead given) (m : IsAmiss given first last) where
   amiss_head : (fed given).head ≡ Some (head_of m.bits m.genesis.bytes)
   amiss_head = ap (λ (l : List ℕ). (fed l).head) (sym (append-nil given)) ∙ m.whole []
 
@@ -181,24 +224,29 @@ module _ (fresh : Bool) (first last : DiskMoment) (law : IsMoment first) (last_l
       ∙ ap (contents_under [] (Some (head_of m.bits m.genesis.bytes))) m.unread
       ∙ ap (λ r. contents_by [] r m.bits []) m.spelled
 
-  amiss_holds : (new : Option (List ℕ)) (image : List ℕ) → records image ≡ found (contents m.bits m.genesis.bytes []) → HoldsAtLeast 0 [] given image × HoldsAcknowledged [] given old new image
+  amiss_holds : (new : Option (List ℕ)) (image : List ℕ) → records image ≡ found (contents m.bits m.genesis.bytes [])
+      → HoldsAtLeast 0 [] given image × HoldsAcknowledged [] given old new image
   amiss_holds new image is =
       let here : records image ≡ found (contents_of [] given (all_of given)) = is ∙ ap found (sym amiss_contents) in
       (whole_front 0 (contents_of [] given (all_of given)) image (omega arith) here, holds_all [] given old new image here)
 
-  amiss_recovery : (gate : Gate) (disk input : List ℕ) (after new : Option (List ℕ)) → first.reads ≡ Some disk → Tells fresh disk (Ok (Empty gate)) → Consumes (Some input) after given → new ≡ old
+  amiss_recovery : (gate : Gate) (disk input : List ℕ) (after new : Option (List ℕ)) → first.reads ≡ Some disk → Tells fresh disk (Ok (Empty gate))
+      → Consumes (Some input) after given → new ≡ old
       → Recovery fresh disk input after old new first last status.DiskFault
   amiss_recovery gate disk input after new r t consumed silent =
       let none : records disk ≡ NoJournal = t.0.none in
-      let run : IsSynced first → Leaves first last (HoldsNoneOrNew (contents m.bits m.genesis.bytes [])) = λ synced. m.leaves (told_by first disk r) synced in
-      let fits : FitsStored (Empty gate) (fed input).head = with_input (λ i. FitsStored (Empty gate) (fed i).head) (Some input) after given consumed (λ rest e. subst (FitsStored (Empty gate)) (sym (m.whole rest)) tt) in
+      let early : IsEarly given old new status.DiskFault = record { ends = tt; silent = appends_same old new silent; headed = headed; unstarted = λ e. cc } in
+      let run : IsSynced first → Leaves first last (HoldsNoneOrNew (contents m.bits m.genesis.bytes [])) =
+      λ synced. m.leaves (told_by first disk r) synced in
+      let fits : FitsStored (Empty gate) (fed input).head = with_input (λ i. FitsStored (Empty gate) (fed i).head) (Some input) after given consumed
+      (λ rest e. subst (FitsStored (Empty gate)) (sym (m.whole rest)) tt) in
       record {
         given = given;
         consumed = consumed;
         now = λ fit sure image l.
             let synced = sure_synced first old new status.DiskFault (appends_same old new silent) (λ e. cc) sure in
             subst (λ (x : Records). Recovers x given old new status.DiskFault image) (sym none)
-            (⊎_elim (λ (no_one : records image ≡ NoJournal). inl (no_one, record { ends = tt; silent = appends_same old new silent; headed = headed; unstarted = λ e. cc })) (λ one. inr (amiss_holds new image one))
+            (⊎_elim (λ (no_one : records image ≡ NoJournal). inl (no_one, early)) (λ one. inr (amiss_holds new image one))
             (ends first last (HoldsNoneOrNew (contents m.bits m.genesis.bytes [])) last_law (run synced) image l));
         whole = λ fit done. absurd (let no : status.DiskFault ≡ status.Done = done in cc);
         any_moment = λ fit synced. subst (λ (x : Records). Leaves first last (HoldsFoundOrMore x given)) (sym none)
@@ -207,35 +255,56 @@ module _ (fresh : Bool) (first last : DiskMoment) (law : IsMoment first) (last_l
         other = λ misfit. absurd (misfit (fits_there fresh disk (Empty gate) input t fits));
       }
 
-exit_amiss : (fresh : Bool) (gate : Gate) {start now : Moment} (old : Option (List ℕ)) (first last : DiskMoment) → IsMoment first → IsMoment last → IfSome first.reads (λ disk. Tells fresh disk (Ok (Empty gate))) → {new : Option (List ℕ)}
-    → IsUntried (Empty gate) start now old new first last (Err DiskFault) → KeptEnds fresh first.reads start.left now.left old new first last status.DiskFault
-exit_amiss fresh gate {start = start} {now = now} old first last law last_law tells {new = new} u = record {
-  by = same_found fresh (Empty gate) start.left first.reads tells (λ (l : List (List ℕ)). (given : List ℕ) × Consumes start.left now.left given × Appends old new (replied_but_last l given))
-      (u.given, u.took.consumed, subst (λ (x : List ℕ). Appends old new x) (sym (amiss_silent fresh first last law last_law old u.given u.headed u.why)) (appends_same old new u.silent));
-  taken = subst (λ (o : Option (List ℕ)). IfSome first.reads (λ disk. TakesFeed (found_blocks disk) start.left now.left old o)) (sym u.silent) (feed_taken fresh (Empty gate) start.left first.reads tells now.left old old (untried_takes fresh (Empty gate) old first last law last_law tells u));
+exit_amiss : (path : List ℕ) (fresh : Bool) (gate : Gate) {start now : Moment} (old : Option (List ℕ)) (first last : DiskMoment) → IsMoment first
+    → IsMoment last
+    → IfSome first.reads (λ disk. Tells fresh disk (Ok (Empty gate))) → {new : Option (List ℕ)}
+    → IsUntried (Empty gate) start now old new first last (Err DiskFault)
+    → JobEnds (Some (jobs.Keep path fresh)) first.reads start.left now.left old new first last status.DiskFault
+exit_amiss path fresh gate {start = start} {now = now} old first last law last_law tells {new = new} u = record {
+  by = λ _. same_found fresh (Empty gate) start.left first.reads tells
+      (λ (l : List (List ℕ)). (given : List ℕ) × Consumes start.left now.left given × Appends old new (replied_but_last l given)) (
+        u.given,
+        u.took.consumed,
+        subst (λ (x : List ℕ). Appends old new x) (sym (amiss_silent fresh first last law last_law old u.given u.headed u.why))
+            (appends_same old new u.silent),
+      );
+  taken = λ takes. absurd takes;
+  taken_fed = λ _.
+      subst (λ (o : Option (List ℕ)). IfSome first.reads (λ disk. TakesFeed (found_blocks disk) start.left now.left old o)) (sym u.silent)
+      (feed_taken fresh (Empty gate) start.left first.reads tells now.left old old
+      (untried_takes path fresh (Empty gate) old first last law last_law tells u));
   onward = answered_stays fresh (Empty gate) first last law tells {result = Err DiskFault} (inl u);
-  chain = on_both start.left first.reads _ (λ disk input l r other. (
-      let no : NoJournal ≡ found other.contents = sym (at_one (λ (d : List ℕ). Tells fresh d (Ok (Empty gate))) r tells).0.none ∙ other.found in absurd cc));
-  recovery = on_both start.left first.reads _ (λ disk input l r.
-      amiss_recovery fresh first last law last_law old u.given u.headed u.why gate disk input now.left new r (at_one (λ (d : List ℕ). Tells fresh d (Ok (Empty gate))) r tells) (subst (λ (o : Option (List ℕ)). Consumes o now.left u.given) l u.took.consumed) u.silent);
+  chain = on_both start.left first.reads _ (λ disk input l r other.
+      (let no : NoJournal ≡ found other.contents = sym (told_at fresh (Empty gate) tells r).0.none ∙ other.found in absurd cc));
+  crash = on_both start.left first.reads _ (λ disk input l r.
+      amiss_recovery fresh first last law last_law old u.given u.headed u.why gate disk input now.left new r (told_at fresh (Empty gate) tells r)
+      (subst (λ (o : Option (List ℕ)). Consumes o now.left u.given) l u.took.consumed) u.silent);
 }
 
-pub exit_disk : (fresh : Bool) (stored : Stored) {start now : Moment} (old : Option (List ℕ)) (first last : DiskMoment) → IsMoment first → IsMoment last → IfSome first.reads (λ disk. Tells fresh disk (Ok stored)) → {new : Option (List ℕ)}
-    → KeepAnswers stored start now old new first last (Err DiskFault) → KeptEnds fresh first.reads start.left now.left old new first last status.DiskFault
-exit_disk fresh stored {start = start} {now = now} old first last law last_law tells {new = new} (inr t) = record {
-  by = same_found fresh stored start.left first.reads tells (λ (l : List (List ℕ)). (given : List ℕ) × Consumes start.left now.left given × Appends old new (replied_but_last l given)) (t.0.given, t.0.took.consumed, t.0.says.0);
-  taken = feed_taken fresh stored start.left first.reads tells now.left old new (takes t.0);
+pub exit_disk : (path : List ℕ) (fresh : Bool) (stored : Stored) {start now : Moment} (old : Option (List ℕ)) (first last : DiskMoment)
+    → IsMoment first → IsMoment last
+    → IfSome first.reads (λ disk. Tells fresh disk (Ok stored)) → {new : Option (List ℕ)}
+    → KeepAnswers stored start now old new first last (Err DiskFault)
+    → JobEnds (Some (jobs.Keep path fresh)) first.reads start.left now.left old new first last status.DiskFault
+exit_disk path fresh stored {start = start} {now = now} old first last law last_law tells {new = new} (inr t) = record {
+  by = λ _. same_found fresh stored start.left first.reads tells
+      (λ (l : List (List ℕ)). (given : List ℕ) × Consumes start.left now.left given × Appends old new (replied_but_last l given))
+      (t.0.given, t.0.took.consumed, t.0.says.0);
+  taken = λ takes. absurd takes;
+  taken_fed = λ _. feed_taken fresh stored start.left first.reads tells now.left old new (takes t.0);
   onward = answered_stays fresh stored first last law tells {result = Err DiskFault} (inr t);
   chain = fitting_chain fresh stored start.left first.reads now.left status.DiskFault tells t.1.fits;
-  recovery = on_both start.left first.reads _ (λ disk input l r. stopped_recovery fresh disk input stored (at_one (λ (d : List ℕ). Tells fresh d (Ok stored)) r tells) first last law r l t status.DiskFault (λ e. cc));
+  crash = on_both start.left first.reads _ (λ disk input l r.
+      stopped_recovery fresh disk input stored (told_at fresh stored tells r) first last law r l t status.DiskFault (λ e. cc));
 }
-exit_disk fresh (Empty gate) old first last law last_law tells (inl u) = exit_amiss fresh gate old first last law last_law tells u
-exit_disk fresh (Found o) old first last law last_law tells (inl u) = absurd u.why
+exit_disk path fresh (Empty gate) old first last law last_law tells (inl u) = exit_amiss path fresh gate old first last law last_law tells u
+exit_disk path fresh (Found o) old first last law last_law tells (inl u) = absurd u.why
 
 -- ---- the feed is at fault, or its source
 
 -- the messages were answered; or none was read
-feed_replies : (stored : Stored) {start now : Moment} {old mid : Option (List ℕ)} {first last : DiskMoment} (e : FeedFault) → KeepAnswers stored start now old mid first last (Err (Feed e)) → Replies (bytes_of stored) start now old mid (Err (replays.Feed e))
+feed_replies : (stored : Stored) {start now : Moment} {old mid : Option (List ℕ)} {first last : DiskMoment} (e : FeedFault)
+    → KeepAnswers stored start now old mid first last (Err (Feed e)) → Replies (bytes_of stored) start now old mid (Err (replays.Feed e))
 feed_replies stored e (inr t) = t.0
 feed_replies stored {start = start} {now = now} {old = old} {mid = mid} {first = first} {last = last} e (inl u) =
     subst (λ (o : Option (List ℕ)). Replies (bytes_of stored) start now old o (Err (replays.Feed e))) (sym u.silent) (record {
@@ -246,122 +315,161 @@ feed_replies stored {start = start} {now = now} {old = old} {mid = mid} {first =
       says = by e u.why;
     })
   where
-    by : (e : FeedFault) → UntriedBy stored start now u.given first last (Err (Feed e)) → SaysReply (bytes_of stored) start now old old u.given (Err (replays.Feed e))
+    by : (e : FeedFault) → UntriedBy stored start now u.given first last (Err (Feed e))
+        → SaysReply (bytes_of stored) start now old old u.given (Err (replays.Feed e))
     by (faults.Malformed at) w = fault_says (bytes_of stored) start now old old u.given None [] (faults.Malformed at) w.0 (appends_none old)
     by (faults.Truncated at) w = fault_says (bytes_of stored) start now old old u.given None [] (faults.Truncated at) (w.0, w.1) (appends_none old)
     by faults.ReadFault w = fault_says (bytes_of stored) start now old old u.given None [] faults.ReadFault (w.0, w.1) (appends_none old)
     by (faults.TooLong taken) w = fault_says (bytes_of stored) start now old old u.given None [] (faults.TooLong taken) w.0 (appends_none old)
 
 -- the head is none, or that of the chain
-headless : (stored : Stored) (start now : Moment) (given : List ℕ) (first last : DiskMoment) (e : FeedFault) → (e ≡ faults.ReadFault → ⊥) → Consumes start.left now.left given → UntriedBy stored start now given first last (Err (Feed e)) → IfSome start.left (λ input. (fed input).head ≡ None)
-headless stored start now given first last (faults.Malformed at) other took w = with_input (λ i. (fed i).head ≡ None) start.left now.left given took (λ rest x. ap (λ (f : FeedOf). f.head) (w.0 rest))
-headless stored start now given first last (faults.Truncated at) other took w = with_input (λ i. (fed i).head ≡ None) start.left now.left given took (λ rest x.
-    let none : rest ≡ [] = subst IsAtEnd x w.1 in ap (λ (l : List ℕ). (fed (given ++ l)).head) none ∙ ap (λ (l : List ℕ). (fed l).head) (append-nil given) ∙ ap (λ (f : FeedOf). f.head) w.0)
+headless : (stored : Stored) (start now : Moment) (given : List ℕ) (first last : DiskMoment) (e : FeedFault) → (e ≡ faults.ReadFault → ⊥)
+    → Consumes start.left now.left given → UntriedBy stored start now given first last (Err (Feed e))
+    → IfSome start.left (λ input. (fed input).head ≡ None)
+headless stored start now given first last (faults.Malformed at) other took w =
+    with_input (λ i. (fed i).head ≡ None) start.left now.left given took (λ rest x. ap (λ (f : FeedOf). f.head) (w.0 rest))
+headless stored start now given first last (faults.Truncated at) other took w = with_input (λ i. (fed i).head ≡ None) start.left now.left given took
+    (λ rest x.
+    let none : rest ≡ [] = subst IsAtEnd x w.1 in
+    ap (λ (l : List ℕ). (fed (given ++ l)).head) none ∙ ap (λ (l : List ℕ). (fed l).head) (append-nil given) ∙ ap (λ (f : FeedOf). f.head) w.0)
 headless stored start now given first last faults.ReadFault other took w = absurd (other refl)
-headless stored start now given first last (faults.TooLong taken) other took w = with_input (λ i. (fed i).head ≡ None) start.left now.left given took (λ rest x. ap (λ (f : FeedOf). f.head) (w.0 rest))
+headless stored start now given first last (faults.TooLong taken) other took w =
+    with_input (λ i. (fed i).head ≡ None) start.left now.left given took (λ rest x. ap (λ (f : FeedOf). f.head) (w.0 rest))
 
-looked : (stored : Stored) (start now : Moment) (given : List ℕ) (first last : DiskMoment) (e : FeedFault) → UntriedBy stored start now given first last (Err (Feed e)) → Looks first last
+looked : (stored : Stored) (start now : Moment) (given : List ℕ) (first last : DiskMoment) (e : FeedFault)
+    → UntriedBy stored start now given first last (Err (Feed e)) → Looks first last
 looked stored start now given first last (faults.Malformed at) w = w.1
 looked stored start now given first last (faults.Truncated at) w = w.2
 looked stored start now given first last faults.ReadFault w = w.2
 looked stored start now given first last (faults.TooLong taken) w = w.1
 
 -- where a read failed, no whole head had come
-unheaded : (stored : Stored) (start now : Moment) (given : List ℕ) (first last : DiskMoment) (e : FeedFault) → e ≡ faults.ReadFault → UntriedBy stored start now given first last (Err (Feed e)) → (fed given).head ≡ None
+unheaded : (stored : Stored) (start now : Moment) (given : List ℕ) (first last : DiskMoment) (e : FeedFault) → e ≡ faults.ReadFault
+    → UntriedBy stored start now given first last (Err (Feed e)) → (fed given).head ≡ None
 unheaded stored start now given first last (faults.Malformed at) is w = absurd cc
 unheaded stored start now given first last (faults.Truncated at) is w = absurd cc
 unheaded stored start now given first last faults.ReadFault is w = ap (λ (f : FeedOf). f.head) w.0
 unheaded stored start now given first last (faults.TooLong taken) is w = absurd cc
 
 is_read : (e : FeedFault) → (e ≡ faults.ReadFault) ⊎ (e ≡ faults.ReadFault → ⊥)
-is_read (faults.Malformed at) = inr (λ x. cc)
-is_read (faults.Truncated at) = inr (λ x. cc)
 is_read faults.ReadFault = inl refl
-is_read (faults.TooLong taken) = inr (λ x. cc)
+is_read other = inr (λ x. cc)
 
-module _ (fresh : Bool) (stored : Stored) {start now : Moment} (old : Option (List ℕ)) (first last : DiskMoment) (law : IsMoment first) (last_law : IsMoment last) (tells : IfSome first.reads (λ disk. Tells fresh disk (Ok stored)))
-    {mid : Option (List ℕ)} (new : Option (List ℕ)) (e : FeedFault) (a : KeepAnswers stored start now old mid first last (Err (Feed e))) (result : Status)
-    (same : result ≢ status.WriteFault → result ≡ status_of e) (text : result ≢ status.WriteFault → Appends mid new (feed_fault_text e)) (front : AppendsFront mid new (feed_fault_text e)) (read : e ≡ faults.ReadFault → result ≡ status.ReadFault) where
+-- by each status that a feed's fault gives
+pub feed_status : (P : Status → Type 0) (e : FeedFault) → P status.Malformed → P status.Truncated → P status.ReadFault → P status.TooLong
+    → P (status_of e)
+feed_status P (faults.Malformed at) malformed truncated read long = malformed
+feed_status P (faults.Truncated at) malformed truncated read long = truncated
+feed_status P faults.ReadFault malformed truncated read long = read
+feed_status P (faults.TooLong taken) malformed truncated read long = long
+
+module _ (path : List ℕ) (fresh : Bool) (stored : Stored) {start now : Moment} (old : Option (List ℕ)) (first last : DiskMoment)
+    (law : IsMoment first) (last_law : IsMoment last) (tells : IfSome first.reads (λ disk. Tells fresh disk (Ok stored)))
+    {mid : Option (List ℕ)} (new : Option (List ℕ)) (e : FeedFault) (a : KeepAnswers stored start now old mid first last (Err (Feed e)))
+    (result : Status) (same : result ≢ status.WriteFault → result ≡ status_of e)
+    (text : result ≢ status.WriteFault → Appends mid new (feed_fault_text e)) (front : AppendsFront mid new (feed_fault_text e))
+    (read : e ≡ faults.ReadFault → result ≡ status.ReadFault) where
   r : Replies (bytes_of stored) start now old mid (Err (replays.Feed e))
   r = feed_replies stored e a
 
   accepted : (e ≡ faults.ReadFault → ⊥) → IfSome start.left (λ input. Accepts stored (fed input).head)
   accepted other = elim a [
     | inr t ↦ fitting fresh stored start.left first.reads tells t.1.fits
-    | inl u ↦ on_one start.left _ (λ input l. subst (Accepts stored) (sym (at_one (λ (i : List ℕ). (fed i).head ≡ None) l (headless stored start now u.given first last e other u.took.consumed u.why))) tt)
+    | inl u ↦ on_one start.left _ (λ input l.
+        let none = at_one (λ (i : List ℕ). (fed i).head ≡ None) l (headless stored start now u.given first last e other u.took.consumed u.why) in
+        subst (Accepts stored) (sym none) tt)
   ]
 
+  -- the line wasn't written whole
   cut : result ≡ status.WriteFault → OnBoth start.left first.reads (λ disk input. AppendsFront old new (kept_output fresh disk input))
   cut is =
       let other : (e ≡ faults.ReadFault → ⊥) = λ h. (let no : status.WriteFault ≡ status.ReadFault = sym is ∙ read h in cc) in
       front_of_text fresh stored start.left first.reads tells old new (accepted other) (fault_front new e r other front)
 
-  written : (e ≡ faults.ReadFault → ⊥) → Appends mid new (feed_fault_text e) → (P : End → Type 0) → ((end : End) → Ends e end → P end) → OnBoth start.left first.reads (λ disk input. Appends old new (kept_output fresh disk input) × P (fed input).end)
-  written other b P f = on_map start.left first.reads _ _ (λ disk input l x h. (h.0, f (fed input).end h.1)) (whole_text fresh stored start.left first.reads tells old new (Ends e) (accepted other) (fault_written new e r other b))
+  -- it was
+  written : (e ≡ faults.ReadFault → ⊥) → Appends mid new (feed_fault_text e) → (P : End → Type 0) → ((end : End) → Ends e end → P end)
+      → OnBoth start.left first.reads (λ disk input. Appends old new (kept_output fresh disk input) × P (fed input).end)
+  written other b P f = on_map start.left first.reads _ _ (λ disk input l x h. (h.0, f (fed input).end h.1))
+      (whole_text fresh stored start.left first.reads tells old new (Ends e) (accepted other) (fault_written new e r other b))
 
-  feed_taken_now : IfSome first.reads (λ disk. TakesFeed (found_blocks disk) start.left now.left old new)
-  feed_taken_now = feed_taken fresh stored start.left first.reads tells now.left old new (takes_then (bytes_of stored) start.left now.left old mid new (feed_fault_text e) (takes r) front)
+  -- by the fault
+  by_fault : (f : FeedFault) → e ≡ f → Appends mid new (feed_fault_text e)
+      → WritesBy (Some (jobs.Keep path fresh)) first.reads start.left now.left old new (status_of f)
+  by_fault (faults.Malformed at) is b = (
+    written (λ h. let no : faults.Malformed at ≡ faults.ReadFault = sym is ∙ h in cc) b EndsMalformed
+        (λ end h. is_malformed e end (ap status_of is) h),
+    λ takes. absurd takes,
+  )
+  by_fault (faults.Truncated at) is b = (
+    written (λ h. let no : faults.Truncated at ≡ faults.ReadFault = sym is ∙ h in cc) b EndsTruncated
+        (λ end h. is_truncated e end (ap status_of is) h),
+    nothing_left e r (ap status_of is),
+  )
+  by_fault faults.ReadFault is b = λ _.
+      let t = subst (λ (f : FeedFault). Replies (bytes_of stored) start now old mid (Err (replays.Feed f))) is r in
+      let none = subst (λ (f : FeedFault). Appends mid new (feed_fault_text f)) is b in
+      let lines = replied (bytes_of stored) t.given in
+      same_found fresh stored start.left first.reads tells
+      (λ (l : List (List ℕ)). (given : List ℕ) × Consumes start.left now.left given × Appends old new (replied l given))
+      (t.given, t.took.consumed, subst (λ (x : List ℕ). Appends old new x) (append-nil lines) (appends_then old mid new lines [] t.says.0 none))
+  by_fault (faults.TooLong taken) is b = (
+    written (λ h. let no : faults.TooLong taken ≡ faults.ReadFault = sym is ∙ h in cc) b EndsTooLong
+        (λ end h. is_too_long e end (ap status_of is) h),
+    limit_taken e r (ap status_of is),
+  )
 
--- by each status that a feed's fault gives
-pub feed_status : (P : Status → Type 0) (e : FeedFault) → P status.Malformed → P status.Truncated → P status.ReadFault → P status.TooLong → P (status_of e)
-feed_status P (faults.Malformed at) malformed truncated read long = malformed
-feed_status P (faults.Truncated at) malformed truncated read long = truncated
-feed_status P faults.ReadFault malformed truncated read long = read
-feed_status P (faults.TooLong taken) malformed truncated read long = long
+  consumed_of : (u : IsUntried stored start now old mid first last (Err (Feed e))) {input : List ℕ} → start.left ≡ Some input
+      → Consumes (Some input) now.left u.given
+  consumed_of u l = subst (λ (o : Option (List ℕ)). Consumes o now.left u.given) l u.took.consumed
 
--- by the fault
-by_fault : (fresh : Bool) (stored : Stored) {start now : Moment} (old : Option (List ℕ)) (first last : DiskMoment) → IsMoment first → IsMoment last → (tells : IfSome first.reads (λ disk. Tells fresh disk (Ok stored)))
-    → {mid : Option (List ℕ)} (new : Option (List ℕ)) (e : FeedFault) → KeepAnswers stored start now old mid first last (Err (Feed e)) → Appends mid new (feed_fault_text e) → AppendsFront mid new (feed_fault_text e) → EndsBy fresh first.reads start.left now.left old new (status_of e)
-by_fault fresh stored old first last law last_law tells new (faults.Malformed at) a b front =
-    written fresh stored old first last law last_law tells new (faults.Malformed at) a status.Malformed (λ h. refl) (λ h. b) front (λ h. cc) (λ h. cc) b EndsMalformed (is_malformed_end at)
-  where
-    is_malformed_end : (at : ℕ) (end : End) → Ends (faults.Malformed at) end → EndsMalformed end
-    is_malformed_end at end h = is_malformed (faults.Malformed at) end refl h
-by_fault fresh stored {start = start} {now = now} old first last law last_law tells new (faults.Truncated at) a b front = (
-  written fresh stored old first last law last_law tells new (faults.Truncated at) a status.Truncated (λ h. refl) (λ h. b) front (λ h. cc) (λ h. cc) b EndsTruncated (λ end h. is_truncated (faults.Truncated at) end refl h),
-  nothing_left (faults.Truncated at) (feed_replies stored (faults.Truncated at) a) refl,
-)
-by_fault fresh stored {start = start} {now = now} old first last law last_law tells {mid = mid} new faults.ReadFault a b front =
-    let r = feed_replies stored faults.ReadFault a in
-    same_found fresh stored start.left first.reads tells (λ (l : List (List ℕ)). (given : List ℕ) × Consumes start.left now.left given × Appends old new (replied l given))
-    (r.given, r.took.consumed, subst (λ (x : List ℕ). Appends old new x) (append-nil (replied (bytes_of stored) r.given)) (appends_then old mid new (replied (bytes_of stored) r.given) [] r.says.0 b))
-by_fault fresh stored {start = start} {now = now} old first last law last_law tells new (faults.TooLong taken) a b front = (
-  written fresh stored old first last law last_law tells new (faults.TooLong taken) a status.TooLong (λ h. refl) (λ h. b) front (λ h. cc) (λ h. cc) b EndsTooLong (λ end h. is_too_long (faults.TooLong taken) end refl h),
-  limit_taken (faults.TooLong taken) (feed_replies stored (faults.TooLong taken) a) refl,
-)
+  -- of a failed read no line is written
+  silent : IsUntried stored start now old mid first last (Err (Feed e)) → e ≡ faults.ReadFault → Appends old new []
+  silent u is =
+      let whole = text (λ h. let no : status.WriteFault ≡ status.ReadFault = sym h ∙ read is in cc) in
+      let none = subst (λ (f : FeedFault). Appends mid new (feed_fault_text f)) is whole in
+      subst (λ (o : Option (List ℕ)). Appends o new []) u.silent none
 
-pub exit_feed : (fresh : Bool) (stored : Stored) {start now : Moment} (old : Option (List ℕ)) (first last : DiskMoment) → IsMoment first → IsMoment last → (tells : IfSome first.reads (λ disk. Tells fresh disk (Ok stored)))
-    → {mid : Option (List ℕ)} (new : Option (List ℕ)) (e : FeedFault) → KeepAnswers stored start now old mid first last (Err (Feed e)) → (result : Status)
-    → (result ≢ status.WriteFault → result ≡ status_of e) → (result ≢ status.WriteFault → Appends mid new (feed_fault_text e)) → AppendsFront mid new (feed_fault_text e) → (e ≡ faults.ReadFault → result ≡ status.ReadFault)
-    → KeptEnds fresh first.reads start.left now.left old new first last result
-exit_feed fresh stored {start = start} {now = now} old first last law last_law tells {mid = mid} new e a result same text front read = record {
-  by = elim (is_write result) [
-    | inl is ↦ subst (EndsBy fresh first.reads start.left now.left old new) (sym is) (cut fresh stored old first last law last_law tells new e a result same text front read is)
-    | inr no_write ↦ subst (EndsBy fresh first.reads start.left now.left old new) (sym (same no_write)) (by_fault fresh stored old first last law last_law tells new e a (text no_write) front)
-  ];
-  taken = feed_taken_now fresh stored old first last law last_law tells new e a result same text front read;
-  onward = answered_stays fresh stored first last law tells a;
-  chain = elim a [
-    | inr t ↦ fitting_chain fresh stored start.left first.reads now.left result tells t.1.fits
-    | inl u ↦ elim (is_read e) [
-      | inl is ↦ untried_chain stored first.reads result u (subst EndsByChain (sym (read is)) tt) (λ d. (let no : status.ReadFault ≡ status.DiskFault = sym (read is) ∙ d in cc))
-      | inr other ↦ headless_chain start.left first.reads now.left result (headless stored start now u.given first last e other u.took.consumed u.why)
-    ]
-  ];
-  recovery = on_both start.left first.reads _ (λ disk input l x.
-      let t = at_one (λ (d : List ℕ). Tells fresh d (Ok stored)) x tells in
-      elim a [
-        | inr tried ↦ answered_recovery fresh disk input stored t new first last law x l tried (tried.1.whole (told_by first disk x)) result
-        | inl u ↦ elim (is_read e) [
-          | inl is ↦ (let silent : Appends old new [] = (let b = subst (λ (f : FeedFault). Appends mid new (feed_fault_text f)) is (text (λ h. let no : status.WriteFault ≡ status.ReadFault = sym h ∙ read is in cc)) in subst (λ (o : Option (List ℕ)). Appends o new []) u.silent b) in
-              subst (Recovery fresh disk input now.left old new first last) (sym (read is))
-              (early_recovery fresh disk input now.left old new first last status.ReadFault law last_law x u.given (subst (λ (o : Option (List ℕ)). Consumes o now.left u.given) l u.took.consumed) (looked stored start now u.given first last e u.why) silent tt u.headed (λ f. unheaded stored start now u.given first last e is u.why)))
-          | inr other ↦ other_recovery fresh disk input now.left old new first last result law last_law x u.given (subst (λ (o : Option (List ℕ)). Consumes o now.left u.given) l u.took.consumed) (looked stored start now u.given first last e u.why)
-              (λ fits. let none = at_one (λ (i : List ℕ). (fed i).head ≡ None) l (headless stored start now u.given first last e other u.took.consumed u.why) in
-              let no : FitsStored stored None = subst (FitsStored stored) none (fits_here fresh disk stored input t fits) in absurd no)
-        ]
-      ]);
-}
+  -- what a crash leaves, where no node was started
+  untried_recovery : (u : IsUntried stored start now old mid first last (Err (Feed e))) (disk input : List ℕ) → start.left ≡ Some input
+      → first.reads ≡ Some disk
+      → Recovery fresh disk input now.left old new first last result
+  untried_recovery u disk input l x = elim (is_read e) [
+    | inl is ↦ subst (Recovery fresh disk input now.left old new first last) (sym (read is))
+        (early_recovery fresh disk input now.left old new first last status.ReadFault law last_law x u.given (consumed_of u l)
+        (looked stored start now u.given first last e u.why) (silent u is) tt u.headed (λ f. unheaded stored start now u.given first last e is u.why))
+    | inr other ↦ other_recovery fresh disk input now.left old new first last result law last_law x u.given (consumed_of u l)
+        (looked stored start now u.given first last e u.why) (λ fits.
+        let none = at_one (λ (i : List ℕ). (fed i).head ≡ None) l (headless stored start now u.given first last e other u.took.consumed u.why) in
+        let no : FitsStored stored None = subst (FitsStored stored) none
+        (fits_here fresh disk stored input (told_at fresh stored tells x) fits) in absurd no)
+  ]
+
+  pub exit_feed : JobEnds (Some (jobs.Keep path fresh)) first.reads start.left now.left old new first last result
+  exit_feed = record {
+    by = elim (is_write result) [
+      | inl is ↦ subst (WritesBy (Some (jobs.Keep path fresh)) first.reads start.left now.left old new) (sym is) (cut is)
+      | inr no_write ↦ subst (WritesBy (Some (jobs.Keep path fresh)) first.reads start.left now.left old new) (sym (same no_write))
+          (by_fault e refl (text no_write))
+    ];
+    taken = λ takes. absurd takes;
+    taken_fed = λ _. feed_taken fresh stored start.left first.reads tells now.left old new
+        (takes_then (bytes_of stored) start.left now.left old mid new (feed_fault_text e) (takes r) front);
+    onward = answered_stays fresh stored first last law tells a;
+    chain = elim a [
+      | inr t ↦ fitting_chain fresh stored start.left first.reads now.left result tells t.1.fits
+      | inl u ↦ elim (is_read e) [
+        | inl is ↦ untried_chain stored first.reads result u (subst EndsByChain (sym (read is)) tt)
+            (λ d. (let no : status.ReadFault ≡ status.DiskFault = sym (read is) ∙ d in cc))
+        | inr other ↦ headless_chain start.left first.reads now.left result
+            (headless stored start now u.given first last e other u.took.consumed u.why)
+      ]
+    ];
+    crash = on_both start.left first.reads _ (λ disk input l x. elim a [
+      | inr tried ↦ answered_recovery fresh disk input stored (told_at fresh stored tells x) new first last law x l tried
+          (tried.1.whole (told_by first disk x)) result
+      | inl u ↦ untried_recovery u disk input l x
+    ]);
+  }
 
 -- ---- the journal is that of another chain
 
@@ -369,91 +477,121 @@ exit_feed fresh stored {start = start} {now = now} old first last law last_law t
 other_parts : {a1 a2 b1 b2 c1 c2 d1 d2 : ℕ} → OtherChain a2 b2 c2 d2 ≡ OtherChain a1 b1 c1 d1 → (a2 ≡ a1) × (b2 ≡ b1) × (c2 ≡ c1) × (d2 ≡ d1)
 other_parts e = (cc e, cc e, cc e, cc e)
 
-pub exit_other : (fresh : Bool) (stored : Stored) {start now : Moment} (old : Option (List ℕ)) (first last : DiskMoment) → IsMoment first → IsMoment last → (tells : IfSome first.reads (λ disk. Tells fresh disk (Ok stored)))
-    → {mid : Option (List ℕ)} (new : Option (List ℕ)) (b c d e : ℕ) → KeepAnswers stored start now old mid first last (Err (OtherChain b c d e)) → (result : Status)
-    → (result ≢ status.WriteFault → result ≡ status.OtherChain) → (result ≢ status.WriteFault → Appends mid new (other_chain_text b c d e)) → AppendsFront mid new (other_chain_text b c d e)
-    → KeptEnds fresh first.reads start.left now.left old new first last result
-exit_other fresh stored old first last law last_law tells new b c d e (inr t) result same text front = absurd t
-exit_other fresh stored {start = start} {now = now} old first last law last_law tells {mid = mid} new b c d e (inl u) result same text front = record {
-  by = elim (is_write result) [
-    | inl is ↦ subst (EndsBy fresh first.reads start.left now.left old new) (sym is) (on_both start.left first.reads _ (λ disk input l x.
-        subst (λ (o : List ℕ). AppendsFront old new o) (sym (is_text disk input l x).0) (subst (λ (o : Option (List ℕ)). AppendsFront o new (other_chain_text b c d e)) u.silent front)))
-    | inr no_write ↦ subst (EndsBy fresh first.reads start.left now.left old new) (sym (same no_write)) (on_both start.left first.reads _ (λ disk input l x.
-        (subst (λ (o : List ℕ). Appends old new o) (sym (is_text disk input l x).0) (subst (λ (o : Option (List ℕ)). Appends o new (other_chain_text b c d e)) u.silent (text no_write)), (is_text disk input l x).1)))
-  ];
-  taken = feed_taken fresh stored start.left first.reads tells now.left old new (takes_then (bytes_of stored) start.left now.left old mid new (other_chain_text b c d e)
-      (subst (λ (o : Option (List ℕ)). TakesFeed (bytes_of stored) start.left now.left old o) (sym u.silent) (untried_takes fresh stored old first last law last_law tells u)) front);
-  onward = answered_stays fresh stored first last law tells {result = Err (OtherChain b c d e)} (inl u);
-  chain = untried_chain stored first.reads result u (line_ends EndsByChain result status.OtherChain same tt tt) (line_ends (λ s. s ≡ status.DiskFault → ⊥) result status.OtherChain same (λ e. cc) (λ e. cc));
-  recovery = on_both start.left first.reads _ (λ disk input l x. other_recovery fresh disk input now.left old new first last result law last_law x u.given (subst (λ (o : Option (List ℕ)). Consumes o now.left u.given) l u.took.consumed) u.why.1
-      (λ fits. u.why.0.other (subst (FitsStored stored) (head_is disk input l) (fits_here fresh disk stored input (at_one (λ (y : List ℕ). Tells fresh y (Ok stored)) x tells) fits))));
-}
+pub exit_other : (path : List ℕ) (fresh : Bool) (stored : Stored) {start now : Moment} (old : Option (List ℕ)) (first last : DiskMoment)
+    → IsMoment first → IsMoment last
+    → (tells : IfSome first.reads (λ disk. Tells fresh disk (Ok stored))) → {mid : Option (List ℕ)} (new : Option (List ℕ)) (b c d e : ℕ)
+    → KeepAnswers stored start now old mid first last (Err (OtherChain b c d e)) → (result : Status)
+    → (result ≢ status.WriteFault → result ≡ status.OtherChain)
+    → (result ≢ status.WriteFault → Appends mid new (other_chain_text b c d e)) → AppendsFront mid new (other_chain_text b c d e)
+    → JobEnds (Some (jobs.Keep path fresh)) first.reads start.left now.left old new first last result
+exit_other path fresh stored old first last law last_law tells new b c d e (inr t) result same text front = absurd t
+exit_other path fresh stored {start = start} {now = now} old first last law last_law tells {mid = mid} new b c d e
+    (inl u) result same text front = record {
+      by = elim (is_write result) [
+        | inl is ↦ subst (WritesBy (Some (jobs.Keep path fresh)) first.reads start.left now.left old new) (sym is)
+            (on_both start.left first.reads _ (λ disk input l x.
+            subst (λ (o : List ℕ). AppendsFront old new o) (sym (is_text disk input l x).0)
+            (subst (λ (o : Option (List ℕ)). AppendsFront o new (other_chain_text b c d e)) u.silent front)))
+        | inr no_write ↦ subst (WritesBy (Some (jobs.Keep path fresh)) first.reads start.left now.left old new) (sym (same no_write))
+            (on_both start.left first.reads _ (λ disk input l x. (
+              subst (λ (o : List ℕ). Appends old new o) (sym (is_text disk input l x).0)
+                  (subst (λ (o : Option (List ℕ)). Appends o new (other_chain_text b c d e)) u.silent (text no_write)),
+              (is_text disk input l x).1,
+            )))
+      ];
+      taken = λ takes. absurd takes;
+      taken_fed = λ _.
+          feed_taken fresh stored start.left first.reads tells now.left old new
+          (takes_then (bytes_of stored) start.left now.left old mid new (other_chain_text b c d e)
+          (subst (λ (o : Option (List ℕ)). TakesFeed (bytes_of stored) start.left now.left old o) (sym u.silent)
+          (untried_takes path fresh stored old first last law last_law tells u)) front);
+      onward = answered_stays fresh stored first last law tells {result = Err (OtherChain b c d e)} (inl u);
+      chain = untried_chain stored first.reads result u (line_ends EndsByChain result status.OtherChain same tt tt)
+          (line_ends (λ s. s ≡ status.DiskFault → ⊥) result status.OtherChain same (λ e. cc) (λ e. cc));
+      crash = on_both start.left first.reads _ (λ disk input l x.
+          other_recovery fresh disk input now.left old new first last result law last_law x u.given
+          (subst (λ (o : Option (List ℕ)). Consumes o now.left u.given) l u.took.consumed) u.why.1
+          (λ fits. u.why.0.other
+          (subst (FitsStored stored) (head_is disk input l) (fits_here fresh disk stored input (told_at fresh stored tells x) fits))));
+    }
   where
     head_is : (disk input : List ℕ) → start.left ≡ Some input → (fed input).head ≡ Some u.why.0.head
-    head_is disk input l = at_one (λ (i : List ℕ). (fed i).head ≡ Some u.why.0.head) l (with_input (λ i. (fed i).head ≡ Some u.why.0.head) start.left now.left u.given u.took.consumed (λ rest x. u.why.0.whole rest))
+    head_is disk input l = at_one (λ (i : List ℕ). (fed i).head ≡ Some u.why.0.head) l
+        (with_input (λ i. (fed i).head ≡ Some u.why.0.head) start.left now.left u.given u.took.consumed (λ rest x. u.why.0.whole rest))
 
-    named : (s : Stored) (disk input : List ℕ) (h : Head) → Tells fresh disk (Ok s) → (fed input).head ≡ Some h → (FitsStored s (Some h) → ⊥) → NamesBothOf s h (OtherChain b c d e) → (kept_output fresh disk input ≡ other_chain_text b c d e) × HasOtherChain disk input
+    named : (s : Stored) (disk input : List ℕ) (h : Head) → Tells fresh disk (Ok s) → (fed input).head ≡ Some h → (FitsStored s (Some h) → ⊥)
+        → NamesBothOf s h (OtherChain b c d e)
+        → (kept_output fresh disk input ≡ other_chain_text b c d e) × HasOtherChain disk input
     named (Empty gate) disk input h t is other names = absurd names
     named (Found o) disk input h t is other names = (
       other_is fresh disk o input h t is other ∙ same_text names,
       record { contents = contents_in o; found = t; head = h; begins = is; other = other },
     )
       where
-        same_text : {a1 a2 b1 b2 c1 c2 d1 d2 : ℕ} → OtherChain a2 b2 c2 d2 ≡ OtherChain a1 b1 c1 d1 → other_chain_text a1 b1 c1 d1 ≡ other_chain_text a2 b2 c2 d2
+        same_text : {a1 a2 b1 b2 c1 c2 d1 d2 : ℕ} → OtherChain a2 b2 c2 d2 ≡ OtherChain a1 b1 c1 d1
+            → other_chain_text a1 b1 c1 d1 ≡ other_chain_text a2 b2 c2 d2
         same_text eq = let p = other_parts eq in (λ i. other_chain_text (sym p.0 i) (sym p.1 i) (sym p.2 i) (sym p.3 i))
 
-    is_text : (disk input : List ℕ) → start.left ≡ Some input → first.reads ≡ Some disk → (kept_output fresh disk input ≡ other_chain_text b c d e) × HasOtherChain disk input
-    is_text disk input l x = named stored disk input u.why.0.head (at_one (λ (y : List ℕ). Tells fresh y (Ok stored)) x tells) (head_is disk input l) u.why.0.other u.why.0.names
+    is_text : (disk input : List ℕ) → start.left ≡ Some input → first.reads ≡ Some disk
+        → (kept_output fresh disk input ≡ other_chain_text b c d e) × HasOtherChain disk input
+    is_text disk input l x = named stored disk input u.why.0.head (told_at fresh stored tells x) (head_is disk input l) u.why.0.other u.why.0.names
 
 -- ---- the opening of the disk comes first
 
 synced_on : (first mid : DiskMoment) → Looks first mid → IsSynced first → IsSynced mid
 synced_on first mid looks synced =
     subst (λ (o : Option (List ℕ)). IfSome o (λ bytes. EachIs bytes mid.images)) (sym looks.reads)
-    (on_one first.reads (λ bytes. EachIs bytes mid.images) (λ bytes e image left. at_one (λ (b : List ℕ). EachIs b first.images) e synced image (looks.crash image left)))
+    (on_one first.reads (λ bytes. EachIs bytes mid.images)
+    (λ bytes e image left. at_one (λ (b : List ℕ). EachIs b first.images) e synced image (looks.crash image left)))
 
 sure_on : (first mid : DiskMoment) (old new : Option (List ℕ)) (s : Status) → Looks first mid → IsSure first old new s → IsSure mid old new s
 sure_on first mid old new s looks (inl synced) = inl (synced_on first mid looks synced)
 sure_on first mid old new s looks (inr more) = inr more
 
-recovery_on : (fresh : Bool) (disk input : List ℕ) (after old new : Option (List ℕ)) (first mid last : DiskMoment) (s : Status) → IsMoment first → first.reads ≡ Some disk → Looks first mid → Recovery fresh disk input after old new mid last s → Recovery fresh disk input after old new first last s
+recovery_on : (fresh : Bool) (disk input : List ℕ) (after old new : Option (List ℕ)) (first mid last : DiskMoment) (s : Status) → IsMoment first
+    → first.reads ≡ Some disk → Looks first mid → Recovery fresh disk input after old new mid last s
+    → Recovery fresh disk input after old new first last s
 recovery_on fresh disk input after old new first mid last s law reads looks r = record {
   given = r.given;
   consumed = r.consumed;
   now = λ fits sure. r.now fits (sure_on first mid old new s looks sure);
   whole = r.whole;
-  any_moment = λ fits synced. joined first mid last (λ image. records image ≡ records disk) (HoldsFoundOrMore (records disk) r.given) (HoldsFoundOrMore (records disk) r.given)
+  any_moment = λ fits synced.
+      joined first mid last (λ image. records image ≡ records disk) (HoldsFoundOrMore (records disk) r.given)
+      (HoldsFoundOrMore (records disk) r.given)
       (looked_since first mid law disk reads looks synced) (r.any_moment fits (synced_on first mid looks synced)) (λ image h. inl h) (λ image h. h);
   other = λ misfit. looks_then first mid last law looks (r.other misfit);
 }
 
-pub ends_on : (fresh : Bool) (before after old new : Option (List ℕ)) (first mid last : DiskMoment) (s : Status) → IsMoment first → Looks first mid → KeptEnds fresh mid.reads before after old new mid last s → KeptEnds fresh first.reads before after old new first last s
-ends_on fresh before after old new first mid last s law looks k = record {
-  by = subst (λ (o : Option (List ℕ)). EndsBy fresh o before after old new s) looks.reads k.by;
-  taken = subst (λ (o : Option (List ℕ)). IfSome o (λ disk. TakesFeed (found_blocks disk) before after old new)) looks.reads k.taken;
-  onward = on_one first.reads _ (λ disk r synced. joined first mid last (λ image. records image ≡ records disk) (HoldsOnward (records disk)) (HoldsOnward (records disk)) (looked_since first mid law disk r looks synced)
-      (at_one (λ (d : List ℕ). IsSynced mid → Leaves mid last (HoldsOnward (records d))) (looks.reads ∙ r) k.onward (synced_on first mid looks synced)) (λ image h. inl h) (λ image h. h));
+pub ends_on : (path : List ℕ) (fresh : Bool) (before after old new : Option (List ℕ)) (first mid last : DiskMoment) (s : Status) → IsMoment first
+    → Looks first mid
+    → JobEnds (Some (jobs.Keep path fresh)) mid.reads before after old new mid last s
+    → JobEnds (Some (jobs.Keep path fresh)) first.reads before after old new first last s
+ends_on path fresh before after old new first mid last s law looks k = record {
+  by = subst (λ (o : Option (List ℕ)). WritesBy (Some (jobs.Keep path fresh)) o before after old new s) looks.reads k.by;
+  taken = λ takes. absurd takes;
+  taken_fed = λ _.
+      subst (λ (o : Option (List ℕ)). IfSome o (λ disk. TakesFeed (found_blocks disk) before after old new)) looks.reads (k.taken_fed tt);
+  onward = on_one first.reads _ (λ disk r synced.
+      joined first mid last (λ image. records image ≡ records disk) (HoldsOnward (records disk)) (HoldsOnward (records disk))
+      (looked_since first mid law disk r looks synced)
+      (at_one (λ (d : List ℕ). IsSynced mid → Leaves mid last (HoldsOnward (records d))) (looks.reads ∙ r) k.onward
+      (synced_on first mid looks synced)) (λ image h. inl h) (λ image h. h));
   chain = subst (λ (o : Option (List ℕ)). OnBoth before o (λ disk input. HasOtherChain disk input → EndsAtHead before after s)) looks.reads k.chain;
-  recovery = on_map before first.reads _ _ (λ disk input l r h. recovery_on fresh disk input after old new first mid last s law r looks h)
-      (subst (λ (o : Option (List ℕ)). OnBoth before o (λ disk input. Recovery fresh disk input after old new mid last s)) looks.reads k.recovery);
+  crash = on_map before first.reads _ _ (λ disk input l r h. recovery_on fresh disk input after old new first mid last s law r looks h)
+      (subst (λ (o : Option (List ℕ)). OnBoth before o (λ disk input. Recovery fresh disk input after old new mid last s)) looks.reads k.crash);
 }
 
 -- ---- the disk wasn't opened
 
 -- what ends a run early may end it where the feed is of another chain, and nothing of it was taken
 early_chain : (s : Status) → EndsEarly s → EndsByChain s
-early_chain status.Done early = early
-early_chain status.Usage early = early
-early_chain status.Malformed early = early
-early_chain status.Truncated early = early
 early_chain status.ReadFault early = tt
 early_chain status.WriteFault early = tt
 early_chain status.DiskFault early = tt
-early_chain status.NotJournal early = early
 early_chain status.OtherChain early = tt
 early_chain status.Memory early = tt
-early_chain status.Damaged early = early
-early_chain status.TooLong early = early
+early_chain other early = early
 
 pub nothing_headed : (left : Option (List ℕ)) (s : Status) → EndsByChain s → EndsAtHead left left s
 nothing_headed left s ends = (ends, record { given = []; consumed = none left; needed = none_ends; opened = λ e. refl })
@@ -475,7 +613,8 @@ nothing_taken arrived left old = record {
     none None = tt
     none (Some xs) = refl
 
-module _ (fresh : Bool) (left old : Option (List ℕ)) (first last : DiskMoment) (law : IsMoment first) (last_law : IsMoment last) (looks : Looks first last) where
+module _ (path : List ℕ) (fresh : Bool) (left old : Option (List ℕ)) (first last : DiskMoment) (law : IsMoment first) (last_law : IsMoment last)
+    (looks : Looks first last) where
   none_consumed : (input : List ℕ) → left ≡ Some input → Consumes (Some input) left []
   none_consumed input l = subst (λ (o : Option (List ℕ)). Consumes (Some input) o []) (sym l) refl
 
@@ -484,24 +623,28 @@ module _ (fresh : Bool) (left old : Option (List ℕ)) (first last : DiskMoment)
   nothing_begun = refl
 
   -- an early end
-  pub exit_early : (s : Status) → EndsEarly s → EndsBy fresh first.reads left left old old s → KeptEnds fresh first.reads left left old old first last s
+  pub exit_early : (s : Status) → EndsEarly s → WritesBy (Some (jobs.Keep path fresh)) first.reads left left old old s
+      → JobEnds (Some (jobs.Keep path fresh)) first.reads left left old old first last s
   exit_early s early by = record {
     by = by;
-    taken = on_one first.reads _ (λ disk r. nothing_taken (found_blocks disk) left old);
+    taken = λ takes. absurd takes;
+    taken_fed = λ _. on_one first.reads _ (λ disk r. nothing_taken (found_blocks disk) left old);
     onward = looked_stays first last law looks;
     chain = on_both left first.reads _ (λ disk input l r other. nothing_headed left s (early_chain s early));
-    recovery = on_both left first.reads _ (λ disk input l r. early_recovery fresh disk input left old old first last s law last_law r [] (none_consumed input l) looks (appends_none old) early none_ends (λ e. nothing_begun));
+    crash = on_both left first.reads _ (λ disk input l r.
+        early_recovery fresh disk input left old old first last s law last_law r [] (none_consumed input l) looks (appends_none old) early none_ends
+        (λ e. nothing_begun));
   }
 
-  pub silent_memory : EndsBy fresh first.reads left left old old status.Memory
+  pub silent_memory : WritesBy (Some (jobs.Keep path fresh)) first.reads left left old old status.Memory
   silent_memory = front_none left first.reads old old (kept_output fresh) refl
 
   no_lines : (before : List (List ℕ)) → Appends old old (replied_but_last before [])
   unfolding feed placed head_form bind
   no_lines before = appends_none old
 
-  pub silent_disk : EndsBy fresh first.reads left left old old status.DiskFault
-  silent_disk = on_one first.reads _ (λ disk r. ([], none left, no_lines (found_blocks disk)))
+  pub silent_disk : WritesBy (Some (jobs.Keep path fresh)) first.reads left left old old status.DiskFault
+  silent_disk = λ _. on_one first.reads _ (λ disk r. ([], none left, no_lines (found_blocks disk)))
     where
       none : (o : Option (List ℕ)) → Consumes o o []
       none None = tt
@@ -512,15 +655,22 @@ module _ (fresh : Bool) (left old : Option (List ℕ)) (first last : DiskMoment)
       → (result ≢ status.WriteFault → result ≡ status_is) → (result ≢ status.WriteFault → Appends old new text) → AppendsFront old new text
       → ((disk input : List ℕ) → first.reads ≡ Some disk → (kept_output fresh disk input ≡ text) × (Fits fresh disk input → ⊥))
       → ((disk : List ℕ) (c : Contents) → first.reads ≡ Some disk → records disk ≡ found c → ⊥)
-      → (OnBoth left first.reads (λ disk input. Appends old new (kept_output fresh disk input)) → EndsBy fresh first.reads left left old new status_is)
-      → KeptEnds fresh first.reads left left old new first last result
+      → (OnBoth left first.reads (λ disk input. Appends old new (kept_output fresh disk input))
+      → WritesBy (Some (jobs.Keep path fresh)) first.reads left left old new status_is)
+      → JobEnds (Some (jobs.Keep path fresh)) first.reads left left old new first last result
   exit_line new text status_is result same whole front says unfound ends_by = record {
     by = elim (is_write result) [
-      | inl is ↦ subst (EndsBy fresh first.reads left left old new) (sym is) (on_both left first.reads _ (λ disk input l r. subst (λ (t : List ℕ). AppendsFront old new t) (sym (says disk input r).0) front))
-      | inr no_write ↦ subst (EndsBy fresh first.reads left left old new) (sym (same no_write)) (ends_by (on_both left first.reads _ (λ disk input l r. subst (λ (t : List ℕ). Appends old new t) (sym (says disk input r).0) (whole no_write))))
+      | inl is ↦ subst (WritesBy (Some (jobs.Keep path fresh)) first.reads left left old new) (sym is)
+          (on_both left first.reads _ (λ disk input l r. subst (λ (t : List ℕ). AppendsFront old new t) (sym (says disk input r).0) front))
+      | inr no_write ↦ subst (WritesBy (Some (jobs.Keep path fresh)) first.reads left left old new) (sym (same no_write))
+          (ends_by (on_both left first.reads _ (λ disk input l r.
+          subst (λ (t : List ℕ). Appends old new t) (sym (says disk input r).0) (whole no_write))))
     ];
-    taken = on_one first.reads _ (λ disk r. takes_then (found_blocks disk) left left old old new text (nothing_taken (found_blocks disk) left old) front);
+    taken = λ takes. absurd takes;
+    taken_fed = λ _.
+        on_one first.reads _ (λ disk r. takes_then (found_blocks disk) left left old old new text (nothing_taken (found_blocks disk) left old) front);
     onward = looked_stays first last law looks;
     chain = on_both left first.reads _ (λ disk input l r other. absurd (unfound disk other.contents r other.found));
-    recovery = on_both left first.reads _ (λ disk input l r. other_recovery fresh disk input left old new first last result law last_law r [] (none_consumed input l) looks (says disk input r).1);
+    crash = on_both left first.reads _ (λ disk input l r.
+        other_recovery fresh disk input left old new first last result law last_law r [] (none_consumed input l) looks (says disk input r).1);
   }

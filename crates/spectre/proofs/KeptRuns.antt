@@ -28,7 +28,6 @@ use Rattle.spectre.specs.Chains.{EndAtHead}
 use Rattle.spectre.specs.Crashes.{all_of, contents_by, contents_of, contents_under, EndsEarly, HoldsAcknowledged, HoldsAtLeast, HoldsFoundOrMore, IsSure, Recovery, TookMore}
 use Rattle.spectre.specs.Journals.{blocks_in, chained, Fits, FitsHead, found_blocks, IsChainOf, is_chain_of, damaged_text, HasNoJournal, kept_by, kept_output, may_be_new, not_journal_text, other_chain_text}
 use Rattle.spectre.specs.Keeping.{bytes_of, FitsStored, records_in, Tries}
-use Rattle.spectre.specs.Kept.{OnBoth}
 use Rattle.spectre.specs.Replay.{fed, replayed}
 use Rattle.spectre.specs.declared.status.Status.{Status}
 use Rattle.spectre.specs.declared.status.Status.TheVariants as status
@@ -37,6 +36,9 @@ use Rattle.spectre.specs.declared.replay.ReplayFault.{ReplayFault}
 use Rattle.spectre.proofs.Running.{front_fewer, whole_front}
 
 -- ---- where source and disk tell their bytes
+
+abbrev pub OnBoth : Option (List ℕ) → Option (List ℕ) → (List ℕ → List ℕ → Type 0) → Type 0
+OnBoth left reads P = IfSome left (λ input. IfSome reads (λ disk. P disk input))
 
 pub on_both : (left reads : Option (List ℕ)) (P : List ℕ → List ℕ → Type 0) → ((disk input : List ℕ) → left ≡ Some input → reads ≡ Some disk → P disk input) → OnBoth left reads P
 on_both None reads P f = tt

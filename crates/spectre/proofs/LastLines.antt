@@ -1,11 +1,12 @@
 -- A run that ends by a fault of the input, or of what the disk holds, wrote that fault's own line last: it follows from what was
 -- written by the status, since the disk comes first, then the chain of the feed, and then the feed.
-use Rattle.std.proofs.Common.{◌≡◌, inl, inr, ℕ, ◌==◌, ◌||◌, Bool, true, false, cond, List, [], ◌++◌, length, Option, Some, None, IfSome, IsSome, refl, sym, ap, subst, ◌∙◌}
+use Rattle.std.proofs.Common.{◌≡◌, ◌⊎◌, inl, inr, ℕ, ◌==◌, ◌||◌, Bool, true, false, cond, List, [], ◌++◌, length, Option, Some, None, IfSome, IsSome, refl, sym, ap, subst, ◌∙◌}
 use Rattle.std.specs.Io.KnownBytes.{Appends}
 use Rattle.std.proofs.lemmas.Bool.{eq-eqb}
+use Rattle.sp_disk.specs.Moments.{Moment}
 use Rattle.sp_ids.specs.Digest.{sha256_number}
 use Rattle.sp_engine.specs.Blocks.{block_in}
-use Rattle.sp_feed.specs.Feed.{End, Malformed, TooLong, Truncated, Whole}
+use Rattle.sp_feed.specs.Feed.{End, Malformed, TooLong, Truncated}
 use Rattle.sp_feed.specs.Format.{Head}
 use Rattle.sp_journal.specs.Journal.{Contents}
 use Rattle.sp_journal.specs.Records.{Damaged, Found, NoJournal, Records, records}
@@ -17,12 +18,12 @@ use Rattle.sp_play.specs.declared.why.LineFault.{LineFault}
 use Rattle.sp_report.specs.Lines.{too_long_text}
 use Rattle.spectre.specs.Chains.{EndsAtHead, EndsByChain}
 use Rattle.spectre.specs.Ends.{EndsByDisk}
-use Rattle.spectre.specs.Faults.{EndsMalformed, EndsTooLong, EndsTruncated, IsDamaged, IsDiskAtFault, IsKeptAtFault, IsMalformed, IsNoJournal, IsOtherChain, IsTooLong, IsTruncated}
-use Rattle.spectre.specs.JobEnds.{WritesBy}
-use Rattle.spectre.specs.Journals.{chained, found_blocks, blocks_in, HasOtherChain, is_chain_of, kept_by, kept_output, may_be_new, not_journal_text, other_chain_text, shown_by, shown_output}
+use Rattle.spectre.specs.Faults.{EndsMalformed, EndsTooLong, EndsTruncated, IsDamaged, IsDiskAtFault, IsMalformed, IsNoJournal, IsOtherChain, IsTooLong, IsTruncated}
+use Rattle.spectre.specs.JobEnds.{JobEnds, WritesBy}
+use Rattle.spectre.specs.Journals.{chained, found_blocks, blocks_in, HasNoJournal, HasOtherChain, IsDamagedDisk, is_chain_of, kept_by, kept_output, may_be_new, not_journal_text, other_chain_text, shown_by, shown_output}
 use Rattle.spectre.specs.LastLine.{AreLines, EndsInLine, IsLineOf, NamesFault}
 use Rattle.spectre.specs.Lines.{fault_text}
-use Rattle.spectre.specs.Output.{OnDisk, OnInput, output_by}
+use Rattle.spectre.specs.Output.{disk_told, input_told, OnDisk, OnInput, output_by}
 use Rattle.spectre.specs.Replay.{end_text, fed, lines_under, replayed, replied}
 use Rattle.spectre.specs.Scenes.{built, drilled, played, scene_lines, summary_in, unless_faulty}
 use Rattle.spectre.specs.declared.job.Job.{Job}
@@ -57,7 +58,7 @@ replied_lines before input = by (fed input).head
     by (Some head) = all_lines no_labels (block_in true head.genesis) head.bits before (fed input).messages
 
 -- where the disk isn't at fault, nor the feed of another chain, the output is what the feed says
-module _ (fresh : Bool) (disk input : List ℕ) (right : IsKeptAtFault fresh disk → ⊥) (same : HasOtherChain disk input → ⊥) where
+module _ (fresh : Bool) (disk input : List ℕ) (right : HasNoJournal fresh disk ⊎ IsDamagedDisk disk → ⊥) (same : HasOtherChain disk input → ⊥) where
   not_or : (a b : Bool) → (a || b) ≡ false → (a ≡ false) × (b ≡ false)
   not_or true b e = absurd (let no : true ≡ false = e in cc)
   not_or false b e = (refl, e)
@@ -89,22 +90,16 @@ module _ (fresh : Bool) (disk input : List ℕ) (right : IsKeptAtFault fresh dis
 
 -- the feed's end, and its line
 at_malformed : (end : End) → EndsMalformed end → (at : ℕ) × (end ≡ Malformed at)
-at_malformed (Whole rest) h = absurd h
 at_malformed (Malformed at) h = (at, refl)
-at_malformed (Truncated at) h = absurd h
-at_malformed (TooLong taken) h = absurd h
+at_malformed other h = absurd h
 
 at_truncated : (end : End) → EndsTruncated end → (at : ℕ) × (end ≡ Truncated at)
-at_truncated (Whole rest) h = absurd h
-at_truncated (Malformed at) h = absurd h
 at_truncated (Truncated at) h = (at, refl)
-at_truncated (TooLong taken) h = absurd h
+at_truncated other h = absurd h
 
 at_too_long : (end : End) → EndsTooLong end → (taken : ℕ) × (end ≡ TooLong taken)
-at_too_long (Whole rest) h = absurd h
-at_too_long (Malformed at) h = absurd h
-at_too_long (Truncated at) h = absurd h
 at_too_long (TooLong taken) h = (taken, refl)
+at_too_long other h = absurd h
 
 -- what a feed says ends with the line of its end
 fed_line : {job : Option Job} {disk : List ℕ} {s : Status} {old new : Option (List ℕ)} (before : List (List ℕ)) (input text : List ℕ) (end : End) → text ≡ replayed before input → (fed input).end ≡ end → IsLineOf job disk input s (end_text end) → Appends old new text
@@ -155,76 +150,50 @@ other_says fresh disk input h =
 
 module _ {old new : Option (List ℕ)} where
   malformed : (job : Option Job) (disk input : List ℕ) → Appends old new (output_by job disk input) → IsMalformed job input → (IsDiskAtFault job disk → ⊥) → (IsOtherChain job disk input → ⊥) → EndsInLine job disk input status.Malformed old new
-  malformed None disk input took bad right same = absurd bad
   malformed (Some jobs.Replay) disk input took bad right same =
       let at = at_malformed (fed input).end bad in fed_line [] input (replayed [] input) (Malformed at.0) refl at.1 (inl (tt, (at.0, at.1, refl))) took
   malformed (Some (jobs.Keep path fresh)) disk input took bad right same =
       let at = at_malformed (fed input).end bad in fed_line (found_blocks disk) input (kept_output fresh disk input) (Malformed at.0) (kept_replayed fresh disk input right same) at.1 (inl (tt, (at.0, at.1, refl))) took
-  malformed (Some (jobs.Show path)) disk input took bad right same = absurd bad
   malformed (Some jobs.Play) disk input took bad right same =
       played_line (scene input) _ (output_short Play input (is_short (length input) bad.short)) bad.wrong (λ fault is. inr (record { scene = scene input; plays = refl; fault = fault; has = is; is = refl })) took
   malformed (Some jobs.Build) disk input took bad right same =
       let b = built_is (scene input) in
       lone_line (scene input) _ b.0 (output_short Build input (is_short (length input) bad.short) ∙ b.1) bad.wrong (λ fault is. inr (record { scene = scene input; plays = refl; fault = fault; has = is; is = refl })) took
-  malformed (Some (jobs.Make n seed width)) disk input took bad right same = absurd bad
   malformed (Some (jobs.Drill n seed width)) disk input took bad right same =
       let s = scene (made n seed width) in
       lone_line s _ (summary_in s) (drilled_is s) bad (λ fault is. inr (record { scene = s; plays = refl; fault = fault; has = is; is = refl })) took
+  malformed other disk input took bad right same = absurd bad
 
   truncated : (job : Option Job) (disk input : List ℕ) → Appends old new (output_by job disk input) → IsTruncated job input → (IsDiskAtFault job disk → ⊥) → (IsOtherChain job disk input → ⊥) → EndsInLine job disk input status.Truncated old new
-  truncated None disk input took bad right same = absurd bad
   truncated (Some jobs.Replay) disk input took bad right same =
       let at = at_truncated (fed input).end bad in fed_line [] input (replayed [] input) (Truncated at.0) refl at.1 (tt, (at.0, at.1, refl)) took
   truncated (Some (jobs.Keep path fresh)) disk input took bad right same =
       let at = at_truncated (fed input).end bad in fed_line (found_blocks disk) input (kept_output fresh disk input) (Truncated at.0) (kept_replayed fresh disk input right same) at.1 (tt, (at.0, at.1, refl)) took
-  truncated (Some (jobs.Show path)) disk input took bad right same = absurd bad
-  truncated (Some jobs.Play) disk input took bad right same = absurd bad
-  truncated (Some jobs.Build) disk input took bad right same = absurd bad
-  truncated (Some (jobs.Make n seed width)) disk input took bad right same = absurd bad
-  truncated (Some (jobs.Drill n seed width)) disk input took bad right same = absurd bad
+  truncated other disk input took bad right same = absurd bad
 
   too_long : (job : Option Job) (disk input : List ℕ) → Appends old new (output_by job disk input) → IsTooLong job input → (IsDiskAtFault job disk → ⊥) → (IsOtherChain job disk input → ⊥) → EndsInLine job disk input status.TooLong old new
-  too_long None disk input took bad right same = absurd bad
   too_long (Some jobs.Replay) disk input took bad right same =
       let at = at_too_long (fed input).end bad in fed_line [] input (replayed [] input) (TooLong at.0) refl at.1 (inl (tt, (at.0, at.1, refl))) took
   too_long (Some (jobs.Keep path fresh)) disk input took bad right same =
       let at = at_too_long (fed input).end bad in fed_line (found_blocks disk) input (kept_output fresh disk input) (TooLong at.0) (kept_replayed fresh disk input right same) at.1 (inl (tt, (at.0, at.1, refl))) took
-  too_long (Some (jobs.Show path)) disk input took bad right same = absurd bad
   too_long (Some jobs.Play) disk input took bad right same = alone _ (too_long_text scenario_limit) (output_long Play input (is_long (length input) bad)) (inr (tt, refl)) took
   too_long (Some jobs.Build) disk input took bad right same = alone _ (too_long_text scenario_limit) (output_long Build input (is_long (length input) bad)) (inr (tt, refl)) took
-  too_long (Some (jobs.Make n seed width)) disk input took bad right same = absurd bad
-  too_long (Some (jobs.Drill n seed width)) disk input took bad right same = absurd bad
+  too_long other disk input took bad right same = absurd bad
 
   no_journal : (job : Option Job) (disk input : List ℕ) → Appends old new (output_by job disk input) → IsNoJournal job disk → EndsInLine job disk input status.NotJournal old new
-  no_journal None disk input took bad = absurd bad
-  no_journal (Some jobs.Replay) disk input took bad = absurd bad
   no_journal (Some (jobs.Keep path fresh)) disk input took bad = alone _ not_journal_text (none_says fresh disk input bad).0 (bad.none, refl) took
   no_journal (Some (jobs.Show path)) disk input took bad = alone _ not_journal_text (shown_is disk NoJournal bad) (bad, refl) took
-  no_journal (Some jobs.Play) disk input took bad = absurd bad
-  no_journal (Some jobs.Build) disk input took bad = absurd bad
-  no_journal (Some (jobs.Make n seed width)) disk input took bad = absurd bad
-  no_journal (Some (jobs.Drill n seed width)) disk input took bad = absurd bad
+  no_journal other disk input took bad = absurd bad
 
   damaged : (job : Option Job) (disk input : List ℕ) → Appends old new (output_by job disk input) → IsDamaged job disk → EndsInLine job disk input status.Damaged old new
-  damaged None disk input took bad = absurd bad
-  damaged (Some jobs.Replay) disk input took bad = absurd bad
   damaged (Some (jobs.Keep path fresh)) disk input took bad = alone _ _ (damaged_says fresh disk input bad.0 bad.1).0 (bad.0, bad.1, refl) took
   damaged (Some (jobs.Show path)) disk input took bad = alone _ _ (shown_is disk (Damaged bad.0) bad.1) (bad.0, bad.1, refl) took
-  damaged (Some jobs.Play) disk input took bad = absurd bad
-  damaged (Some jobs.Build) disk input took bad = absurd bad
-  damaged (Some (jobs.Make n seed width)) disk input took bad = absurd bad
-  damaged (Some (jobs.Drill n seed width)) disk input took bad = absurd bad
+  damaged other disk input took bad = absurd bad
 
   other_chain : (job : Option Job) (disk input : List ℕ) → Appends old new (output_by job disk input) → IsOtherChain job disk input → EndsInLine job disk input status.OtherChain old new
-  other_chain None disk input took bad = absurd bad
-  other_chain (Some jobs.Replay) disk input took bad = absurd bad
   other_chain (Some (jobs.Keep path fresh)) disk input took bad =
       alone _ _ (other_says fresh disk input bad) (record { contents = bad.contents; found = bad.found; head = bad.head; begins = bad.begins; is = refl }) took
-  other_chain (Some (jobs.Show path)) disk input took bad = absurd bad
-  other_chain (Some jobs.Play) disk input took bad = absurd bad
-  other_chain (Some jobs.Build) disk input took bad = absurd bad
-  other_chain (Some (jobs.Make n seed width)) disk input took bad = absurd bad
-  other_chain (Some (jobs.Drill n seed width)) disk input took bad = absurd bad
+  other_chain other disk input took bad = absurd bad
 
 -- ---- where source and disk tell their bytes
 
@@ -233,24 +202,10 @@ if_two None P Q R f p q = tt
 if_two (Some x) P Q R f p q = f x p q
 
 in_two : (job : Option Job) (left : Option (List ℕ)) (P Q R : List ℕ → Type 0) → ((x : List ℕ) → P x → Q x → R x) → OnInput job left P → OnInput job left Q → OnInput job left R
-in_two None left P Q R f p q = f [] p q
-in_two (Some jobs.Replay) left P Q R f p q = if_two left P Q R f p q
-in_two (Some (jobs.Keep path fresh)) left P Q R f p q = if_two left P Q R f p q
-in_two (Some (jobs.Show path)) left P Q R f p q = f [] p q
-in_two (Some jobs.Play) left P Q R f p q = if_two left P Q R f p q
-in_two (Some jobs.Build) left P Q R f p q = if_two left P Q R f p q
-in_two (Some (jobs.Make n seed width)) left P Q R f p q = f [] p q
-in_two (Some (jobs.Drill n seed width)) left P Q R f p q = f [] p q
+in_two job left P Q R f p q = if_two (input_told job left) P Q R f p q
 
 on_two : (job : Option Job) (reads : Option (List ℕ)) (P Q R : List ℕ → Type 0) → ((disk : List ℕ) → P disk → Q disk → R disk) → OnDisk job reads P → OnDisk job reads Q → OnDisk job reads R
-on_two None reads P Q R f p q = f [] p q
-on_two (Some jobs.Replay) reads P Q R f p q = f [] p q
-on_two (Some (jobs.Keep path fresh)) reads P Q R f p q = if_two reads P Q R f p q
-on_two (Some (jobs.Show path)) reads P Q R f p q = if_two reads P Q R f p q
-on_two (Some jobs.Play) reads P Q R f p q = f [] p q
-on_two (Some jobs.Build) reads P Q R f p q = f [] p q
-on_two (Some (jobs.Make n seed width)) reads P Q R f p q = f [] p q
-on_two (Some (jobs.Drill n seed width)) reads P Q R f p q = f [] p q
+on_two job reads P Q R f p q = if_two (disk_told job reads) P Q R f p q
 
 -- what is asked of the disk and of the chain before a feed is answered
 abbrev pub First : Option Job → Option (List ℕ) → Status → Type 0 → Type 0
@@ -275,16 +230,20 @@ module _ (job : Option Job) (reads before after old new : Option (List ℕ)) (Q 
       → OnInput job before (λ input. OnDisk job reads (λ disk. Appends old new (output_by job disk input) × Bad disk input)) → Ends job reads before old new s
   of_disk s Bad f by = in_two job before _ (λ input. Unit {0}) _ (λ input b u. on_two job reads _ (λ disk. Unit {0}) _ (λ disk wrote v. f disk input wrote.0 wrote.1) b (on_all job reads _ (λ disk. tt))) by (in_all job before _ (λ input. tt))
 
-  pub last_line : (s : Status) → NamesFault s → WritesBy job reads before after old new s → First job reads s Q → Chain job reads before after s → Ends job reads before old new s
-  last_line status.Done names by first chain = absurd names
-  last_line status.Usage names by first chain = absurd names
-  last_line status.Malformed names by first chain = of_feed status.Malformed (λ disk input. IsMalformed job input) (λ no. no) (λ no. no) (malformed job) by.0 first chain
-  last_line status.Truncated names by first chain = of_feed status.Truncated (λ disk input. IsTruncated job input) (λ no. no) (λ no. no) (truncated job) by.0 first chain
-  last_line status.ReadFault names by first chain = absurd names
-  last_line status.WriteFault names by first chain = absurd names
-  last_line status.DiskFault names by first chain = absurd names
-  last_line status.NotJournal names by first chain = of_disk status.NotJournal (λ disk input. IsNoJournal job disk) (no_journal job) by
-  last_line status.OtherChain names by first chain = of_disk status.OtherChain (λ disk input. IsOtherChain job disk input) (other_chain job) by
-  last_line status.Memory names by first chain = absurd names
-  last_line status.Damaged names by first chain = of_disk status.Damaged (λ disk input. IsDamaged job disk) (damaged job) by
-  last_line status.TooLong names by first chain = of_feed status.TooLong (λ disk input. IsTooLong job input) (λ no. no) (λ no. no) (too_long job) by.0 first chain
+  by_status : (s : Status) → NamesFault s → WritesBy job reads before after old new s → First job reads s Q → Chain job reads before after s → Ends job reads before old new s
+  by_status status.Done names by first chain = absurd names
+  by_status status.Usage names by first chain = absurd names
+  by_status status.Malformed names by first chain = of_feed status.Malformed (λ disk input. IsMalformed job input) (λ no. no) (λ no. no) (malformed job) by.0 first chain
+  by_status status.Truncated names by first chain = of_feed status.Truncated (λ disk input. IsTruncated job input) (λ no. no) (λ no. no) (truncated job) by.0 first chain
+  by_status status.ReadFault names by first chain = absurd names
+  by_status status.WriteFault names by first chain = absurd names
+  by_status status.DiskFault names by first chain = absurd names
+  by_status status.NotJournal names by first chain = of_disk status.NotJournal (λ disk input. IsNoJournal job disk) (no_journal job) by
+  by_status status.OtherChain names by first chain = of_disk status.OtherChain (λ disk input. IsOtherChain job disk input) (other_chain job) by
+  by_status status.Memory names by first chain = absurd names
+  by_status status.Damaged names by first chain = of_disk status.Damaged (λ disk input. IsDamaged job disk) (damaged job) by
+  by_status status.TooLong names by first chain = of_feed status.TooLong (λ disk input. IsTooLong job input) (λ no. no) (λ no. no) (too_long job) by.0 first chain
+
+pub last_line : {job : Option Job} {reads before after old new : Option (List ℕ)} {first last : Moment} {s : Status} (Q : Type 0) → JobEnds job reads before after old new first last s
+    → NamesFault s → First job reads s Q → Ends job reads before old new s
+last_line {job = job} {reads = reads} {before = before} {after = after} {old = old} {new = new} {s = s} Q ends names at_disk = by_status job reads before after old new Q s names ends.by at_disk ends.chain

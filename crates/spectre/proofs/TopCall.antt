@@ -1,5 +1,5 @@
 -- What the top call says of a run with a journal, and of one that wasn't begun for want of memory.
-use Rattle.std.proofs.Common.{◌≡◌, ℕ, Bool, List, [], Option, Some, None, IfSome, refl, sym, subst}
+use Rattle.std.proofs.Common.{◌≡◌, ℕ, List, Option, Some, None, IfSome, refl, sym, subst}
 use Rattle.sp_disk.specs.Moments.{IsMoment, Leaves, Moment}
 use Rattle.sp_io.specs.Whole.{AppendsFront}
 use Rattle.sp_io.proofs.Writing.{wrote_none}
@@ -9,8 +9,7 @@ use Rattle.spectre.specs.Chains.{EndsAtHead}
 use Rattle.spectre.specs.Crashes.{HoldsOnward, Recovery}
 use Rattle.spectre.specs.Faults.{IsOtherChain}
 use Rattle.spectre.specs.JobEnds.{JobEnds, WritesBy}
-use Rattle.spectre.specs.Kept.{EndsBy, KeptEnds}
-use Rattle.spectre.specs.Output.{blocks_before, OnDisk, OnInput, OnKeep, output_by}
+use Rattle.spectre.specs.Output.{blocks_before, disk_told, input_told, OnDisk, OnInput, OnKeep, output_by}
 use Rattle.spectre.specs.Taken.{TakesFeed}
 use Rattle.spectre.specs.declared.job.Job.{Job}
 use Rattle.spectre.specs.declared.job.Job.TheVariants as jobs
@@ -45,31 +44,6 @@ on_status P status.Memory done usage malformed truncated read write disk no_jour
 on_status P status.Damaged done usage malformed truncated read write disk no_journal other memory damaged long = damaged refl
 on_status P status.TooLong done usage malformed truncated read write disk no_journal other memory damaged long = long refl
 
--- a run with a journal
-kept_by : (path : List ℕ) (fresh : Bool) (reads before after old new : Option (List ℕ)) (s : Status) → EndsBy fresh reads before after old new s → WritesBy (Some (jobs.Keep path fresh)) reads before after old new s
-kept_by path fresh reads before after old new status.Done k = k
-kept_by path fresh reads before after old new status.Usage k = k
-kept_by path fresh reads before after old new status.Malformed k = (k, λ takes. absurd takes)
-kept_by path fresh reads before after old new status.Truncated k = k
-kept_by path fresh reads before after old new status.ReadFault k = λ _. k
-kept_by path fresh reads before after old new status.WriteFault k = k
-kept_by path fresh reads before after old new status.DiskFault k = λ _. k
-kept_by path fresh reads before after old new status.NotJournal k = k
-kept_by path fresh reads before after old new status.OtherChain k = k
-kept_by path fresh reads before after old new status.Memory k = k
-kept_by path fresh reads before after old new status.Damaged k = k
-kept_by path fresh reads before after old new status.TooLong k = k
-
-pub kept_ends : (path : List ℕ) (fresh : Bool) (reads before after old new : Option (List ℕ)) (first last : Moment) (s : Status) → KeptEnds fresh reads before after old new first last s → JobEnds (Some (jobs.Keep path fresh)) reads before after old new first last s
-kept_ends path fresh reads before after old new first last s k = record {
-  by = kept_by path fresh reads before after old new s k.by;
-  taken = λ takes. absurd takes;
-  taken_fed = λ _. k.taken;
-  chain = k.chain;
-  onward = k.onward;
-  crash = k.recovery;
-}
-
 -- a run that takes nothing leaves all of it
 pub left_whole : (o : Option (List ℕ)) → IfSome o (λ input. o ≡ Some input)
 left_whole None = tt
@@ -80,24 +54,10 @@ if_all None P f = tt
 if_all (Some x) P f = f x
 
 pub on_all : (job : Option Job) (reads : Option (List ℕ)) (P : List ℕ → Type 0) → ((bytes : List ℕ) → P bytes) → OnDisk job reads P
-on_all None reads P f = f []
-on_all (Some jobs.Replay) reads P f = f []
-on_all (Some (jobs.Keep path fresh)) reads P f = if_all reads P f
-on_all (Some (jobs.Show path)) reads P f = if_all reads P f
-on_all (Some jobs.Play) reads P f = f []
-on_all (Some jobs.Build) reads P f = f []
-on_all (Some (jobs.Make n seed width)) reads P f = f []
-on_all (Some (jobs.Drill n seed width)) reads P f = f []
+on_all job reads P f = if_all (disk_told job reads) P f
 
 pub in_all : (job : Option Job) (left : Option (List ℕ)) (P : List ℕ → Type 0) → ((input : List ℕ) → P input) → OnInput job left P
-in_all None left P f = f []
-in_all (Some jobs.Replay) left P f = if_all left P f
-in_all (Some (jobs.Keep path fresh)) left P f = if_all left P f
-in_all (Some (jobs.Show path)) left P f = f []
-in_all (Some jobs.Play) left P f = if_all left P f
-in_all (Some jobs.Build) left P f = if_all left P f
-in_all (Some (jobs.Make n seed width)) left P f = f []
-in_all (Some (jobs.Drill n seed width)) left P f = f []
+in_all job left P f = if_all (input_told job left) P f
 
 -- nothing was written
 pub nothing_written : (job : Option Job) (left reads a : Option (List ℕ)) → OnInput job left (λ input. OnDisk job reads (λ bytes. AppendsFront a a (output_by job bytes input)))
@@ -113,22 +73,10 @@ nothing_behind job left reads = in_all job left _ (λ input. on_all job reads _ 
 
 -- nor asked of the disk
 pub nothing_asked : (job : Option Job) (left a : Option (List ℕ)) (m : Moment) → IsMoment m → OnKeep job (λ fresh. IfSome left (λ input. IfSome m.reads (λ bytes. Recovery fresh bytes input left a a m m status.Memory)))
-nothing_asked None left a m law = tt
-nothing_asked (Some jobs.Replay) left a m law = tt
-nothing_asked (Some (jobs.Keep path fresh)) left a m law = (exit_early fresh left a m m law law (looks_same m) status.Memory tt (silent_memory fresh left a m m law law (looks_same m))).recovery
-nothing_asked (Some (jobs.Show path)) left a m law = tt
-nothing_asked (Some jobs.Play) left a m law = tt
-nothing_asked (Some jobs.Build) left a m law = tt
-nothing_asked (Some (jobs.Make n seed width)) left a m law = tt
-nothing_asked (Some (jobs.Drill n seed width)) left a m law = tt
+nothing_asked (Some (jobs.Keep path fresh)) left a m law = (exit_early path fresh left a m m law law (looks_same m) status.Memory tt (silent_memory path fresh left a m m law law (looks_same m))).crash
+nothing_asked other left a m law = tt
 
 -- so what was found stays
 pub nothing_lost : (job : Option Job) (m : Moment) → IsMoment m → OnKeep job (λ fresh. IfSome m.reads (λ bytes. IsSynced m → Leaves m m (HoldsOnward (records bytes))))
-nothing_lost None m law = tt
-nothing_lost (Some jobs.Replay) m law = tt
 nothing_lost (Some (jobs.Keep path fresh)) m law = looked_stays m m law (looks_same m)
-nothing_lost (Some (jobs.Show path)) m law = tt
-nothing_lost (Some jobs.Play) m law = tt
-nothing_lost (Some jobs.Build) m law = tt
-nothing_lost (Some (jobs.Make n seed width)) m law = tt
-nothing_lost (Some (jobs.Drill n seed width)) m law = tt
+nothing_lost other m law = tt

@@ -1,6 +1,6 @@
 -- Which fault the input of a job has, what of it stays unread, and what was written where a
 -- read failed.
-use Rattle.std.specs.Prelude.{◌≡◌, ◌⊎◌, ◌<◌, ◌≤◌, ℕ, Bool, List, [], drop, length, Option, Some, None, IsSome, IsNone}
+use Rattle.std.specs.Prelude.{◌≡◌, ◌⊎◌, ◌<◌, ◌≤◌, ℕ, List, [], drop, length, Option, Some, None, IsSome, IsNone}
 use Rattle.sp_feed.specs.Feed.{End, Malformed, TooLong, Truncated, Whole}
 use Rattle.sp_feed.specs.declared.fault.FeedFault.{FeedFault}
 use Rattle.sp_feed.specs.declared.fault.FeedFault.TheVariants as faults
@@ -20,34 +20,24 @@ use Rattle.spectre.specs.declared.status.Status.TheVariants as status
 
 abbrev pub EndsWhole : End → Type 0
 EndsWhole (Whole rest) = Unit {0}
-EndsWhole (Malformed at) = ⊥
-EndsWhole (Truncated at) = ⊥
-EndsWhole (TooLong taken) = ⊥
+EndsWhole other = ⊥
 
 abbrev pub EndsMalformed : End → Type 0
-EndsMalformed (Whole rest) = ⊥
 EndsMalformed (Malformed at) = Unit {0}
-EndsMalformed (Truncated at) = ⊥
-EndsMalformed (TooLong taken) = ⊥
+EndsMalformed other = ⊥
 
 abbrev pub EndsTruncated : End → Type 0
-EndsTruncated (Whole rest) = ⊥
-EndsTruncated (Malformed at) = ⊥
 EndsTruncated (Truncated at) = Unit {0}
-EndsTruncated (TooLong taken) = ⊥
+EndsTruncated other = ⊥
 
 abbrev pub EndsTooLong : End → Type 0
-EndsTooLong (Whole rest) = ⊥
-EndsTooLong (Malformed at) = ⊥
-EndsTooLong (Truncated at) = ⊥
 EndsTooLong (TooLong taken) = Unit {0}
+EndsTooLong other = ⊥
 
 -- what stays unread behind the frame `E`
 abbrev pub rest_behind : End → List ℕ
 rest_behind (Whole rest) = rest
-rest_behind (Malformed at) = []
-rest_behind (Truncated at) = []
-rest_behind (TooLong taken) = []
+rest_behind other = []
 
 -- a scenario that was taken has no fault, has one, or goes on after as many bytes as are taken
 
@@ -72,109 +62,63 @@ IsFaultless (Some (Drill n seed width)) disk input = IsNone (scene (made n seed 
 
 -- it has a faulty line, or a malformed field
 abbrev pub IsMalformed : Option Job → List ℕ → Type 0
-IsMalformed None input = ⊥
 IsMalformed (Some Replay) input = EndsMalformed (fed input).end
 IsMalformed (Some (Keep path fresh)) input = EndsMalformed (fed input).end
-IsMalformed (Some (Show path)) input = ⊥
 IsMalformed (Some Play) input = IsFaultyScene input
 IsMalformed (Some Build) input = IsFaultyScene input
-IsMalformed (Some (Make n seed width)) input = ⊥
 IsMalformed (Some (Drill n seed width)) input = IsSome (scene (made n seed width)).fault
+IsMalformed other input = ⊥
 
 -- it ends before the frame `E` is whole
 abbrev pub IsTruncated : Option Job → List ℕ → Type 0
-IsTruncated None input = ⊥
 IsTruncated (Some Replay) input = EndsTruncated (fed input).end
 IsTruncated (Some (Keep path fresh)) input = EndsTruncated (fed input).end
-IsTruncated (Some (Show path)) input = ⊥
-IsTruncated (Some Play) input = ⊥
-IsTruncated (Some Build) input = ⊥
-IsTruncated (Some (Make n seed width)) input = ⊥
-IsTruncated (Some (Drill n seed width)) input = ⊥
+IsTruncated other input = ⊥
 
 -- it goes on after as many bytes as are taken
 abbrev pub IsTooLong : Option Job → List ℕ → Type 0
-IsTooLong None input = ⊥
 IsTooLong (Some Replay) input = EndsTooLong (fed input).end
 IsTooLong (Some (Keep path fresh)) input = EndsTooLong (fed input).end
-IsTooLong (Some (Show path)) input = ⊥
 IsTooLong (Some Play) input = scenario_limit ≤ length input
 IsTooLong (Some Build) input = scenario_limit ≤ length input
-IsTooLong (Some (Make n seed width)) input = ⊥
-IsTooLong (Some (Drill n seed width)) input = ⊥
+IsTooLong other input = ⊥
 
 -- the disk holds no journal where one is needed
 abbrev pub IsNoJournal : Option Job → List ℕ → Type 0
-IsNoJournal None disk = ⊥
-IsNoJournal (Some Replay) disk = ⊥
 IsNoJournal (Some (Keep path fresh)) disk = HasNoJournal fresh disk
 IsNoJournal (Some (Show path)) disk = records disk ≡ NoJournal
-IsNoJournal (Some Play) disk = ⊥
-IsNoJournal (Some Build) disk = ⊥
-IsNoJournal (Some (Make n seed width)) disk = ⊥
-IsNoJournal (Some (Drill n seed width)) disk = ⊥
+IsNoJournal other disk = ⊥
 
 -- a damaged one
 abbrev pub IsDamaged : Option Job → List ℕ → Type 0
-IsDamaged None disk = ⊥
-IsDamaged (Some Replay) disk = ⊥
 IsDamaged (Some (Keep path fresh)) disk = IsDamagedDisk disk
 IsDamaged (Some (Show path)) disk = IsDamagedDisk disk
-IsDamaged (Some Play) disk = ⊥
-IsDamaged (Some Build) disk = ⊥
-IsDamaged (Some (Make n seed width)) disk = ⊥
-IsDamaged (Some (Drill n seed width)) disk = ⊥
+IsDamaged other disk = ⊥
 
 -- what the disk holds is at fault, before a feed is looked at
-
-abbrev pub IsKeptAtFault : Bool → List ℕ → Type 0
-IsKeptAtFault fresh disk = HasNoJournal fresh disk ⊎ IsDamagedDisk disk
-
-abbrev pub IsShownAtFault : List ℕ → Type 0
-IsShownAtFault disk = (records disk ≡ NoJournal) ⊎ IsDamagedDisk disk
-
 abbrev pub IsDiskAtFault : Option Job → List ℕ → Type 0
-IsDiskAtFault None disk = ⊥
-IsDiskAtFault (Some Replay) disk = ⊥
-IsDiskAtFault (Some (Keep path fresh)) disk = IsKeptAtFault fresh disk
-IsDiskAtFault (Some (Show path)) disk = IsShownAtFault disk
-IsDiskAtFault (Some Play) disk = ⊥
-IsDiskAtFault (Some Build) disk = ⊥
-IsDiskAtFault (Some (Make n seed width)) disk = ⊥
-IsDiskAtFault (Some (Drill n seed width)) disk = ⊥
+IsDiskAtFault job disk = IsNoJournal job disk ⊎ IsDamaged job disk
 
 -- that of another chain
 abbrev pub IsOtherChain : Option Job → List ℕ → List ℕ → Type 0
-IsOtherChain None disk input = ⊥
-IsOtherChain (Some Replay) disk input = ⊥
 IsOtherChain (Some (Keep path fresh)) disk input = HasOtherChain disk input
-IsOtherChain (Some (Show path)) disk input = ⊥
-IsOtherChain (Some Play) disk input = ⊥
-IsOtherChain (Some Build) disk input = ⊥
-IsOtherChain (Some (Make n seed width)) disk input = ⊥
-IsOtherChain (Some (Drill n seed width)) disk input = ⊥
+IsOtherChain other disk input = ⊥
 
 -- what a run that is done leaves of the input
 abbrev pub unread : Option Job → List ℕ → List ℕ
-unread None input = input
 unread (Some Replay) input = rest_behind (fed input).end
 unread (Some (Keep path fresh)) input = rest_behind (fed input).end
-unread (Some (Show path)) input = input
 unread (Some Play) input = []
 unread (Some Build) input = []
-unread (Some (Make n seed width)) input = input
-unread (Some (Drill n seed width)) input = input
+unread other input = input
 
 -- what a run leaves of input that is too long: all that follows the bytes of the limit
 abbrev pub beyond : Option Job → List ℕ → List ℕ
-beyond None input = input
 beyond (Some Replay) input = drop feed_limit input
 beyond (Some (Keep path fresh)) input = drop feed_limit input
-beyond (Some (Show path)) input = input
 beyond (Some Play) input = drop scenario_limit input
 beyond (Some Build) input = drop scenario_limit input
-beyond (Some (Make n seed width)) input = input
-beyond (Some (Drill n seed width)) input = input
+beyond other input = input
 
 -- the line of a feed's fault, and the status that it gives
 abbrev pub feed_fault_text : FeedFault → List ℕ

@@ -63,64 +63,36 @@ pub record AreNumbers (n width : ℕ) : Type 0 where
   pub narrow : width ≤ 16
 
 abbrev pub IsJob : Job → Type 0
-IsJob Replay = Unit {0}
-IsJob (Keep path fresh) = Unit {0}
-IsJob (Show path) = Unit {0}
-IsJob Play = Unit {0}
-IsJob Build = Unit {0}
 IsJob (Make n seed width) = AreNumbers n width
 IsJob (Drill n seed width) = AreNumbers n width
+IsJob other = Unit {0}
 
 -- a job takes a scenario, a feed or nothing
 
 abbrev pub TakesScenario : Option Job → Type 0
-TakesScenario None = ⊥
-TakesScenario (Some Replay) = ⊥
-TakesScenario (Some (Keep path fresh)) = ⊥
-TakesScenario (Some (Show path)) = ⊥
 TakesScenario (Some Play) = Unit {0}
 TakesScenario (Some Build) = Unit {0}
-TakesScenario (Some (Make n seed width)) = ⊥
-TakesScenario (Some (Drill n seed width)) = ⊥
-
-abbrev pub TakesNothing : Option Job → Type 0
-TakesNothing None = Unit {0}
-TakesNothing (Some Replay) = ⊥
-TakesNothing (Some (Keep path fresh)) = ⊥
-TakesNothing (Some (Show path)) = Unit {0}
-TakesNothing (Some Play) = ⊥
-TakesNothing (Some Build) = ⊥
-TakesNothing (Some (Make n seed width)) = Unit {0}
-TakesNothing (Some (Drill n seed width)) = Unit {0}
+TakesScenario other = ⊥
 
 abbrev pub AnswersFeed : Option Job → Type 0
-AnswersFeed None = ⊥
 AnswersFeed (Some Replay) = Unit {0}
 AnswersFeed (Some (Keep path fresh)) = Unit {0}
-AnswersFeed (Some (Show path)) = ⊥
-AnswersFeed (Some Play) = ⊥
-AnswersFeed (Some Build) = ⊥
-AnswersFeed (Some (Make n seed width)) = ⊥
-AnswersFeed (Some (Drill n seed width)) = ⊥
+AnswersFeed other = ⊥
+
+abbrev pub TakesNothing : Option Job → Type 0
+TakesNothing (Some Play) = ⊥
+TakesNothing (Some Build) = ⊥
+TakesNothing (Some Replay) = ⊥
+TakesNothing (Some (Keep path fresh)) = ⊥
+TakesNothing other = Unit {0}
 
 -- it shows a journal; it names the file of one; else it asks nothing of a disk
 
 abbrev pub Shows : Option Job → Type 0
-Shows None = ⊥
-Shows (Some Replay) = ⊥
-Shows (Some (Keep path fresh)) = ⊥
 Shows (Some (Show path)) = Unit {0}
-Shows (Some Play) = ⊥
-Shows (Some Build) = ⊥
-Shows (Some (Make n seed width)) = ⊥
-Shows (Some (Drill n seed width)) = ⊥
+Shows other = ⊥
 
 abbrev pub NamesFile : Option Job → Type 0
-NamesFile None = ⊥
-NamesFile (Some Replay) = ⊥
 NamesFile (Some (Keep path fresh)) = Unit {0}
 NamesFile (Some (Show path)) = Unit {0}
-NamesFile (Some Play) = ⊥
-NamesFile (Some Build) = ⊥
-NamesFile (Some (Make n seed width)) = ⊥
-NamesFile (Some (Drill n seed width)) = ⊥
+NamesFile other = ⊥

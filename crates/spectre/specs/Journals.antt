@@ -72,9 +72,8 @@ shown_output disk = shown_by (records disk)
 
 -- the blocks of the journal that was found
 abbrev pub blocks_in : Records → List (List ℕ)
-blocks_in NoJournal = []
-blocks_in (Damaged at) = []
 blocks_in (Found c) = c.blocks
+blocks_in other = []
 
 abbrev pub found_blocks : List ℕ → List (List ℕ)
 found_blocks disk = blocks_in (records disk)

@@ -63,11 +63,8 @@ of_answers (Err fault) = Err (of_rest fault)
 
 -- the line of another chain
 abbrev pub other_text : KeepFault → List ℕ
-other_text (Feed fault) = []
 other_text (OtherChain stored_bits stored fed_bits fed_id) = other_chain_text stored_bits stored fed_bits fed_id
-other_text WriteFault = []
-other_text DiskFault = []
-other_text Memory = []
+other_text other = []
 
 -- what was found, and the bytes of its blocks
 abbrev pub records_in : Stored → Records

@@ -27,14 +27,10 @@ AreLines text = (text ≡ []) ⊎ ((front : List ℕ) × (text ≡ front ++ 10 �
 
 -- the scenario that a job plays or builds
 abbrev pub scene_by : Option Job → List ℕ → Option Scene
-scene_by None input = None
-scene_by (Some jobs.Replay) input = None
-scene_by (Some (jobs.Keep path fresh)) input = None
-scene_by (Some (jobs.Show path)) input = None
 scene_by (Some jobs.Play) input = Some (scene input)
 scene_by (Some jobs.Build) input = Some (scene input)
-scene_by (Some (jobs.Make n seed width)) input = None
 scene_by (Some (jobs.Drill n seed width)) input = Some (scene (made n seed width))
+scene_by other input = None
 
 -- the place of a feed's malformed field; after how many bytes it ends too early, or goes on for too long
 
@@ -69,18 +65,13 @@ TellsDamage disk line = (at : ℕ) × (records disk ≡ Damaged at) × (line ≡
 
 -- the line of the fault that a status names; the other statuses name none
 abbrev pub IsLineOf : Option Job → List ℕ → List ℕ → Status → List ℕ → Type 0
-IsLineOf job disk input status.Done line = ⊥
-IsLineOf job disk input status.Usage line = ⊥
 IsLineOf job disk input status.Malformed line = (AnswersFeed job × TellsField input line) ⊎ TellsScene job input line
 IsLineOf job disk input status.Truncated line = AnswersFeed job × TellsEarlyEnd input line
-IsLineOf job disk input status.ReadFault line = ⊥
-IsLineOf job disk input status.WriteFault line = ⊥
-IsLineOf job disk input status.DiskFault line = ⊥
 IsLineOf job disk input status.NotJournal line = (records disk ≡ NoJournal) × (line ≡ not_journal_text)
 IsLineOf job disk input status.OtherChain line = TellsChains disk input line
-IsLineOf job disk input status.Memory line = ⊥
 IsLineOf job disk input status.Damaged line = TellsDamage disk line
 IsLineOf job disk input status.TooLong line = (AnswersFeed job × TellsLongFeed input line) ⊎ (TakesScenario job × (line ≡ too_long_text scenario_limit))
+IsLineOf job disk input other line = ⊥
 
 -- the statuses that name such a fault
 abbrev pub NamesFault : Status → Type 0

@@ -17,7 +17,6 @@ pub mod Chains
 pub mod Replaying
 pub mod Running
 pub mod Keeping
-pub mod Kept
 pub mod JobEnds
 pub mod LastLine
 pub mod Ends

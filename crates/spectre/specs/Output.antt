@@ -37,45 +37,32 @@ abbrev pub output : List (List ℕ) → List ℕ → List ℕ → List ℕ
 output words disk input = output_by (job_in words) disk input
 
 -- What is said of the disk's bytes is said where it tells them, and for a job that names no file of none.
+abbrev pub disk_told : Option Job → Option (List ℕ) → Option (List ℕ)
+disk_told (Some (jobs.Keep path fresh)) reads = reads
+disk_told (Some (jobs.Show path)) reads = reads
+disk_told other reads = Some []
+
 abbrev pub OnDisk : Option Job → Option (List ℕ) → (List ℕ → Type 0) → Type 0
-OnDisk None reads P = P []
-OnDisk (Some jobs.Replay) reads P = P []
-OnDisk (Some (jobs.Keep path fresh)) reads P = IfSome reads P
-OnDisk (Some (jobs.Show path)) reads P = IfSome reads P
-OnDisk (Some jobs.Play) reads P = P []
-OnDisk (Some jobs.Build) reads P = P []
-OnDisk (Some (jobs.Make n seed width)) reads P = P []
-OnDisk (Some (jobs.Drill n seed width)) reads P = P []
+OnDisk job reads P = IfSome (disk_told job reads) P
 
 -- What is said of the input is said where the source tells it, and for a job that takes none of no bytes.
+abbrev pub input_told : Option Job → Option (List ℕ) → Option (List ℕ)
+input_told (Some jobs.Replay) left = left
+input_told (Some (jobs.Keep path fresh)) left = left
+input_told (Some jobs.Play) left = left
+input_told (Some jobs.Build) left = left
+input_told other left = Some []
+
 abbrev pub OnInput : Option Job → Option (List ℕ) → (List ℕ → Type 0) → Type 0
-OnInput None left P = P []
-OnInput (Some jobs.Replay) left P = IfSome left P
-OnInput (Some (jobs.Keep path fresh)) left P = IfSome left P
-OnInput (Some (jobs.Show path)) left P = P []
-OnInput (Some jobs.Play) left P = IfSome left P
-OnInput (Some jobs.Build) left P = IfSome left P
-OnInput (Some (jobs.Make n seed width)) left P = P []
-OnInput (Some (jobs.Drill n seed width)) left P = P []
+OnInput job left P = IfSome (input_told job left) P
 
 -- the blocks that stand before those of the feed
 abbrev pub blocks_before : Option Job → List ℕ → List (List ℕ)
-blocks_before None disk = []
-blocks_before (Some jobs.Replay) disk = []
 blocks_before (Some (jobs.Keep path fresh)) disk = found_blocks disk
 blocks_before (Some (jobs.Show path)) disk = found_blocks disk
-blocks_before (Some jobs.Play) disk = []
-blocks_before (Some jobs.Build) disk = []
-blocks_before (Some (jobs.Make n seed width)) disk = []
-blocks_before (Some (jobs.Drill n seed width)) disk = []
+blocks_before other disk = []
 
 -- what is said of a run that keeps a journal
 abbrev pub OnKeep : Option Job → (Bool → Type 0) → Type 0
-OnKeep None P = Unit {0}
-OnKeep (Some jobs.Replay) P = Unit {0}
 OnKeep (Some (jobs.Keep path fresh)) P = P fresh
-OnKeep (Some (jobs.Show path)) P = Unit {0}
-OnKeep (Some jobs.Play) P = Unit {0}
-OnKeep (Some jobs.Build) P = Unit {0}
-OnKeep (Some (jobs.Make n seed width)) P = Unit {0}
-OnKeep (Some (jobs.Drill n seed width)) P = Unit {0}
+OnKeep other P = Unit {0}

@@ -60,15 +60,11 @@ pub record Answering (before : List (List ℕ)) (start now : Moment) (old new : 
 
 -- the sink's count rose at a failed write
 abbrev pub HasWriteCause : ℕ → ℕ → ReplayFault → Type 0
-HasWriteCause before now (Feed fault) = Unit {0}
 HasWriteCause before now WriteFault = Rose before now
-HasWriteCause before now DiskFault = Unit {0}
-HasWriteCause before now Memory = Unit {0}
+HasWriteCause before now other = Unit {0}
 
 -- what holds where all messages were answered: at the end, or before a fault of the feed or of its source
 abbrev pub OnAll : Result (Unit {0}) ReplayFault → Type 0 → Type 0
 OnAll (Ok u) P = P
 OnAll (Err (Feed fault)) P = P
-OnAll (Err WriteFault) P = Unit {0}
-OnAll (Err DiskFault) P = Unit {0}
-OnAll (Err Memory) P = Unit {0}
+OnAll other P = Unit {0}

@@ -1,7 +1,7 @@
 //! The answering of a feed whose blocks are kept in a journal: the disk is opened first, then the feed's
 //! head is read, and then each message is answered once its block is on the disk.
 
-ghost use Rattle.std.specs.Prelude.{◌≡◌, ◌≢◌, ◌∷◌, [], ℕ, false, true, Bool, Err, IfErr, IfOk, IfSome, IsTrue, List, None, Ok, OnOk, Option};
+ghost use Rattle.std.specs.Prelude.{◌⊎◌, ◌≡◌, ◌≢◌, ◌∷◌, [], ℕ, false, true, Bool, Err, IfErr, IfOk, IfSome, IsTrue, List, None, Ok, OnOk, Option, Some};
 ghost use Rattle.std.specs.Io.KnownBytes.{Appends};
 ghost use Rattle.sp_io.specs.Causes.{Rose};
 ghost use Rattle.sp_io.specs.Whole.{AppendsFront};
@@ -10,10 +10,11 @@ ghost use Rattle.sp_feed.specs.Reads.{moment};
 ghost use Rattle.sp_journal.specs.Settled.{SameTold};
 ghost use Rattle.sp_node.specs.Stored.{IsFound, IsReady, Tells};
 ghost use Rattle.spectre.specs.Ends.{EndsByDisk, KeepsTo};
-ghost use Rattle.spectre.specs.Faults.{IsKeptAtFault};
-ghost use Rattle.spectre.specs.Kept.{KeptEnds};
+ghost use Rattle.spectre.specs.JobEnds.{JobEnds};
+ghost use Rattle.spectre.specs.Journals.{HasNoJournal, IsDamagedDisk};
 ghost use Rattle.spectre.specs.Keeping.{IsBegun, IsUntried, KeepAnswers, of_answers, other_text};
 ghost use Rattle.spectre.specs.Replay.{feed_limit};
+ghost use Rattle.spectre.specs.declared.job.Job.TheVariants.{Keep};
 ghost use Rattle.spectre.specs.declared.keep.KeepFault.TheVariants as faults;
 
 use crate::genesis::node_on;
@@ -234,8 +235,8 @@ fn keep_on<S: Source, K: Sink, D: Disk>(
     disk: &mut D,
 ) -> Status
     requires ready { IsReady stored (D.now disk.old) }
-    ensures ends { (fresh : Bool) → IfSome (D.now disk.old).reads (λ bytes. Tells fresh bytes (Ok stored))
-        → KeptEnds fresh (D.now disk.old).reads (S.left source.old) (S.left source.new)
+    ensures ends { (path : List ℕ) (fresh : Bool) → IfSome (D.now disk.old).reads (λ bytes. Tells fresh bytes (Ok stored))
+        → JobEnds (Some (Keep path fresh)) (D.now disk.old).reads (S.left source.old) (S.left source.new)
         (K.taken sink.old) (K.taken sink.new) (D.now disk.old) (D.now disk.new) result }
     ensures read_cause { result ≡ Status.ReadFault → Rose (S.faults source.old) (S.faults source.new) }
     ensures write_cause { result ≡ Status.WriteFault → Rose (K.faults sink.old) (K.faults sink.new) }
@@ -270,10 +271,12 @@ pub fn keep<S: Source, K: Sink, D: Disk>(
     sink: &mut K,
     disk: &mut D,
 ) -> Status
-    ensures ends { KeptEnds fresh (D.now disk.old).reads (S.left source.old) (S.left source.new)
+    // Whatever the name of its file.
+    ensures ends { (path : List ℕ) → JobEnds (Some (Keep path fresh)) (D.now disk.old).reads
+        (S.left source.old) (S.left source.new)
         (K.taken sink.old) (K.taken sink.new) (D.now disk.old) (D.now disk.new) result }
     // Where what the disk holds is at fault, the run ends by that, and nothing of the feed is taken.
-    ensures disk_first { IfSome (D.now disk.old).reads (λ bytes. IsKeptAtFault fresh bytes
+    ensures disk_first { IfSome (D.now disk.old).reads (λ bytes. HasNoJournal fresh bytes ⊎ IsDamagedDisk bytes
         → EndsByDisk result × (source.new ≡ source.old)) }
     ensures read_cause { result ≡ Status.ReadFault → Rose (S.faults source.old) (S.faults source.new) }
     ensures write_cause { result ≡ Status.WriteFault → Rose (K.faults sink.old) (K.faults sink.new) }

@@ -108,7 +108,7 @@ pub returns-in-Ok-clause-complete : goal.returns-in-Ok-clause-complete
 returns-in-Ok-clause-complete g c = λ read write disk.
     let e = c.do_job.ensures in
     let ends = asked_ends c.in-Ok.ensures.job e.ends in
-    completes _ _ _ _ _ _ _ (λ s. read (e.read_cause s)) (λ s. write (e.write_cause s)) (λ s. disk (e.disk_cause s).0) ends.by
+    completes ends (λ s. read (e.read_cause s)) (λ s. write (e.write_cause s)) (λ s. disk (e.disk_cause s).0)
 
 pub returns-in-Ok-clause-among : goal.returns-in-Ok-clause-among
 returns-in-Ok-clause-among g c = subst (λ (j : Option Job). Comes j c.do_job.result) (sym c.in-Ok.ensures.job) c.do_job.ensures.among
@@ -137,7 +137,7 @@ returns-in-Err-Memory-clause-chain_first g c = nothing_behind _ (g.S.Source.left
 pub returns-in-Ok-clause-last_line : goal.returns-in-Ok-clause-last_line
 returns-in-Ok-clause-last_line g c = λ names.
     let ends = asked_ends c.in-Ok.ensures.job c.do_job.ensures.ends in
-    last_line _ _ _ _ _ _ _ c.do_job.result names ends.by (first_of _ _ (g.D.Disk.now c.args.disk.now).reads _ c.in-Ok.ensures.job c.do_job.ensures.disk_first) ends.chain
+    last_line _ ends names (first_of _ _ (g.D.Disk.now c.args.disk.now).reads _ c.in-Ok.ensures.job c.do_job.ensures.disk_first)
 
 pub returns-in-Ok-clause-found_stays : goal.returns-in-Ok-clause-found_stays
 returns-in-Ok-clause-found_stays g c = (asked_ends c.in-Ok.ensures.job c.do_job.ensures.ends).onward

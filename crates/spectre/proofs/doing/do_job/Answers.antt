@@ -3,8 +3,8 @@ use Rattle.spectre.specs.Ends.{Makes, Plays, Replays, Shows}
 use Rattle.spectre.specs.JobEnds.{JobEnds, WritesBy}
 use Rattle.spectre.specs.declared.job.Job.{Job}
 use Rattle.spectre.specs.declared.job.Job.TheVariants as jobs
-use Rattle.spectre.proofs.DiskFirst.{first_of, shown_first, shown_journal}
-use Rattle.spectre.proofs.TopCall.{if_all, kept_ends, left_whole, on_status}
+use Rattle.spectre.proofs.DiskFirst.{first_of, no_fault, shown_first, shown_journal}
+use Rattle.spectre.proofs.TopCall.{if_all, left_whole, on_status}
 use Rattle.spectre.proofs.doing.do_job.Goals as goal
 
 pub returns-in-Replay-clause-ends : goal.returns-in-Replay-clause-ends
@@ -50,7 +50,7 @@ returns-in-Keep-clause-ends g c =
     let old = g.K.Sink.taken c.args.sink.now in
     let new = g.K.Sink.taken c.keep.new.sink in
     subst (λ (j : Job). JobEnds (Some j) first.reads before after old new first last c.keep.result) (sym c.in-Keep.is)
-    (kept_ends c.in-Keep.path c.in-Keep.fresh first.reads before after old new first last c.keep.result c.keep.ensures.ends)
+    (c.keep.ensures.ends c.in-Keep.path)
 
 pub returns-in-Show-clause-ends : goal.returns-in-Show-clause-ends
 returns-in-Show-clause-ends g c =
@@ -229,19 +229,19 @@ pub returns-in-Drill-clause-disk_cause : goal.returns-in-Drill-clause-disk_cause
 returns-in-Drill-clause-disk_cause g c = λ s. absurd (subst Makes s c.drill_text.ensures.among)
 
 pub returns-in-Replay-clause-disk_first : goal.returns-in-Replay-clause-disk_first
-returns-in-Replay-clause-disk_first g c = first_of (Some c.args.job.now) (Some jobs.Replay) (g.D.Disk.now c.args.disk.now).reads _ (ap Some c.in-Replay.is) (λ fault. absurd fault)
+returns-in-Replay-clause-disk_first g c = first_of (Some c.args.job.now) (Some jobs.Replay) (g.D.Disk.now c.args.disk.now).reads _ (ap Some c.in-Replay.is) (λ fault. no_fault fault)
 
 pub returns-in-Play-clause-disk_first : goal.returns-in-Play-clause-disk_first
-returns-in-Play-clause-disk_first g c = first_of (Some c.args.job.now) (Some jobs.Play) (g.D.Disk.now c.args.disk.now).reads _ (ap Some c.in-Play.is) (λ fault. absurd fault)
+returns-in-Play-clause-disk_first g c = first_of (Some c.args.job.now) (Some jobs.Play) (g.D.Disk.now c.args.disk.now).reads _ (ap Some c.in-Play.is) (λ fault. no_fault fault)
 
 pub returns-in-Build-clause-disk_first : goal.returns-in-Build-clause-disk_first
-returns-in-Build-clause-disk_first g c = first_of (Some c.args.job.now) (Some jobs.Build) (g.D.Disk.now c.args.disk.now).reads _ (ap Some c.in-Build.is) (λ fault. absurd fault)
+returns-in-Build-clause-disk_first g c = first_of (Some c.args.job.now) (Some jobs.Build) (g.D.Disk.now c.args.disk.now).reads _ (ap Some c.in-Build.is) (λ fault. no_fault fault)
 
 pub returns-in-Make-clause-disk_first : goal.returns-in-Make-clause-disk_first
-returns-in-Make-clause-disk_first g c = first_of (Some c.args.job.now) (Some (jobs.Make c.in-Make.n c.in-Make.seed c.in-Make.width)) (g.D.Disk.now c.args.disk.now).reads _ (ap Some c.in-Make.is) (λ fault. absurd fault)
+returns-in-Make-clause-disk_first g c = first_of (Some c.args.job.now) (Some (jobs.Make c.in-Make.n c.in-Make.seed c.in-Make.width)) (g.D.Disk.now c.args.disk.now).reads _ (ap Some c.in-Make.is) (λ fault. no_fault fault)
 
 pub returns-in-Drill-clause-disk_first : goal.returns-in-Drill-clause-disk_first
-returns-in-Drill-clause-disk_first g c = first_of (Some c.args.job.now) (Some (jobs.Drill c.in-Drill.n c.in-Drill.seed c.in-Drill.width)) (g.D.Disk.now c.args.disk.now).reads _ (ap Some c.in-Drill.is) (λ fault. absurd fault)
+returns-in-Drill-clause-disk_first g c = first_of (Some c.args.job.now) (Some (jobs.Drill c.in-Drill.n c.in-Drill.seed c.in-Drill.width)) (g.D.Disk.now c.args.disk.now).reads _ (ap Some c.in-Drill.is) (λ fault. no_fault fault)
 
 pub returns-in-Keep-clause-disk_first : goal.returns-in-Keep-clause-disk_first
 returns-in-Keep-clause-disk_first g c = first_of (Some c.args.job.now) (Some (jobs.Keep c.in-Keep.path c.in-Keep.fresh)) (g.D.Disk.now c.args.disk.now).reads _ (ap Some c.in-Keep.is) c.keep.ensures.disk_first

@@ -14,17 +14,17 @@ use Rattle.spectre.proofs.TopCall.{if_all}
 use Rattle.spectre.proofs.keep.keep.Goals as goal
 
 pub returns-in-Ok-clause-ends : goal.returns-in-Ok-clause-ends
-returns-in-Ok-clause-ends g c =
+returns-in-Ok-clause-ends g c = λ path.
     let now = g.D.Disk.now in
     let left = g.S.Source.left in
     let taken = g.K.Sink.taken in
     let fresh = c.args.fresh in
     let e = c.in-Ok.ensures in
-    ends_on fresh (left c.args.source.now) (left c.keep_on.new.source) (taken c.args.sink.now) (taken c.keep_on.new.sink) (now c.args.disk.now) (now c.open.new.disk) (now c.keep_on.new.disk) c.keep_on.result (g.met.D.Disk.is_moment c.args.disk.now) e.looks
-    (c.keep_on.ensures.ends fresh (subst (λ (o : Option (List ℕ)). IfSome o (λ bytes. Tells fresh bytes (Ok c.in-Ok.stored))) (sym e.looks.reads) e.tells))
+    ends_on path fresh (left c.args.source.now) (left c.keep_on.new.source) (taken c.args.sink.now) (taken c.keep_on.new.sink) (now c.args.disk.now) (now c.open.new.disk) (now c.keep_on.new.disk) c.keep_on.result (g.met.D.Disk.is_moment c.args.disk.now) e.looks
+    (c.keep_on.ensures.ends path fresh (subst (λ (o : Option (List ℕ)). IfSome o (λ bytes. Tells fresh bytes (Ok c.in-Ok.stored))) (sym e.looks.reads) e.tells))
 
 pub returns-in-NotJournal-clause-ends : goal.returns-in-NotJournal-clause-ends
-returns-in-NotJournal-clause-ends g c =
+returns-in-NotJournal-clause-ends g c = λ path.
     let now = g.D.Disk.now in
     let old = g.K.Sink.taken c.args.sink.now in
     let new = g.K.Sink.taken c.end_with.new.sink in
@@ -33,14 +33,14 @@ returns-in-NotJournal-clause-ends g c =
     let fresh = c.args.fresh in
     let e = rw c.in-NotJournal.is at c.in-Err.ensures.tells in
     let says : (disk : List ℕ) → first.reads ≡ Some disk → HasNoJournal fresh disk = λ disk r. (let t = at_one (λ (d : List ℕ). Tells fresh d (Err (opening.NotJournal c.in-NotJournal.gate))) r e in record { none = t.0.none; some = t.1; old = t.2 }) in
-    exit_line fresh left old first (now c.open.new.disk) (g.met.D.Disk.is_moment c.args.disk.now) (g.met.D.Disk.is_moment c.open.new.disk) c.in-Err.ensures.looks new not_journal_text status.NotJournal c.end_with.result c.end_with.ensures.status
+    exit_line path fresh left old first (now c.open.new.disk) (g.met.D.Disk.is_moment c.args.disk.now) (g.met.D.Disk.is_moment c.open.new.disk) c.in-Err.ensures.looks new not_journal_text status.NotJournal c.end_with.result c.end_with.ensures.status
     (λ h. subst (λ (t : List ℕ). Appends old new t) c.not_journal_line.ensures (c.end_with.ensures.text h)) (subst (λ (t : List ℕ). AppendsFront old new t) c.not_journal_line.ensures c.end_with.ensures.front)
     (λ disk input r. none_says fresh disk input (says disk r))
     (λ disk c r is. (let no : NoJournal ≡ Found c = sym (says disk r).none ∙ is in cc))
     (λ h. on_map left first.reads _ _ (λ disk input l r x. (x, says disk r)) h)
 
 pub returns-in-Damaged-clause-ends : goal.returns-in-Damaged-clause-ends
-returns-in-Damaged-clause-ends g c =
+returns-in-Damaged-clause-ends g c = λ path.
     let now = g.D.Disk.now in
     let old = g.K.Sink.taken c.args.sink.now in
     let new = g.K.Sink.taken c.end_with-in-Damaged.new.sink in
@@ -49,31 +49,31 @@ returns-in-Damaged-clause-ends g c =
     let fresh = c.args.fresh in
     let e = rw c.in-Damaged.is at c.in-Err.ensures.tells in
     let at = c.in-Damaged.at in
-    exit_line fresh left old first (now c.open.new.disk) (g.met.D.Disk.is_moment c.args.disk.now) (g.met.D.Disk.is_moment c.open.new.disk) c.in-Err.ensures.looks new (damaged_text at) status.Damaged c.end_with-in-Damaged.result c.end_with-in-Damaged.ensures.status
+    exit_line path fresh left old first (now c.open.new.disk) (g.met.D.Disk.is_moment c.args.disk.now) (g.met.D.Disk.is_moment c.open.new.disk) c.in-Err.ensures.looks new (damaged_text at) status.Damaged c.end_with-in-Damaged.result c.end_with-in-Damaged.ensures.status
     (λ h. subst (λ (t : List ℕ). Appends old new t) c.damaged_line.ensures (c.end_with-in-Damaged.ensures.text h)) (subst (λ (t : List ℕ). AppendsFront old new t) c.damaged_line.ensures c.end_with-in-Damaged.ensures.front)
     (λ disk input r. damaged_says fresh disk input at (at_one (λ (d : List ℕ). Tells fresh d (Err (opening.Damaged at))) r e))
     (λ disk c r is. (let no : Damaged at ≡ Found c = sym (at_one (λ (d : List ℕ). Tells fresh d (Err (opening.Damaged at))) r e) ∙ is in cc))
     (λ h. on_map left first.reads _ _ (λ disk input l r x. (x, (at, at_one (λ (d : List ℕ). Tells fresh d (Err (opening.Damaged at))) r e))) h)
 
 pub returns-in-DiskFault-clause-ends : goal.returns-in-DiskFault-clause-ends
-returns-in-DiskFault-clause-ends g c =
+returns-in-DiskFault-clause-ends g c = λ path.
     let now = g.D.Disk.now in
     let old = g.K.Sink.taken c.args.sink.now in
     let left = g.S.Source.left c.args.source.now in
     let first = now c.args.disk.now in
     let law = g.met.D.Disk.is_moment c.args.disk.now in
     let last_law = g.met.D.Disk.is_moment c.open.new.disk in
-    exit_early c.args.fresh left old first (now c.open.new.disk) law last_law c.in-Err.ensures.looks status.DiskFault tt (silent_disk c.args.fresh left old first (now c.open.new.disk) law last_law c.in-Err.ensures.looks)
+    exit_early path c.args.fresh left old first (now c.open.new.disk) law last_law c.in-Err.ensures.looks status.DiskFault tt (silent_disk path c.args.fresh left old first (now c.open.new.disk) law last_law c.in-Err.ensures.looks)
 
 pub returns-in-Memory-clause-ends : goal.returns-in-Memory-clause-ends
-returns-in-Memory-clause-ends g c =
+returns-in-Memory-clause-ends g c = λ path.
     let now = g.D.Disk.now in
     let old = g.K.Sink.taken c.args.sink.now in
     let left = g.S.Source.left c.args.source.now in
     let first = now c.args.disk.now in
     let law = g.met.D.Disk.is_moment c.args.disk.now in
     let last_law = g.met.D.Disk.is_moment c.open.new.disk in
-    exit_early c.args.fresh left old first (now c.open.new.disk) law last_law c.in-Err.ensures.looks status.Memory tt (silent_memory c.args.fresh left old first (now c.open.new.disk) law last_law c.in-Err.ensures.looks)
+    exit_early path c.args.fresh left old first (now c.open.new.disk) law last_law c.in-Err.ensures.looks status.Memory tt (silent_memory path c.args.fresh left old first (now c.open.new.disk) law last_law c.in-Err.ensures.looks)
 
 pub returns-in-Ok-clause-disk_first : goal.returns-in-Ok-clause-disk_first
 returns-in-Ok-clause-disk_first g c = stored_first c.args.fresh c.in-Ok.stored (g.D.Disk.now c.args.disk.now).reads _ c.in-Ok.ensures.tells
