@@ -346,10 +346,8 @@ looked stored start now given first last (faults.TooLong taken) w = w.1
 -- where a read failed, no whole head had come
 unheaded : (stored : Stored) (start now : Moment) (given : List ℕ) (first last : DiskMoment) (e : FeedFault) → e ≡ faults.ReadFault
     → UntriedBy stored start now given first last (Err (Feed e)) → (fed given).head ≡ None
-unheaded stored start now given first last (faults.Malformed at) is w = absurd cc
-unheaded stored start now given first last (faults.Truncated at) is w = absurd cc
 unheaded stored start now given first last faults.ReadFault is w = ap (λ (f : FeedOf). f.head) w.0
-unheaded stored start now given first last (faults.TooLong taken) is w = absurd cc
+unheaded stored start now given first last other is w = absurd cc
 
 is_read : (e : FeedFault) → (e ≡ faults.ReadFault) ⊎ (e ≡ faults.ReadFault → ⊥)
 is_read faults.ReadFault = inl refl

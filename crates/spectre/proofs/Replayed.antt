@@ -121,27 +121,19 @@ if_some (Some x) P Q f h = f x h
 
 pub is_malformed : (e : FeedFault) (end : End) → status_of e ≡ status.Malformed → Ends e end → EndsMalformed end
 is_malformed (faults.Malformed at) end s h = subst EndsMalformed (sym h) tt
-is_malformed (faults.Truncated at) end s h = absurd cc
-is_malformed faults.ReadFault end s h = absurd cc
-is_malformed (faults.TooLong taken) end s h = absurd cc
+is_malformed other end s h = absurd cc
 
 pub is_truncated : (e : FeedFault) (end : End) → status_of e ≡ status.Truncated → Ends e end → EndsTruncated end
-is_truncated (faults.Malformed at) end s h = absurd cc
 is_truncated (faults.Truncated at) end s h = subst EndsTruncated (sym h) tt
-is_truncated faults.ReadFault end s h = absurd cc
-is_truncated (faults.TooLong taken) end s h = absurd cc
+is_truncated other end s h = absurd cc
 
 pub is_too_long : (e : FeedFault) (end : End) → status_of e ≡ status.TooLong → Ends e end → EndsTooLong end
-is_too_long (faults.Malformed at) end s h = absurd cc
-is_too_long (faults.Truncated at) end s h = absurd cc
-is_too_long faults.ReadFault end s h = absurd cc
 is_too_long (faults.TooLong taken) end s h = subst EndsTooLong (sym h) tt
+is_too_long other end s h = absurd cc
 
 pub is_read_fault : (e : FeedFault) → status_of e ≡ status.ReadFault → e ≡ faults.ReadFault
-is_read_fault (faults.Malformed at) s = absurd cc
-is_read_fault (faults.Truncated at) s = absurd cc
 is_read_fault faults.ReadFault s = refl
-is_read_fault (faults.TooLong taken) s = absurd cc
+is_read_fault other s = absurd cc
 
 -- a status other than that of a failed write is that of the fault
 pub by_status : (e : FeedFault) (result s : Status) → (s ≡ status.WriteFault → ⊥) → (result ≢ status.WriteFault → result ≡ status_of e) → result ≡ s → status_of e ≡ s
@@ -150,21 +142,17 @@ by_status e result s no_write same is = sym (same (λ h. no_write (sym is ∙ h)
 module _ {before : List (List ℕ)} {start now : Moment} {old mid : Option (List ℕ)} where
   -- a feed that ends too early leaves nothing
   pub nothing_left : (e : FeedFault) → Replies before start now old mid (Err (Feed e)) → status_of e ≡ status.Truncated → IfSome start.left (λ input. now.left ≡ Some [])
-  nothing_left (faults.Malformed at) r s = absurd cc
   nothing_left (faults.Truncated at) r s = with_input (λ input. now.left ≡ Some []) start.left now.left r.given r.took.consumed (λ rest e. e ∙ ap (λ (t : List ℕ). Some t) (subst IsAtEnd e r.says.1))
-  nothing_left faults.ReadFault r s = absurd cc
-  nothing_left (faults.TooLong taken) r s = absurd cc
+  nothing_left other r s = absurd cc
 
   -- of one that is too long the bytes of the limit are taken
   pub limit_taken : (e : FeedFault) → Replies before start now old mid (Err (Feed e)) → status_of e ≡ status.TooLong → IfSome start.left (λ input. now.left ≡ Some (drop feed_limit input))
-  limit_taken (faults.Malformed at) r s = absurd cc
-  limit_taken (faults.Truncated at) r s = absurd cc
-  limit_taken faults.ReadFault r s = absurd cc
   limit_taken (faults.TooLong taken) r s =
       let long : feed_limit ≤ length r.given = feed_long feed_limit r.given taken (ap (λ bytes. (fed bytes).end) (sym (append-nil r.given)) ∙ (r.says []).1) in
       let all : length r.given ≡ feed_limit = omega (arith, long, r.took.counted, r.took.within) in
       with_input (λ input. now.left ≡ Some (drop feed_limit input)) start.left now.left r.given r.took.consumed (λ rest e.
       e ∙ ap (λ (t : List ℕ). Some t) (sym (ap (λ n. drop n (r.given ++ rest)) (sym all) ∙ drop-append_seam r.given rest)))
+  limit_taken other r s = absurd cc
 
 module _ {before : List (List ℕ)} {start now : Moment} {old mid : Option (List ℕ)} where
   -- the line of a fault was written, which gives this status

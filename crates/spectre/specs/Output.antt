@@ -36,16 +36,17 @@ output_by (Some (jobs.Drill n seed width)) disk input = drilled (scene (made n s
 abbrev pub output : List (List ℕ) → List ℕ → List ℕ → List ℕ
 output words disk input = output_by (job_in words) disk input
 
--- What is said of the disk's bytes is said where it tells them, and for a job that names no file of none.
+-- the disk's bytes, where it tells them; for a job that names no file none
 abbrev pub disk_told : Option Job → Option (List ℕ) → Option (List ℕ)
 disk_told (Some (jobs.Keep path fresh)) reads = reads
 disk_told (Some (jobs.Show path)) reads = reads
 disk_told other reads = Some []
 
+-- what is said of them
 abbrev pub OnDisk : Option Job → Option (List ℕ) → (List ℕ → Type 0) → Type 0
 OnDisk job reads P = IfSome (disk_told job reads) P
 
--- What is said of the input is said where the source tells it, and for a job that takes none of no bytes.
+-- the input, where the source tells it; for a job that takes none no bytes
 abbrev pub input_told : Option Job → Option (List ℕ) → Option (List ℕ)
 input_told (Some jobs.Replay) left = left
 input_told (Some (jobs.Keep path fresh)) left = left
@@ -53,6 +54,7 @@ input_told (Some jobs.Play) left = left
 input_told (Some jobs.Build) left = left
 input_told other left = Some []
 
+-- what is said of it
 abbrev pub OnInput : Option Job → Option (List ℕ) → (List ℕ → Type 0) → Type 0
 OnInput job left P = IfSome (input_told job left) P
 
