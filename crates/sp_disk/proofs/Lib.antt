@@ -1,4 +1,5 @@
 pub mod Runs
+pub mod Lasting
 pub mod Partly
 pub mod Recorded
 pub mod Outcomes

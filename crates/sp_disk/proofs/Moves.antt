@@ -1,13 +1,13 @@
 -- What each call of a disk in memory does to it, as the trait says it.
-use Rattle.std.proofs.Common.{◌≡◌, ℕ, true, false, List, [], ◌∷◌, ◌++◌, length, Option, Some, Ok, Err, refl, sym, ap, subst, ◌∙◌, arith, length-append}
+use Rattle.std.proofs.Common.{◌≡◌, ℕ, ◌≤◌, true, false, List, [], ◌∷◌, ◌++◌, length, take, Option, Some, Ok, Err, refl, sym, ap, subst, ◌∙◌, arith, length-append}
 use Rattle.sp_form.specs.Bytes.{IsBytes}
 use Rattle.sp_io.specs.declared.failed.Failed.{Failed}
-use Rattle.sp_disk.specs.Images.{EachComesBy, EachIs, PartlyWritten, written}
+use Rattle.sp_disk.specs.Images.{Among, EachComesBy, EachIs, PartlyWritten, written}
 use Rattle.sp_disk.specs.Moments.{Elapses, Moment, Reads, Syncs, Writes}
 use Rattle.sp_disk.specs.Pending.{IsImage, State, state}
-use Rattle.sp_disk.specs.History.{after, Event, Keeping, moment_of, state_after, state_of, Sync, told, WasLeft, Write}
+use Rattle.sp_disk.specs.History.{after, Event, Keeping, moment_of, state_after, state_of, Sync, told, WasLeft, WasLeftAt, Write}
 use Rattle.sp_disk.specs.Sound.{is_long, read_image, starts_long, told_bytes, told_only, written_bytes}
-use Rattle.sp_disk.proofs.Recorded.{agree_same, agree_written, state-push, still_was, synced_only, was_or_is, write_follows}
+use Rattle.sp_disk.proofs.Recorded.{agree_same, agree_written, one_more, state-push, still_among, still_was, synced_only, was_at, was_or_is, write_follows}
 use Rattle.sp_disk.proofs.Partly.{unchanged}
 
 -- one event more was recorded
@@ -24,13 +24,25 @@ module _ (k k' : Keeping) (event : Event) (more : IsMore k k' event) where
     reads = told (state_after (sym more.start i) (sym more.events i)).reads;
     images = IsImage (state_after (sym more.start i) (sym more.events i));
     clock = length (sym more.events i);
+    at = WasLeftAt (sym more.start i) (sym more.events i);
     since = WasLeft (sym more.start i) (sym more.events i);
     faults = k'.faults;
   }) (record {
     later = omega (arith, length-append k.events (event ∷ []));
     since = λ t le image left. was_or_is k.start k.events event t image left;
     keeps = λ t le image left. still_was k.start k.events event t image left;
+    ebbs = record {
+      later = omega (arith, length-append k.events (event ∷ []));
+      past = λ t le. was_at k.start k.events event t le;
+      falls = λ t u past le until image left. one_more k.start k.events event t u past le image left;
+    };
   })
+
+  -- where the call takes no image away
+  pub within : Among (IsImage (state_of k)) (IsImage (state_of k')) → (t : ℕ) → length k.events ≤ t → t ≤ length k'.events → Among (IsImage (state_of k)) (WasLeftAt k'.start k'.events t)
+  within fewer t from until image left =
+      still_among k.start k.events event (λ i l. fewer i (subst (λ (s : State). IsImage s i) (state-push k.start k.events event ∙ sym state_is) l)) t from image
+      (subst (λ (es : List Event). IsImage (state_after k.start (take t es)) image) more.events (subst (λ (start : List ℕ). IsImage (state_after start (take t k'.events)) image) more.start left))
 
 -- a sync that succeeded
 pub syncs : (k k' : Keeping) → IsMore k k' Sync → Syncs {T = Unit {0}} {E = Failed} (moment_of k) (moment_of k') (Ok tt)
@@ -38,14 +50,16 @@ syncs k k' more =
     let s = state_of k in
     let is : state_of k' ≡ state s.reads s.reads [] = state_is k k' Sync more in
     let one : (image : List ℕ) → IsImage (state_of k') image → image ≡ s.reads = λ image left. synced_only s.reads image (subst (λ (t : State). IsImage t image) is left) in
+    let fewer : Among (IsImage s) (IsImage (state_of k')) = λ image left.
+        let same = one image left in
+        let bytes : IsBytes s.reads = subst IsBytes same left.bytes in
+        subst (IsImage s) (sym same) (read_image s (is_long (state k.start k.start []) k.events (starts_long k.start)) bytes) in
     record {
       ok = told_only s.reads (λ bytes. EachIs bytes (IsImage (state_of k'))) (λ bytes. one);
       looks = record {
         reads = ap (λ (t : State). told t.reads) is;
-        crash = λ image left.
-            let same = one image left in
-            let bytes : IsBytes s.reads = subst IsBytes same left.bytes in
-            subst (IsImage s) (sym same) (read_image s (is_long (state k.start k.start []) k.events (starts_long k.start)) bytes);
+        crash = fewer;
+        within = within k k' Sync more fewer;
         time = elapses k k' Sync more;
       };
     }

@@ -5,9 +5,9 @@ use Rattle.std.proofs.lemmas.Bool.{cases_lt}
 use Rattle.std.proofs.lemmas.List.{ext_get_or, length-take, take-append-le, take_all, get_or-take, get_or-drop, get_or-append_right, get_or_append_left}
 use Rattle.std.proofs.lemmas.Grind.{fold-append}
 use Rattle.sp_form.specs.Bytes.{IsBytes}
-use Rattle.sp_disk.specs.Images.{Among, EachComesBy, PartlyWritten, written}
+use Rattle.sp_disk.specs.Images.{Among, EachComesBy, PartlyWritten, Same, written}
 use Rattle.sp_disk.specs.Pending.{IsApart, IsFree, IsImage, reach, State, state}
-use Rattle.sp_disk.specs.History.{after, Event, range_of, state_after, WasLeft}
+use Rattle.sp_disk.specs.History.{after, Event, range_of, state_after, WasLeft, WasLeftAt}
 use Rattle.sp_disk.specs.Sound.{reach-push}
 use Rattle.sp_disk.specs.declared.pick.Range.{Range}
 
@@ -36,6 +36,26 @@ module _ (start : List ℕ) (events : List Event) (event : Event) where
     until = omega (arith, left.until, length-more);
     left = subst (λ (es : List Event). IsImage (state_after start es) image) (sym (take-append-le left.moment events (event ∷ []) left.until)) left.left;
   }
+
+  -- the moments before stay, and there is one more
+  was_same : (t : ℕ) → t ≤ length events → take t more ≡ take t events
+  was_same t le = take-append-le t events (event ∷ []) le
+
+  pub was_at : (t : ℕ) → t ≤ length events → Same (WasLeftAt start events t) (WasLeftAt start more t)
+  was_at t le = (λ image left. subst (λ (es : List Event). IsImage (state_after start es) image) (was_same t le) left, λ image left. subst (λ (es : List Event). IsImage (state_after start es) image) (sym (was_same t le)) left)
+
+  is_at : (t : ℕ) → length events < t → take t more ≡ more
+  is_at t past = take_all t more (omega (arith, length-more, past))
+
+  pub one_more : (t u : ℕ) → length events < t → t ≤ u → Among (WasLeftAt start more t) (WasLeftAt start more u)
+  one_more t u past le image left = subst (λ (es : List Event). IsImage (state_after start es) image) (is_at u (omega (arith, past, le)) ∙ sym (is_at t past)) left
+
+  -- where the images become no more, they are at each moment since among those from before
+  pub still_among : Among (IsImage (state_after start events)) (IsImage (state_after start more)) → (t : ℕ) → length events ≤ t → Among (IsImage (state_after start events)) (WasLeftAt start more t)
+  still_among fewer t from image left = elim (cases_lt (length events) t) [
+    | inl past ↦ fewer image (subst (λ (es : List Event). IsImage (state_after start es) image) (is_at t past) left)
+    | inr le ↦ subst (λ (es : List Event). IsImage (state_after start es) image) (was_same t le ∙ take_all t events from) left
+  ]
 
 -- ---- a write
 

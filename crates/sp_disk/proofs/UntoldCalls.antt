@@ -5,10 +5,19 @@ use Rattle.sp_disk.specs.Untold.{untold}
 use Rattle.sp_disk.proofs.Partly.{unchanged}
 
 untold_elapses : (old new : ℕ) → Elapses (untold old) (untold new)
-untold_elapses old new = record { later = omega arith; since = λ t le image left. inl left; keeps = λ t le image left. left }
+untold_elapses old new = record {
+  later = omega arith;
+  since = λ t le image left. inl left;
+  keeps = λ t le image left. left;
+  ebbs = record {
+    later = omega arith;
+    past = λ t le. (λ image left. left, λ image left. left);
+    falls = λ t u from le until image left. left;
+  };
+}
 
 pub untold_looks : (old new : ℕ) → Looks (untold old) (untold new)
-untold_looks old new = record { reads = refl; crash = λ image left. left; time = untold_elapses old new }
+untold_looks old new = record { reads = refl; crash = λ image left. left; within = λ t from until image left. left; time = untold_elapses old new }
 
 pub untold_syncs : {T E : Type 0} (old new : ℕ) (result : Result T E) → Syncs (untold old) (untold new) result
 untold_syncs old new (Ok x) = record { ok = tt; looks = untold_looks old new }

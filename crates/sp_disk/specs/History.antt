@@ -27,12 +27,16 @@ after s Sync = state s.reads s.reads []
 abbrev pub state_after : List ℕ → List Event → State
 state_after start events = fold after (state start start []) events
 
+-- an image of the moment behind some number of the calls
+abbrev pub WasLeftAt : List ℕ → List Event → ℕ → List ℕ → Type 0
+WasLeftAt start events t image = IsImage (state_after start (take t events)) image
+
 -- an image of the moment behind some number of the calls, from one on
 pub record WasLeft (start : List ℕ) (events : List Event) (t : ℕ) (image : List ℕ) : Type 0 where
   pub moment : ℕ
   pub from : t ≤ moment
   pub until : moment ≤ length events
-  pub left : IsImage (state_after start (take moment events)) image
+  pub left : WasLeftAt start events moment image
 
 -- the calls, each write with its part of the bytes of all of them
 abbrev pub events_of : List Call → List ℕ → List Event
@@ -64,6 +68,7 @@ moment_of k = record {
   reads = told (state_of k).reads;
   images = IsImage (state_of k);
   clock = length k.events;
+  at = WasLeftAt k.start k.events;
   since = WasLeft k.start k.events;
   faults = k.faults;
 }

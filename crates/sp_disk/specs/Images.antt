@@ -20,6 +20,10 @@ EachComesBy step old new = (image : List ℕ) → new image → (before : List �
 abbrev pub Among : (List ℕ → Type 0) → (List ℕ → Type 0) → Type 0
 Among those these = (image : List ℕ) → these image → those image
 
+-- these images are those
+abbrev pub Same : (List ℕ → Type 0) → (List ℕ → Type 0) → Type 0
+Same those these = Among those these × Among these those
+
 -- each of the images is these bytes
 abbrev pub EachIs : List ℕ → (List ℕ → Type 0) → Type 0
 EachIs bytes images = (image : List ℕ) → images image → image ≡ bytes

@@ -1,14 +1,16 @@
 -- What contracts see of a disk at a moment, and what each call does to it.
-use Rattle.std.specs.Prelude.{◌≡◌, ◌⊎◌, ℕ, ◌≤◌, List, length, take, drop, min, Option, Some, None, IfSome, Result, OnOk, OnErr, IfOk}
+use Rattle.std.specs.Prelude.{◌≡◌, ◌⊎◌, ℕ, ◌<◌, ◌≤◌, List, length, take, drop, min, Option, Some, None, IfSome, Result, OnOk, OnErr, IfOk}
 use Rattle.sp_form.specs.Bytes.{IsBytes}
-use Rattle.sp_disk.specs.Images.{Among, EachComesBy, EachIs, PartlyWritten, written}
+use Rattle.sp_disk.specs.Images.{Among, EachComesBy, EachIs, PartlyWritten, Same, written}
 
--- What a read gives, where the disk tells it; which images a crash may leave now; a number that doesn't fall,
--- and which images a crash at some moment since then might have left; how often a call failed.
+-- What a read gives, where the disk tells it; which images a crash may leave now; the number of this moment, which
+-- doesn't fall; which images a crash at the moment of some number might have left, and which one at some moment since
+-- then; how often a call failed.
 pub record Moment : Type 1 where
   pub reads : Option (List ℕ)
   pub images : List ℕ → Type 0
   pub clock : ℕ
+  pub at : ℕ → List ℕ → Type 0
   pub since : ℕ → List ℕ → Type 0
   pub faults : ℕ
 
@@ -22,6 +24,16 @@ pub record IsMoment (m : Moment) : Type 0 where
   pub counts : (t : ℕ) (image : List ℕ) → t ≤ m.clock → m.images image → m.since t image
   -- and the only one since now
   pub only : Among m.images (m.since m.clock)
+  -- the moments since one are that one and those of the greater numbers, up to now
+  pub some : (t : ℕ) → t ≤ m.clock → (image : List ℕ) → m.since t image → (u : ℕ) × (t ≤ u) × (u ≤ m.clock) × m.at u image
+  pub all : (t u : ℕ) → t ≤ u → u ≤ m.clock → Among (m.since t) (m.at u)
+
+-- What a crash might have left at the old moment and before is as it was. From one moment since then to a later one the
+-- images become no more.
+pub record Ebbs (old new : Moment) : Type 0 where
+  pub later : old.clock ≤ new.clock
+  pub past : (t : ℕ) → t ≤ old.clock → Same (old.at t) (new.at t)
+  pub falls : (t u : ℕ) → old.clock < t → t ≤ u → u ≤ new.clock → Among (new.at t) (new.at u)
 
 -- Time goes on: an image of a moment since t is one of those before, or one of now. The moments within the
 -- call are among them.
@@ -29,11 +41,14 @@ pub record Elapses (old new : Moment) : Type 0 where
   pub later : old.clock ≤ new.clock
   pub since : (t : ℕ) → t ≤ old.clock → (image : List ℕ) → new.since t image → old.since t image ⊎ new.images image
   pub keeps : (t : ℕ) → t ≤ old.clock → Among (new.since t) (old.since t)
+  pub ebbs : Ebbs old new
 
 -- a call that changes nothing
 pub record Looks (old new : Moment) : Type 0 where
   pub reads : new.reads ≡ old.reads
   pub crash : Among old.images new.images
+  -- at each moment since the old one
+  pub within : (t : ℕ) → old.clock ≤ t → t ≤ new.clock → Among old.images (new.at t)
   pub time : Elapses old new
 
 -- what is read afterwards, where the disk tells it
@@ -67,3 +82,11 @@ pub record Leaves (old new : Moment) (P : List ℕ → Type 0) : Type 0 where
   pub each : Among P (new.since old.clock)
   -- for a run that began earlier
   pub before : (t : ℕ) → t ≤ old.clock → (image : List ℕ) → new.since t image → old.since t image ⊎ P image
+  pub past : (t : ℕ) → t ≤ old.clock → Same (old.at t) (new.at t)
+
+-- P lasts: where a crash at some moment since the old one leaves nothing but what has P, one at each later moment does so.
+pub record Lasts (old new : Moment) (P : List ℕ → Type 0) : Type 0 where
+  pub later : old.clock ≤ new.clock
+  pub lasts : (t : ℕ) → old.clock ≤ t → t ≤ new.clock → Among P (new.at t) → Among P (new.since t)
+  -- for a run that began earlier
+  pub past : (t : ℕ) → t ≤ old.clock → Same (old.at t) (new.at t)

@@ -82,6 +82,8 @@ keeping_is_moment k = record {
   reads = told_only (state_of k).reads (IsImage (state_of k)) (read_image (state_of k) (is_long (state k.start k.start []) k.events (starts_long k.start)));
   counts = λ t image le left. record { moment = length k.events; from = le; until = omega arith; left = subst (λ (es : List Event). IsImage (state_after k.start es) image) (sym (take_all (length k.events) k.events (omega arith))) left };
   only = λ image left. subst (λ (es : List Event). IsImage (state_after k.start es) image) (take_all left.moment k.events left.from) left.left;
+  some = λ t le image left. (left.moment, left.from, left.until, left.left);
+  all = λ t u from until image left. record { moment = u; from = from; until = until; left = left };
 }
 
 bytes-append : (a b : List ℕ) → IsBytes a → IsBytes b → IsBytes (a ++ b)

@@ -1,13 +1,16 @@
 -- Reads of a disk one after another, and what is seen of its bytes in the room for the longest record.
-use Rattle.std.proofs.Common.{◌≡◌, inl, inr, ⊎_elim, ℕ, zero, suc, ◌+◌, ◌-◌, false, List, [], ◌∷◌, ◌++◌, length, take, drop, Option, Some, None, Result, Ok, Err, refl, sym, ap, subst, ◌∙◌, arith}
+use Rattle.std.proofs.Common.{◌≡◌, inl, inr, ⊎_elim, ℕ, zero, suc, ◌+◌, ◌≤◌, ◌-◌, false, List, [], ◌∷◌, ◌++◌, length, take, drop, Option, Some, None, Result, Ok, Err, refl, sym, ap, subst, ◌∙◌, arith}
 use Rattle.std.specs.Prelude.{fold, IfOk, IfSome, min}
+use Rattle.std.proofs.lemmas.Bool.{cases_lt}
 use Rattle.std.proofs.lemmas.List.{drop-drop}
 use Rattle.std.proofs.lemmas.Grind.{fold-append}
 use Rattle.sp_form.specs.Bytes.{IsBytes}
 use Rattle.sp_ids.specs.Digest.{sha256_number}
 use Rattle.sp_block.specs.Block.{ReadBlock}
 use Rattle.sp_io.specs.Causes.{Rose}
+use Rattle.sp_disk.specs.Images.{Among}
 use Rattle.sp_disk.specs.Moments.{IsMoment, Looks, Moment}
+use Rattle.sp_disk.proofs.Lasting.{looks_ebb}
 use Rattle.sp_journal.specs.Looked.{HasLooked}
 use Rattle.sp_journal.specs.declared.fault.JournalFault.{JournalFault}
 use Rattle.sp_journal.specs.Records.{Faulty, is_shut, rows}
@@ -16,21 +19,29 @@ use Rattle.sp_journal.proofs.Recovered.{IsSoFar, so_far_faulty, so_far_full, so_
 use Rattle.sp_journal.proofs.Windows.{bytes_drop, if_some, if_some2, window}
 
 -- two reads one after another
-pub looks_then : (old mid new : Moment) → IsMoment old → Looks old mid → Looks mid new → Looks old new
-looks_then old mid new law first second = record {
+within_then : (old mid new : Moment) → Looks old mid → Looks mid new → (t : ℕ) → old.clock ≤ t → t ≤ new.clock → Among old.images (new.at t)
+within_then old mid new first second t from until image left = elim (cases_lt mid.clock t) [
+  | inl past ↦ first.crash image (second.within t (omega (arith, past)) until image left)
+  | inr le ↦ first.within t from le image ((second.time.ebbs.past t le).0 image left)
+]
+
+pub looks_then : (old mid new : Moment) → IsMoment old → IsMoment mid → Looks old mid → Looks mid new → Looks old new
+looks_then old mid new law mid_law first second = record {
   reads = second.reads ∙ first.reads;
   crash = λ image left. first.crash image (second.crash image left);
+  within = within_then old mid new first second;
   time = record {
     later = omega (arith, first.time.later, second.time.later);
     since = λ t le image left. ⊎_elim (λ was. ⊎_elim (λ a. inl a) (λ b. inl (law.counts t image le (first.crash image b))) (first.time.since t le image was)) (λ now. inr now) (second.time.since t (omega (arith, le, first.time.later)) image left);
     keeps = λ t le image left. second.time.keeps t (omega (arith, le, first.time.later)) image (first.time.keeps t le image left);
+    ebbs = looks_ebb old mid new mid_law first.time.ebbs second;
   };
 }
 
 -- what was looked at after a look that changed no count
-pub looked_then : {T : Type 0} {result : Result T JournalFault} (old mid new : Moment) → IsMoment old → Looks old mid → mid.faults ≡ old.faults → HasLooked mid new result → HasLooked old new result
-looked_then old mid new law first same second = record {
-  looks = looks_then old mid new law first second.looks;
+pub looked_then : {T : Type 0} {result : Result T JournalFault} (old mid new : Moment) → IsMoment old → IsMoment mid → Looks old mid → mid.faults ≡ old.faults → HasLooked mid new result → HasLooked old new result
+looked_then old mid new law mid_law first same second = record {
+  looks = looks_then old mid new law mid_law first second.looks;
   fault = λ e. subst (λ (n : ℕ). Rose n new.faults) same (second.fault e);
   later = omega (arith, same, second.later);
   quiet = λ other. second.quiet other ∙ same;

@@ -1,7 +1,7 @@
 -- The opening of a gate over a body, step by step.
 use Rattle.std.proofs.Common.{◌≡◌, inl, ℕ, ◌+◌, ◌<◌, ◌≤◌, List, [], ◌∷◌, ◌++◌, length, drop, Option, Some, None, Err, refl, sym, ap, ◌∙◌, subst, arith, length-append}
 use Rattle.std.proofs.lemmas.List.{length-take}
-use Rattle.std.specs.Prelude.{IfSome, IsSome, take}
+use Rattle.std.specs.Prelude.{◌≢◌, IfSome, IsSome, take}
 use Rattle.sp_disk.specs.Images.{Among, EachIs, PartlyWritten, written}
 use Rattle.sp_disk.specs.Moments.{IsMoment, Leaves, Moment, Reads, PartlyWrittenFrom}
 use Rattle.sp_disk.proofs.Runs.{joined, weaker}
@@ -48,18 +48,19 @@ module _ (front body : List ℕ) (gate : ℕ) (size : length front ≡ gate) (ol
 
   module _ (mid : Moment) (puts : Puts (gate + 1) body old mid) where
     -- the body stands behind the closed gate
-    record IsStaged : Type 0 where
+    pub record IsStaged : Type 0 where
       pub closed : ℕ
+      pub is_closed : closed ≢ set
       pub rest : List ℕ
       pub settled : IsSettled (front ++ closed ∷ (body ++ rest)) mid
 
-    staged : IsStaged
+    pub staged : IsStaged
     staged =
         let r = read_of old.reads mid.reads old.images (gate + 1) body has.told law.reads puts.reads in
         let shut = has.shut r.was r.image in
         let is : written r.was (gate + 1) body ≡ front ++ shut.gate ∷ (body ++ drop (length front + 1 + length body) r.was) =
         ap (λ (g : ℕ). written r.was (g + 1) body) (sym size) ∙ written_behind front body r.was shut in
-        record { closed = shut.gate; rest = drop (length front + 1 + length body) r.was; settled = settles (gate + 1) body _ old mid puts (r.now ∙ (λ i. Some (is i))) }
+        record { closed = shut.gate; is_closed = shut.closed; rest = drop (length front + 1 + length body) r.was; settled = settles (gate + 1) body _ old mid puts (r.now ∙ (λ i. Some (is i))) }
 
     pub at_gate : Among (IsShutOrOpened front body) (PartlyWrittenFrom gate 1 mid)
     at_gate image torn =

@@ -55,7 +55,7 @@ none_torn (byte ∷ rest) new not_shut none torn =
       ]
     ]
 
-read_bytes : (r : Option (List ℕ)) (P Q : List ℕ → Type 0) → IsSome r → IfSome r P → IfSome r Q → (bytes : List ℕ) × (r ≡ Some bytes) × P bytes × Q bytes
+pub read_bytes : (r : Option (List ℕ)) (P Q : List ℕ → Type 0) → IsSome r → IfSome r P → IfSome r Q → (bytes : List ℕ) × (r ≡ Some bytes) × P bytes × Q bytes
 read_bytes None P Q some p q = absurd cc
 read_bytes (Some bytes) P Q some p q = (bytes, refl, p, q)
 
@@ -116,7 +116,7 @@ module _ (bits : ℕ) (genesis : List ℕ) (small : bits ≤ 64) (block : is_blo
   abbrev pub new_contents : Contents
   new_contents = contents bits genesis []
 
-  new_are : AreContents new_contents
+  pub new_are : AreContents new_contents
   new_are = record { bits = small; genesis = block; few = omega arith; records = tt }
 
   pub none_or_new : (list : List ℕ) → IsShutOrOpened [] (head_body bits genesis ++ 0 ∷ []) list → HoldsNoneOrNew new_contents list

@@ -28,3 +28,7 @@ HoldsNone list = records list ≡ NoJournal
 -- the bytes hold no journal, or the new one
 abbrev pub HoldsNoneOrNew : Contents → List ℕ → Type 0
 HoldsNoneOrNew c list = HoldsNone list ⊎ (records list ≡ Found c)
+
+-- the bytes hold a journal
+abbrev pub HoldsJournal : List ℕ → Type 0
+HoldsJournal list = (c : Contents) × (records list ≡ Found c)

@@ -2,8 +2,8 @@
 
 ghost use Rattle.std.specs.Prelude.{◌≡◌, ◌+◌, ◌<◌, ◌≤◌, [], length, IfSome, OnOk};
 ghost use Rattle.sp_io.specs.Causes.{HasCause};
-ghost use Rattle.sp_disk.specs.Moments.{Leaves};
-ghost use Rattle.sp_journal.specs.Creation.{HoldsNone, IsSynced, IsVacant};
+ghost use Rattle.sp_disk.specs.Moments.{Lasts, Leaves};
+ghost use Rattle.sp_journal.specs.Creation.{HoldsJournal, HoldsNone, IsSynced, IsVacant};
 ghost use Rattle.sp_journal.specs.Settled.{HasGate, IsTold, SameTold};
 ghost use Rattle.sp_journal.specs.declared.gate_kind.Gate.TheVariants.{Shut};
 
@@ -22,6 +22,7 @@ pub(crate) fn close_gate<D: Disk>(disk: &mut D, gate: Gate) -> Result<(), Failed
     ensures place { OnOk result (IfSome (D.now disk.new).reads (λ bytes. 0 < length bytes)) }
     ensures any_moment { IsTold (D.now disk.old) → IsSynced (D.now disk.old)
         → Leaves (D.now disk.old) (D.now disk.new) HoldsNone }
+    ensures lasts { IsTold (D.now disk.old) → Lasts (D.now disk.old) (D.now disk.new) HoldsJournal }
     ensures told { SameTold (D.now disk.old) (D.now disk.new) }
     ensures cause { HasCause (D.now disk.old).faults (D.now disk.new).faults result }
 {

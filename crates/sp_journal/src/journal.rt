@@ -4,8 +4,8 @@ ghost use Rattle.std.specs.Prelude.{◌≡◌, ◌↔◌, ◌+◌, ◌<◌, ◌�
 ghost use Rattle.sp_ids.specs.Bits.{BeginsWithZeros};
 ghost use Rattle.sp_io.specs.Causes.{Rose};
 ghost use Rattle.sp_block.specs.Block.{IsGenesis, IsOther};
-ghost use Rattle.sp_disk.specs.Moments.{Leaves, Looks};
-ghost use Rattle.sp_journal.specs.Creation.{HoldsNoneOrNew, IsSynced, IsVacant};
+ghost use Rattle.sp_disk.specs.Moments.{Lasts, Leaves, Looks};
+ghost use Rattle.sp_journal.specs.Creation.{HoldsJournal, HoldsNoneOrNew, IsSynced, IsVacant};
 ghost use Rattle.sp_journal.specs.Journal.{Contents, contents, ids_of, with_block};
 ghost use Rattle.sp_journal.specs.Judged.{has};
 ghost use Rattle.sp_journal.specs.Opening.{contents_in, Judges};
@@ -128,6 +128,8 @@ impl Journal {
             → Stands journal (contents bits genesis.now.bytes []) (D.now disk.new)) }
         ensures any_moment { IsTold (D.now disk.old) → IsSynced (D.now disk.old)
             → Leaves (D.now disk.old) (D.now disk.new) (HoldsNoneOrNew (contents bits genesis.now.bytes [])) }
+        // Once a crash leaves nothing but a journal, it leaves one at each later moment.
+        ensures lasts { IsTold (D.now disk.old) → Lasts (D.now disk.old) (D.now disk.new) HoldsJournal }
         ensures told { SameTold (D.now disk.old) (D.now disk.new) }
         ensures fault { IsErrOf result created.DiskFault → Rose (D.now disk.old).faults (D.now disk.new).faults }
         ensures memory { IsErrOf result created.Memory → disk.new ≡ disk.old }

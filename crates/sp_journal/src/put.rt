@@ -3,7 +3,7 @@
 
 ghost use Rattle.std.specs.Prelude.{◌+◌, ◌^◌, ◌<◌, ◌≤◌, length, IfSome, OnOk};
 ghost use Rattle.sp_io.specs.Causes.{HasCause};
-ghost use Rattle.sp_disk.specs.Moments.{Leaves, PartlyWrittenFrom};
+ghost use Rattle.sp_disk.specs.Moments.{Ebbs, Leaves, PartlyWrittenFrom};
 ghost use Rattle.sp_journal.specs.Settled.{Puts, SameTold};
 
 use sp_disk::Disk;
@@ -16,6 +16,7 @@ pub(crate) fn put<D: Disk>(disk: &mut D, at: u64, bytes: &[u8]) -> Result<(), Fa
     requires end { at + length bytes.now < 2 ^ 63 }
     ensures ok { OnOk result (Puts at bytes.now (D.now disk.old) (D.now disk.new)) }
     ensures any_moment { Leaves (D.now disk.old) (D.now disk.new) (PartlyWrittenFrom at (length bytes.now) (D.now disk.old)) }
+    ensures ebbs { Ebbs (D.now disk.old) (D.now disk.new) }
     ensures told { SameTold (D.now disk.old) (D.now disk.new) }
     ensures cause { HasCause (D.now disk.old).faults (D.now disk.new).faults result }
 {

@@ -2,9 +2,9 @@
 use Rattle.std.specs.Prelude.{◌≡◌, ◌≢◌, ◌⊎◌, ℕ, Bool, true, false, List, [], length, IfSome, if◌then◌else◌, Result, Ok, Err}
 use Rattle.sp_ids.specs.Digest.{sha256_number}
 use Rattle.sp_block.specs.Block.{ReadBlock}
-use Rattle.sp_disk.specs.Moments.{Leaves, Moment}
+use Rattle.sp_disk.specs.Moments.{Lasts, Leaves, Moment}
 use Rattle.sp_feed.specs.Genesis.{ReadHead}
-use Rattle.sp_journal.specs.Creation.{HoldsNoneOrNew, IsSynced, IsVacant}
+use Rattle.sp_journal.specs.Creation.{HoldsJournal, HoldsNoneOrNew, IsSynced, IsVacant}
 use Rattle.sp_journal.specs.Journal.{contents}
 use Rattle.sp_journal.specs.Opening.{contents_in, Opening}
 use Rattle.sp_journal.specs.Records.{Damaged as damaged, Found as found, records}
@@ -60,9 +60,10 @@ NamesBoth (Empty gate) head fault = ⊥
 NamesBoth (Found o) head fault = fault ≡ starts.OtherChain o.bits (sha256_number o.genesis.bytes) head.bits (sha256_number head.genesis.bytes)
 
 -- What a start leaves of a disk at each moment: no journal or the new one, where there was none and nothing was
--- pending. A found journal's disk isn't called.
+-- pending; and once it leaves nothing but a journal, that lasts. A found journal's disk isn't called.
 abbrev pub LeavesStarted : Stored → ReadHead → Moment → Moment → Type 0
-LeavesStarted (Empty gate) head old new = IsTold old → IsSynced old → Leaves old new (HoldsNoneOrNew (contents head.bits head.genesis.bytes []))
+LeavesStarted (Empty gate) head old new =
+    IsTold old → (IsSynced old → Leaves old new (HoldsNoneOrNew (contents head.bits head.genesis.bytes []))) × Lasts old new HoldsJournal
 LeavesStarted (Found opened) head old new = Unit {0}
 
 abbrev pub IsFound : Stored → Type 0

@@ -116,7 +116,8 @@ impl Node {
         ensures has { IfOk result (λ node. IsSome node.journal) }
         ensures stands { IfOk result (λ node. IsKeptOn node.bits node.kept node.journal (D.now disk.new)) }
 
-        // A crash at any moment of the call leaves what was found, or no journal or the new one.
+        // A crash at any moment of the call leaves what was found, or no journal or the new one; and once it
+        // leaves nothing but a journal, it leaves one at each later moment.
         ensures any_moment { LeavesStarted stored head (D.now disk.old) (D.now disk.new) }
         ensures untouched { IsFound stored → disk.new ≡ disk.old }
         ensures told { SameTold (D.now disk.old) (D.now disk.new) }

@@ -4,12 +4,12 @@ ghost use Rattle.std.specs.Prelude.{◌≡◌, ◌⊎◌, ◌+◌, ◌++◌, ◌
 ghost use Rattle.sp_ids.specs.Digest.{sha256_number};
 ghost use Rattle.sp_io.specs.Causes.{Rose};
 ghost use Rattle.sp_block.specs.Block.{IsGenesis};
-ghost use Rattle.sp_disk.specs.Moments.{Leaves};
+ghost use Rattle.sp_disk.specs.Moments.{Lasts, Leaves};
 ghost use Rattle.sp_model.specs.declared.profile.Profile.TheVariants.{One};
 ghost use Rattle.sp_engine.specs.Arrivals.{kept_after, kept_by_all};
 ghost use Rattle.sp_engine.specs.Blocks.{block_in};
 ghost use Rattle.sp_engine.specs.Engine.{IsLedger};
-ghost use Rattle.sp_journal.specs.Creation.{HoldsNoneOrNew, IsSynced, IsVacant};
+ghost use Rattle.sp_journal.specs.Creation.{HoldsJournal, HoldsNoneOrNew, IsSynced, IsVacant};
 ghost use Rattle.sp_journal.specs.Journal.{contents};
 ghost use Rattle.sp_journal.specs.Recovery.{bytes_in, id_behind, IsGood};
 ghost use Rattle.sp_journal.specs.Settled.{IsTold, SameTold};
@@ -81,6 +81,7 @@ pub(crate) fn start_new<D: Disk>(
         → StandsForKept head.bits (head.genesis ∷ []) made.1 (D.now disk.new)) }
     ensures any_moment { IsTold (D.now disk.old) → IsSynced (D.now disk.old)
         → Leaves (D.now disk.old) (D.now disk.new) (HoldsNoneOrNew (contents head.bits head.genesis.bytes [])) }
+    ensures lasts { IsTold (D.now disk.old) → Lasts (D.now disk.old) (D.now disk.new) HoldsJournal }
     ensures told { SameTold (D.now disk.old) (D.now disk.new) }
     ensures own { IfErr result (λ fault. (fault ≡ faults.DiskFault) ⊎ (fault ≡ faults.Memory)) }
     ensures fault { IsErrOf result faults.DiskFault → Rose (D.now disk.old).faults (D.now disk.new).faults }

@@ -5,7 +5,8 @@ use Rattle.std.specs.Io.KnownBytes.{Consumes}
 use Rattle.sp_ids.specs.Digest.{sha256_number}
 use Rattle.sp_block.specs.Block.{ReadBlock}
 use Rattle.sp_disk.specs.Images.{Among}
-use Rattle.sp_disk.specs.Moments.{IsMoment, Leaves, Looks, Moment as DiskMoment}
+use Rattle.sp_disk.specs.Moments.{IsMoment, Lasts, Leaves, Looks, Moment as DiskMoment}
+use Rattle.sp_disk.proofs.Lasting.{joined_last, leaves_last, looks_same, started_last}
 use Rattle.sp_disk.proofs.Runs.{ends, joined, weaker}
 use Rattle.sp_engine.specs.Blocks.{block_in}
 use Rattle.sp_feed.specs.Calls.{GivesHead}
@@ -17,8 +18,9 @@ use Rattle.sp_feed.specs.Reads.{Moment}
 use Rattle.sp_feed.specs.declared.fault.FeedFault.TheVariants as faults
 use Rattle.sp_feed.specs.declared.fault.HeadFault.{HeadFault}
 use Rattle.sp_feed.specs.declared.fault.HeadFault.TheVariants as heads
-use Rattle.sp_journal.specs.Creation.{HoldsNoneOrNew, IsSynced}
+use Rattle.sp_journal.specs.Creation.{HoldsJournal, HoldsNoneOrNew, IsSynced}
 use Rattle.sp_journal.specs.Journal.{Contents, contents}
+use Rattle.sp_journal.specs.Prefixes.{front_of}
 use Rattle.sp_journal.specs.Records.{Found as found, NoJournal, records}
 use Rattle.sp_journal.specs.Recovery.{bytes_in}
 use Rattle.sp_journal.specs.Settled.{IsTold, SameTold}
@@ -40,10 +42,6 @@ use Rattle.spectre.specs.declared.replay.ReplayFault.{ReplayFault}
 use Rattle.spectre.specs.declared.replay.ReplayFault.TheVariants as replays
 use Rattle.spectre.proofs.Replayed.{with_input}
 use Rattle.spectre.proofs.Replies.{head_answered, head_needed, rest_none}
-
--- a disk of which nothing was asked
-pub looks_same : (m : DiskMoment) → Looks m m
-looks_same m = record { reads = refl; crash = λ image left. left; time = record { later = omega arith; since = λ t le image left. inl left; keeps = λ t le image left. left } }
 
 -- ---- what the head says
 
@@ -80,22 +78,22 @@ sent_bytes (Found o) = refl
 
 -- ---- no node was started
 
-silent_head : (stored : Stored) {start now : Moment} (first : DiskMoment) (e : HeadFault) (g : GivesHead feed_limit start now head_in (Err e)) → UntriedBy stored start now g.given first first (Err (of_head e))
-silent_head stored first (heads.Feed (faults.Malformed at)) g = (g.says, looks_same first)
-silent_head stored first (heads.Feed (faults.Truncated at)) g = (g.says.0, g.says.1, looks_same first)
-silent_head stored first (heads.Feed faults.ReadFault) g = (g.says.0, g.says.1, looks_same first)
-silent_head stored first (heads.Feed (faults.TooLong taken)) g = (g.says, looks_same first)
-silent_head stored first heads.Memory g = looks_same first
+silent_head : (stored : Stored) {start now : Moment} (first : DiskMoment) (law : IsMoment first) (e : HeadFault) (g : GivesHead feed_limit start now head_in (Err e)) → UntriedBy stored start now g.given first first (Err (of_head e))
+silent_head stored first law (heads.Feed (faults.Malformed at)) g = (g.says, looks_same first law)
+silent_head stored first law (heads.Feed (faults.Truncated at)) g = (g.says.0, g.says.1, looks_same first law)
+silent_head stored first law (heads.Feed faults.ReadFault) g = (g.says.0, g.says.1, looks_same first law)
+silent_head stored first law (heads.Feed (faults.TooLong taken)) g = (g.says, looks_same first law)
+silent_head stored first law heads.Memory g = looks_same first law
 
-pub untried_head : (stored : Stored) {start now : Moment} (old : Option (List ℕ)) (first : DiskMoment) (e : HeadFault) → GivesHead feed_limit start now head_in (Err e) → IsUntried stored start now old old first first (Err (of_head e))
-untried_head stored old first e g = record {
+pub untried_head : (stored : Stored) {start now : Moment} (old : Option (List ℕ)) (first : DiskMoment) → IsMoment first → (e : HeadFault) → GivesHead feed_limit start now head_in (Err e) → IsUntried stored start now old old first first (Err (of_head e))
+untried_head stored old first law e g = record {
   given = g.given;
   took = g.took;
   needed = head_needed g;
   headed = head_ends g;
   answered = head_answered (bytes_of stored) old g;
   silent = refl;
-  why = silent_head stored first e g;
+  why = silent_head stored first law e g;
 }
 
 -- nothing was read
@@ -103,15 +101,15 @@ nothing_consumed : (left : Option (List ℕ)) → Consumes left left []
 nothing_consumed None = tt
 nothing_consumed (Some xs) = refl
 
-pub untried_none : (stored : Stored) (start : Moment) (old : Option (List ℕ)) (first : DiskMoment) → start.taken ≤ feed_limit → KeepAnswers stored start start old old first first (Err Memory)
-untried_none stored start old first few = inl (record {
+pub untried_none : (stored : Stored) (start : Moment) (old : Option (List ℕ)) (first : DiskMoment) → IsMoment first → start.taken ≤ feed_limit → KeepAnswers stored start start old old first first (Err Memory)
+untried_none stored start old first law few = inl (record {
   given = [];
   took = record { consumed = nothing_consumed start.left; counted = omega arith; within = few; later = omega arith };
   needed = λ front rest e l. absurd (omega (arith, ap length e, length-append front rest, l));
   headed = none_ends;
   answered = λ front rest e l. absurd (omega (arith, ap length e, length-append front rest, l));
   silent = refl;
-  why = looks_same first;
+  why = looks_same first law;
 })
 
 -- the start failed
@@ -120,7 +118,7 @@ StartFails stored head fault = (fault ≡ starts.DiskFault) ⊎ ((fault ≡ star
 
 module _ (stored : Stored) {start now : Moment} (old : Option (List ℕ)) (first last : DiskMoment) (head : ReadHead) (g : GivesHead feed_limit start now head_in (Ok head)) (spelled : block_in true head.genesis.bytes ≡ Ok head.genesis) where
   amiss : (s : Stored) → (IsFound s → ⊥) → LeavesStarted s head first last → IsAmissOn s g.given first last
-  amiss (Empty gate) not_found leaves = record { bits = head.bits; genesis = head.genesis; spelled = spelled; whole = head_whole g; unread = none_read g; leaves = leaves }
+  amiss (Empty gate) not_found leaves = record { bits = head.bits; genesis = head.genesis; spelled = spelled; whole = head_whole g; unread = none_read g; leaves = λ is. (leaves is).0; lasts = λ is. (leaves is).1 }
   amiss (Found o) not_found leaves = absurd (not_found tt)
 
   named : (s : Stored) (fault : StartFault) → (IsOfSame s head → ⊥) → NamesBoth s head fault → (IsFound s → Looks first last) → UntriedBy s start now g.given first last (Err (of_start fault))
@@ -161,7 +159,7 @@ run_told None first last P some run told = absurd cc
 run_told (Some w) first last P some run told = run told
 
 module _ (stored : Stored) {start mid now : Moment} {old new : Option (List ℕ)} (first here last : DiskMoment) (head : ReadHead) (g : GivesHead feed_limit start mid head_in (Ok head)) (bits : ℕ) (kept : List ReadBlock) (w : Option Writer)
-    (same : IsOfSame stored head) (b : bits ≡ head.bits) (k : kept ≡ head.genesis ∷ stored_blocks stored) (has : IsSome w) (leaves : LeavesStarted stored head first here) (found_same : IsFound stored → first ≡ here) (told : SameTold first here) (told_then : SameTold here last) (law : IsMoment last)
+    (same : IsOfSame stored head) (b : bits ≡ head.bits) (k : kept ≡ head.genesis ∷ stored_blocks stored) (has : IsSome w) (leaves : LeavesStarted stored head first here) (found_same : IsFound stored → first ≡ here) (told : SameTold first here) (told_then : SameTold here last) (here_law : IsMoment here) (law : IsMoment last)
     {result : Result (Unit {0}) ReplayFault} (rest : RestReplies (bytes_of stored) start now old new bits kept w here last result) where
   abbrev given : List ℕ
   given = rest.0.given
@@ -181,11 +179,20 @@ module _ (stored : Stored) {start mid now : Moment} {old new : Option (List ℕ)
   any_by (Empty gate) left same_disk run from k is synced =
       let new : Contents = contents head.bits head.genesis.bytes [] in
       let made : journal_in bits kept ≡ new = (λ i. journal_in (b i) (k i)) in
-      joined first here last (HoldsNoneOrNew new) (HoldsAtLeast 0 [] given) (HoldsFoundOrMore NoJournal given) (left is synced) (run (told.0 is))
+      joined first here last (HoldsNoneOrNew new) (HoldsAtLeast 0 [] given) (HoldsFoundOrMore NoJournal given) ((left is).0 synced) (run (told.0 is))
       (λ image h. ⊎_elim (λ none. inl none) (λ one. inr (from image (one ∙ ap found (sym made)))) h) (λ image h. inr h)
   any_by (Found o) left same_disk run from k is synced =
       subst (λ (m : DiskMoment). Leaves m last (HoldsFoundOrMore (records_in (Found o)) given)) (sym (same_disk tt))
       (weaker here last (HoldsAtLeast (length (bytes_of (Found o))) (bytes_of (Found o)) given) (HoldsFoundOrMore (records_in (Found o)) given) (run (told.0 is)) (λ image h. inr h))
+
+  lasts_by : (s : Stored) → LeavesStarted s head first here → (IsFound s → first ≡ here) → (IsTold here → Leaves here last (HoldsAtLeast (length (bytes_of s)) (bytes_of s) given)) → IsTold first → Lasts first last HoldsJournal
+  lasts_by s left same_disk run is =
+      joined_last first here last HoldsJournal here_law law (start_lasts s left same_disk is)
+      (leaves_last here last HoldsJournal law (weaker here last (HoldsAtLeast (length (bytes_of s)) (bytes_of s) given) HoldsJournal (run (told.0 is)) (λ image h. (front_of (contents_of (bytes_of s) given (all_of given)) h.count, h.holds))))
+    where
+      start_lasts : (s : Stored) → LeavesStarted s head first here → (IsFound s → first ≡ here) → IsTold first → Lasts first here HoldsJournal
+      start_lasts (Empty gate) left same_disk is = (left is).1
+      start_lasts (Found o) left same_disk is = subst (λ (m : DiskMoment). Lasts m here HoldsJournal) (sym (same_disk tt)) (started_last here HoldsJournal here_law)
 
   from_found : (s : Stored) → ((image : List ℕ) → records image ≡ found (journal_in bits kept) → HoldsAtLeast (length (bytes_of s)) (bytes_of s) given image) → kept ≡ head.genesis ∷ stored_blocks s → IsOfSame s head
       → IsFound s → (image : List ℕ) → records image ≡ records_in s → HoldsAtLeast (length (bytes_of s)) (bytes_of s) given image
@@ -210,6 +217,7 @@ module _ (stored : Stored) {start mid now : Moment} {old new : Option (List ℕ)
       fits = with_input (λ input. FitsStored stored (fed input).head) start.left mid.left g.given g.took.consumed (λ more e. subst (FitsStored stored) (sym (head_whole g more)) (chain_fits stored head same));
       from = from_found stored from_here k same;
       any_moment = any_by stored leaves found_same run_here from_here k;
+      lasts = lasts_by stored leaves found_same run_here;
       now = λ is image left. (ends here last _ law (run_here (told.0 is)) image left, if_told w last (HoldsAcknowledged (bytes_of stored) given old new) has rest.1.acknowledged (told_then.0 (told.0 is)) image left);
       whole = whole_by result rest.1.whole;
     },

@@ -4,8 +4,9 @@ use Rattle.std.specs.Io.KnownBytes.{Appends, Consumes, IsAtEnd}
 use Rattle.std.proofs.lemmas.Bool.{eqb-false}
 use Rattle.std.proofs.lemmas.List.{append-nil}
 use Rattle.std.proofs.Math.Dec.{eqb}
-use Rattle.sp_disk.specs.Moments.{IsMoment, Leaves, Looks, Moment as DiskMoment}
+use Rattle.sp_disk.specs.Moments.{IsMoment, Lasts, Leaves, Looks, Moment as DiskMoment}
 use Rattle.sp_disk.specs.Images.{EachIs}
+use Rattle.sp_disk.proofs.Lasting.{joined_last, looks_last}
 use Rattle.sp_disk.proofs.Runs.{ends, joined, weaker}
 use Rattle.sp_journal.proofs.Looking.{looks_then}
 use Rattle.sp_feed.specs.Feed.{End, Feed as FeedOf, feed}
@@ -18,7 +19,7 @@ use Rattle.sp_feed.specs.declared.fault.FeedFault.{FeedFault}
 use Rattle.sp_feed.specs.declared.fault.FeedFault.TheVariants as faults
 use Rattle.sp_io.specs.Whole.{AppendsFront}
 use Rattle.sp_io.proofs.Writing.{appends_then, wrote_none}
-use Rattle.sp_journal.specs.Creation.{HoldsNoneOrNew, IsSynced}
+use Rattle.sp_journal.specs.Creation.{HoldsJournal, HoldsNoneOrNew, IsSynced}
 use Rattle.sp_journal.specs.Journal.{Contents, contents}
 use Rattle.sp_journal.specs.Opening.{contents_in}
 use Rattle.sp_journal.specs.Records.{Found as found, NoJournal, Records, records}
@@ -45,6 +46,7 @@ use Rattle.spectre.specs.declared.status.Status.{Status}
 use Rattle.spectre.specs.declared.status.Status.TheVariants as status
 use Rattle.spectre.proofs.KeptRuns.{Accepts, answered_recovery, at_one, early_recovery, feed_taken, fits_here, fits_there, fitting, front_of_text, holds_all, looked_since, on_both, on_one, OnBoth, other_is, other_recovery, same_found, stopped_recovery, sure_synced, told_by, whole_text}
 use Rattle.spectre.proofs.Keeping.{none_ends}
+use Rattle.spectre.proofs.Lasting.{answered_lasts, looked_lasts}
 use Rattle.spectre.proofs.Onward.{answered_stays, looked_stays}
 use Rattle.spectre.proofs.Replayed.{done_rest, done_text, Ends, fault_front, fault_written, is_malformed, is_too_long, is_truncated, limit_taken, memory_text, nothing_left, takes, takes_then, with_input, write_text}
 use Rattle.spectre.proofs.Replies.{appends_none, fault_says, lines_are}
@@ -156,6 +158,7 @@ module _ (path : List ℕ) (fresh : Bool) (stored : Stored) {start now : Moment}
     taken = λ takes. absurd takes;
     taken_fed = λ _. feed_taken fresh stored start.left first.reads tells now.left old new (takes t.0);
     onward = answered_stays fresh stored first last law tells {result = Ok tt} (inr t);
+    lasting = answered_lasts stored first last law last_law {result = Ok tt} (inr t);
     chain = fitting_chain fresh stored start.left first.reads now.left status.Done tells t.1.fits;
     crash = on_both start.left first.reads _ (λ disk input l r.
         answered_recovery fresh disk input stored (told_at fresh stored tells r) new first last law r l t
@@ -172,6 +175,7 @@ module _ (path : List ℕ) (fresh : Bool) (stored : Stored) {start now : Moment}
     taken = λ takes. absurd takes;
     taken_fed = λ _. feed_taken fresh stored start.left first.reads tells now.left old new (takes t.0);
     onward = answered_stays fresh stored first last law tells {result = Err WriteFault} (inr t);
+    lasting = answered_lasts stored first last law last_law {result = Err WriteFault} (inr t);
     chain = fitting_chain fresh stored start.left first.reads now.left status.WriteFault tells t.1.fits;
     crash = on_both start.left first.reads _ (λ disk input l r.
         stopped_recovery fresh disk input stored (told_at fresh stored tells r) first last law r l t status.WriteFault (λ e. cc));
@@ -187,6 +191,7 @@ module _ (path : List ℕ) (fresh : Bool) (stored : Stored) {start now : Moment}
         subst (λ (o : Option (List ℕ)). IfSome first.reads (λ disk. TakesFeed (found_blocks disk) start.left now.left old o)) (sym u.silent)
         (feed_taken fresh stored start.left first.reads tells now.left old old (untried_takes u));
     onward = answered_stays fresh stored first last law tells {result = Err Memory} (inl u);
+    lasting = answered_lasts stored first last law last_law {result = Err Memory} (inl u);
     chain = untried_chain stored first.reads status.Memory u tt (λ e. cc);
     crash = on_both start.left first.reads _ (λ disk input l r.
         early_recovery fresh disk input now.left old new first last status.Memory law last_law r u.given
@@ -199,6 +204,7 @@ module _ (path : List ℕ) (fresh : Bool) (stored : Stored) {start now : Moment}
     taken = λ takes. absurd takes;
     taken_fed = λ _. feed_taken fresh stored start.left first.reads tells now.left old new (takes t.0);
     onward = answered_stays fresh stored first last law tells {result = Err Memory} (inr t);
+    lasting = answered_lasts stored first last law last_law {result = Err Memory} (inr t);
     chain = fitting_chain fresh stored start.left first.reads now.left status.Memory tells t.1.fits;
     crash = on_both start.left first.reads _ (λ disk input l r.
         stopped_recovery fresh disk input stored (told_at fresh stored tells r) first last law r l t status.Memory (λ e. cc));
@@ -274,6 +280,7 @@ exit_amiss path fresh gate {start = start} {now = now} old first last law last_l
       (feed_taken fresh (Empty gate) start.left first.reads tells now.left old old
       (untried_takes path fresh (Empty gate) old first last law last_law tells u));
   onward = answered_stays fresh (Empty gate) first last law tells {result = Err DiskFault} (inl u);
+  lasting = answered_lasts (Empty gate) first last law last_law {result = Err DiskFault} (inl u);
   chain = on_both start.left first.reads _ (λ disk input l r other.
       (let no : NoJournal ≡ found other.contents = sym (told_at fresh (Empty gate) tells r).0.none ∙ other.found in absurd cc));
   crash = on_both start.left first.reads _ (λ disk input l r.
@@ -293,6 +300,7 @@ exit_disk path fresh stored {start = start} {now = now} old first last law last_
   taken = λ takes. absurd takes;
   taken_fed = λ _. feed_taken fresh stored start.left first.reads tells now.left old new (takes t.0);
   onward = answered_stays fresh stored first last law tells {result = Err DiskFault} (inr t);
+  lasting = answered_lasts stored first last law last_law {result = Err DiskFault} (inr t);
   chain = fitting_chain fresh stored start.left first.reads now.left status.DiskFault tells t.1.fits;
   crash = on_both start.left first.reads _ (λ disk input l r.
       stopped_recovery fresh disk input stored (told_at fresh stored tells r) first last law r l t status.DiskFault (λ e. cc));
@@ -453,6 +461,7 @@ module _ (path : List ℕ) (fresh : Bool) (stored : Stored) {start now : Moment}
     taken_fed = λ _. feed_taken fresh stored start.left first.reads tells now.left old new
         (takes_then (bytes_of stored) start.left now.left old mid new (feed_fault_text e) (takes r) front);
     onward = answered_stays fresh stored first last law tells a;
+    lasting = answered_lasts stored first last law last_law a;
     chain = elim a [
       | inr t ↦ fitting_chain fresh stored start.left first.reads now.left result tells t.1.fits
       | inl u ↦ elim (is_read e) [
@@ -504,6 +513,7 @@ exit_other path fresh stored {start = start} {now = now} old first last law last
           (subst (λ (o : Option (List ℕ)). TakesFeed (bytes_of stored) start.left now.left old o) (sym u.silent)
           (untried_takes path fresh stored old first last law last_law tells u)) front);
       onward = answered_stays fresh stored first last law tells {result = Err (OtherChain b c d e)} (inl u);
+      lasting = answered_lasts stored first last law last_law {result = Err (OtherChain b c d e)} (inl u);
       chain = untried_chain stored first.reads result u (line_ends EndsByChain result status.OtherChain same tt tt)
           (line_ends (λ s. s ≡ status.DiskFault → ⊥) result status.OtherChain same (λ e. cc) (λ e. cc));
       crash = on_both start.left first.reads _ (λ disk input l x.
@@ -546,10 +556,10 @@ sure_on : (first mid : DiskMoment) (old new : Option (List ℕ)) (s : Status) �
 sure_on first mid old new s looks (inl synced) = inl (synced_on first mid looks synced)
 sure_on first mid old new s looks (inr more) = inr more
 
-recovery_on : (fresh : Bool) (disk input : List ℕ) (after old new : Option (List ℕ)) (first mid last : DiskMoment) (s : Status) → IsMoment first
+recovery_on : (fresh : Bool) (disk input : List ℕ) (after old new : Option (List ℕ)) (first mid last : DiskMoment) (s : Status) → IsMoment first → IsMoment mid
     → first.reads ≡ Some disk → Looks first mid → Recovery fresh disk input after old new mid last s
     → Recovery fresh disk input after old new first last s
-recovery_on fresh disk input after old new first mid last s law reads looks r = record {
+recovery_on fresh disk input after old new first mid last s law mid_law reads looks r = record {
   given = r.given;
   consumed = r.consumed;
   now = λ fits sure. r.now fits (sure_on first mid old new s looks sure);
@@ -558,14 +568,14 @@ recovery_on fresh disk input after old new first mid last s law reads looks r = 
       joined first mid last (λ image. records image ≡ records disk) (HoldsFoundOrMore (records disk) r.given)
       (HoldsFoundOrMore (records disk) r.given)
       (looked_since first mid law disk reads looks synced) (r.any_moment fits (synced_on first mid looks synced)) (λ image h. inl h) (λ image h. h);
-  other = λ misfit. looks_then first mid last law looks (r.other misfit);
+  other = λ misfit. looks_then first mid last law mid_law looks (r.other misfit);
 }
 
 pub ends_on : (path : List ℕ) (fresh : Bool) (before after old new : Option (List ℕ)) (first mid last : DiskMoment) (s : Status) → IsMoment first
-    → Looks first mid
+    → IsMoment mid → IsMoment last → Looks first mid
     → JobEnds (Some (jobs.Keep path fresh)) mid.reads before after old new mid last s
     → JobEnds (Some (jobs.Keep path fresh)) first.reads before after old new first last s
-ends_on path fresh before after old new first mid last s law looks k = record {
+ends_on path fresh before after old new first mid last s law mid_law last_law looks k = record {
   by = subst (λ (o : Option (List ℕ)). WritesBy (Some (jobs.Keep path fresh)) o before after old new s) looks.reads k.by;
   taken = λ takes. absurd takes;
   taken_fed = λ _.
@@ -575,8 +585,11 @@ ends_on path fresh before after old new first mid last s law looks k = record {
       (looked_since first mid law disk r looks synced)
       (at_one (λ (d : List ℕ). IsSynced mid → Leaves mid last (HoldsOnward (records d))) (looks.reads ∙ r) k.onward
       (synced_on first mid looks synced)) (λ image h. inl h) (λ image h. h));
+  lasting = on_one first.reads _ (λ disk r.
+      joined_last first mid last HoldsJournal mid_law last_law (looks_last first mid HoldsJournal law mid_law looks)
+      (at_one (λ (d : List ℕ). Lasts mid last HoldsJournal) (looks.reads ∙ r) k.lasting));
   chain = subst (λ (o : Option (List ℕ)). OnBoth before o (λ disk input. HasOtherChain disk input → EndsAtHead before after s)) looks.reads k.chain;
-  crash = on_map before first.reads _ _ (λ disk input l r h. recovery_on fresh disk input after old new first mid last s law r looks h)
+  crash = on_map before first.reads _ _ (λ disk input l r h. recovery_on fresh disk input after old new first mid last s law mid_law r looks h)
       (subst (λ (o : Option (List ℕ)). OnBoth before o (λ disk input. Recovery fresh disk input after old new mid last s)) looks.reads k.crash);
 }
 
@@ -628,6 +641,7 @@ module _ (path : List ℕ) (fresh : Bool) (left old : Option (List ℕ)) (first 
     taken = λ takes. absurd takes;
     taken_fed = λ _. on_one first.reads _ (λ disk r. nothing_taken (found_blocks disk) left old);
     onward = looked_stays first last law looks;
+    lasting = looked_lasts first last law last_law looks;
     chain = on_both left first.reads _ (λ disk input l r other. nothing_headed left s (early_chain s early));
     crash = on_both left first.reads _ (λ disk input l r.
         early_recovery fresh disk input left old old first last s law last_law r [] (none_consumed input l) looks (appends_none old) early none_ends
@@ -668,6 +682,7 @@ module _ (path : List ℕ) (fresh : Bool) (left old : Option (List ℕ)) (first 
     taken_fed = λ _.
         on_one first.reads _ (λ disk r. takes_then (found_blocks disk) left left old old new text (nothing_taken (found_blocks disk) left old) front);
     onward = looked_stays first last law looks;
+    lasting = looked_lasts first last law last_law looks;
     chain = on_both left first.reads _ (λ disk input l r other. absurd (unfound disk other.contents r other.found));
     crash = on_both left first.reads _ (λ disk input l r.
         other_recovery fresh disk input left old new first last result law last_law r [] (none_consumed input l) looks (says disk input r).1);

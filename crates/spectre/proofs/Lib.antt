@@ -3,6 +3,7 @@ pub mod Running
 pub mod Keeping
 pub mod KeptRuns
 pub mod Onward
+pub mod Lasting
 pub mod KeptExits
 pub mod Shown
 pub mod TopCall

@@ -1,9 +1,9 @@
 -- What the top call says of a run with a journal, and of one that wasn't begun for want of memory.
 use Rattle.std.proofs.Common.{◌≡◌, ℕ, List, Option, Some, None, IfSome, refl, sym, subst}
-use Rattle.sp_disk.specs.Moments.{IsMoment, Leaves, Moment}
+use Rattle.sp_disk.specs.Moments.{IsMoment, Lasts, Leaves, Moment}
 use Rattle.sp_io.specs.Whole.{AppendsFront}
 use Rattle.sp_io.proofs.Writing.{wrote_none}
-use Rattle.sp_journal.specs.Creation.{IsSynced}
+use Rattle.sp_journal.specs.Creation.{HoldsJournal, IsSynced}
 use Rattle.sp_journal.specs.Records.{records}
 use Rattle.spectre.specs.Chains.{EndsAtHead}
 use Rattle.spectre.specs.Crashes.{HoldsOnward, Recovery}
@@ -15,7 +15,8 @@ use Rattle.spectre.specs.declared.job.Job.{Job}
 use Rattle.spectre.specs.declared.job.Job.TheVariants as jobs
 use Rattle.spectre.specs.declared.status.Status.{Status}
 use Rattle.spectre.specs.declared.status.Status.TheVariants as status
-use Rattle.spectre.proofs.Keeping.{looks_same}
+use Rattle.sp_disk.proofs.Lasting.{looks_same}
+use Rattle.spectre.proofs.Lasting.{looked_lasts}
 use Rattle.spectre.proofs.Onward.{looked_stays}
 use Rattle.spectre.proofs.KeptExits.{exit_early, nothing_headed, nothing_taken, silent_memory}
 
@@ -73,10 +74,14 @@ nothing_behind job left reads = in_all job left _ (λ input. on_all job reads _ 
 
 -- nor asked of the disk
 pub nothing_asked : (job : Option Job) (left a : Option (List ℕ)) (m : Moment) → IsMoment m → OnKeep job (λ fresh. IfSome left (λ input. IfSome m.reads (λ bytes. Recovery fresh bytes input left a a m m status.Memory)))
-nothing_asked (Some (jobs.Keep path fresh)) left a m law = (exit_early path fresh left a m m law law (looks_same m) status.Memory tt (silent_memory path fresh left a m m law law (looks_same m))).crash
+nothing_asked (Some (jobs.Keep path fresh)) left a m law = (exit_early path fresh left a m m law law (looks_same m law) status.Memory tt (silent_memory path fresh left a m m law law (looks_same m law))).crash
 nothing_asked other left a m law = tt
 
--- so what was found stays
+-- so what was found stays, and a journal lasts
+pub nothing_ended : (job : Option Job) (m : Moment) → IsMoment m → OnKeep job (λ fresh. IfSome m.reads (λ bytes. Lasts m m HoldsJournal))
+nothing_ended (Some (jobs.Keep path fresh)) m law = looked_lasts m m law law (looks_same m law)
+nothing_ended other m law = tt
+
 pub nothing_lost : (job : Option Job) (m : Moment) → IsMoment m → OnKeep job (λ fresh. IfSome m.reads (λ bytes. IsSynced m → Leaves m m (HoldsOnward (records bytes))))
-nothing_lost (Some (jobs.Keep path fresh)) m law = looked_stays m m law (looks_same m)
+nothing_lost (Some (jobs.Keep path fresh)) m law = looked_stays m m law (looks_same m law)
 nothing_lost other m law = tt

@@ -1,10 +1,10 @@
 -- How the run of a job ends: by its status, what it wrote and what it took.
 use Rattle.std.specs.Prelude.{◌≡◌, ℕ, List, [], Option, Some, IfSome}
 use Rattle.std.specs.Io.KnownBytes.{Appends, Consumes}
-use Rattle.sp_disk.specs.Moments.{Leaves, Moment}
+use Rattle.sp_disk.specs.Moments.{Lasts, Leaves, Moment}
 use Rattle.sp_io.specs.Whole.{AppendsFront, ConsumesUpTo}
 use Rattle.sp_play.specs.Source.{scenario_limit}
-use Rattle.sp_journal.specs.Creation.{IsSynced}
+use Rattle.sp_journal.specs.Creation.{HoldsJournal, IsSynced}
 use Rattle.sp_journal.specs.Records.{records}
 use Rattle.spectre.specs.Chains.{EndsAtHead}
 use Rattle.spectre.specs.Crashes.{HoldsOnward, Recovery}
@@ -57,4 +57,5 @@ pub record JobEnds (job : Option Job) (reads before after old new : Option (List
   pub taken_fed : AnswersFeed job → OnDisk job reads (λ bytes. TakesFeed (blocks_before job bytes) before after old new)
   pub chain : OnInput job before (λ input. OnDisk job reads (λ bytes. IsOtherChain job bytes input → EndsAtHead before after s))
   pub onward : OnKeep job (λ fresh. IfSome reads (λ bytes. IsSynced first → Leaves first last (HoldsOnward (records bytes))))
+  pub lasting : OnKeep job (λ fresh. IfSome reads (λ bytes. Lasts first last HoldsJournal))
   pub crash : OnKeep job (λ fresh. IfSome before (λ input. IfSome reads (λ bytes. Recovery fresh bytes input after old new first last s)))

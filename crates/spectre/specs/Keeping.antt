@@ -4,7 +4,7 @@ use Rattle.std.specs.Io.KnownBytes.{IsAtEnd}
 use Rattle.sp_io.specs.Causes.{Rose}
 use Rattle.sp_block.specs.Block.{ReadBlock}
 use Rattle.sp_disk.specs.Images.{Among}
-use Rattle.sp_disk.specs.Moments.{Leaves, Looks, Moment as DiskMoment}
+use Rattle.sp_disk.specs.Moments.{Lasts, Leaves, Looks, Moment as DiskMoment}
 use Rattle.sp_engine.specs.Arrivals.{kept_by_all}
 use Rattle.sp_engine.specs.Blocks.{block_in}
 use Rattle.sp_feed.specs.Feed.{Malformed, no_head, TooLong, Truncated}
@@ -17,7 +17,7 @@ use Rattle.sp_feed.specs.declared.fault.FeedFault.TheVariants as faults
 use Rattle.sp_feed.specs.declared.fault.HeadFault.{HeadFault}
 use Rattle.sp_feed.specs.declared.fault.HeadFault.TheVariants as heads
 use Rattle.sp_ids.specs.Digest.{sha256_number}
-use Rattle.sp_journal.specs.Creation.{HoldsNoneOrNew, IsSynced}
+use Rattle.sp_journal.specs.Creation.{HoldsJournal, HoldsNoneOrNew, IsSynced}
 use Rattle.sp_journal.specs.Journal.{contents}
 use Rattle.sp_journal.specs.Opening.{contents_in}
 use Rattle.sp_journal.specs.Records.{Found as found, NoJournal, Records, records}
@@ -100,6 +100,7 @@ pub record IsAmiss (given : List ℕ) (first last : DiskMoment) : Type 0 where
   pub whole : (more : List ℕ) → (fed (given ++ more)).head ≡ Some (head_of bits genesis.bytes)
   pub unread : all_of given ≡ []
   pub leaves : IsTold first → IsSynced first → Leaves first last (HoldsNoneOrNew (contents bits genesis.bytes []))
+  pub lasts : IsTold first → Lasts first last HoldsJournal
 
 abbrev pub IsAmissOn : Stored → List ℕ → DiskMoment → DiskMoment → Type 0
 IsAmissOn (Empty gate) given first last = IsAmiss given first last
@@ -144,6 +145,7 @@ pub record IsBegun (stored : Stored) (start now : Moment) (first last : DiskMome
 pub record IsStarted (stored : Stored) (left : Option (List ℕ)) (given : List ℕ) (old new : Option (List ℕ)) (first last : DiskMoment) (result : Result (Unit {0}) ReplayFault) : Type 0 where
   pub fits : IfSome left (λ input. FitsStored stored (fed input).head)
   pub any_moment : IsTold first → IsSynced first → Leaves first last (HoldsFoundOrMore (records_in stored) given)
+  pub lasts : IsTold first → Lasts first last HoldsJournal
   -- a found journal is a front of what is kept
   pub from : IsFound stored → (image : List ℕ) → records image ≡ records_in stored → HoldsAtLeast (length (bytes_of stored)) (bytes_of stored) given image
   pub now : IsTold first → Among (λ image. HoldsAtLeast (length (bytes_of stored)) (bytes_of stored) given image × HoldsAcknowledged (bytes_of stored) given old new image) last.images

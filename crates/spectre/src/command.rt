@@ -2,8 +2,8 @@
 
 ghost use Rattle.std.specs.Prelude.{◌⊎◌, ◌≡◌, ◌↔◌, ◌≢◌, ℕ, Bool, List, [], IfSome, IsNone, Some};
 ghost use Rattle.std.specs.Io.KnownBytes.{Appends, Consumes};
-ghost use Rattle.sp_disk.specs.Moments.{Leaves, Looks};
-ghost use Rattle.sp_journal.specs.Creation.{IsSynced};
+ghost use Rattle.sp_disk.specs.Moments.{Lasts, Leaves, Looks};
+ghost use Rattle.sp_journal.specs.Creation.{HoldsJournal, IsSynced};
 ghost use Rattle.sp_journal.specs.Records.{records};
 ghost use Rattle.sp_io.specs.Causes.{Rose};
 ghost use Rattle.sp_io.specs.Whole.{AppendsFront, ConsumesUpTo};
@@ -174,6 +174,10 @@ pub fn run<S: Source, K: Sink, D: Disk>(
     ensures found_stays { OnKeep (job_in (texts words.now)) (λ fresh.
         IfSome (D.now disk.old).reads (λ bytes. IsSynced (D.now disk.old)
         → Leaves (D.now disk.old) (D.now disk.new) (HoldsOnward (records bytes)))) }
+    // From a moment on at which a crash can leave nothing but a journal, it leaves a journal: so once one was
+    // created, it stays, however the run ends.
+    ensures journal_stays { OnKeep (job_in (texts words.now)) (λ fresh.
+        IfSome (D.now disk.old).reads (λ bytes. Lasts (D.now disk.old) (D.now disk.new) HoldsJournal)) }
     ensures looks { Shows (job_in (texts words.now)) → Looks (D.now disk.old) (D.now disk.new) }
     ensures uncalled { (NamesFile (job_in (texts words.now)) → ⊥) → disk.new ≡ disk.old }
 

@@ -5,6 +5,7 @@ use Rattle.sp_disk.specs.Moments.{PartlyWrittenFrom}
 use Rattle.sp_disk.proofs.Runs.{weaker}
 use Rattle.sp_journal.specs.Creation.{HoldsNone}
 use Rattle.sp_journal.proofs.Openings.{place_stays}
+use Rattle.sp_journal.proofs.Lasting.{close_lasts}
 use Rattle.sp_journal.proofs.Vacant.{gate_written, none_while}
 use Rattle.sp_journal.proofs.create.close_gate.Goals as goal
 
@@ -22,6 +23,7 @@ returns-in_default g c =
       ok = on_ok_weaker c.put.result (λ puts told. gate_written old new law told puts) c.put.ensures.ok;
       place = on_ok_weaker c.put.result (λ puts. place_stays 0 1 (0 ∷ []) old.reads new.reads (omega arith) (any_place old.reads) puts.reads) c.put.ensures.ok;
       any_moment = λ told quiet. weaker old new (PartlyWrittenFrom 0 1 old) HoldsNone c.put.ensures.any_moment (none_while c.args.gate old law told quiet c.requires.vacant c.in_default.not-Shut);
+      lasts = λ told. close_lasts c.args.gate old new law (g.met.D.Disk.is_moment c.put.new.disk) told c.requires.vacant c.put.ensures.ebbs;
       told = c.put.ensures.told;
       cause = c.put.ensures.cause;
     }

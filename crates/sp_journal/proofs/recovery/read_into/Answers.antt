@@ -19,4 +19,4 @@ returns-in-Err-clause-judged g c = plain_judges (g.D.Disk.now c.args.disk.now).r
 
 pub returns-in-Ok-head-clause-looked : goal.returns-in-Ok-head-clause-looked
 returns-in-Ok-head-clause-looked g c =
-    looked_then (g.D.Disk.now c.args.disk.now) (g.D.Disk.now c.head_on.new.disk) (g.D.Disk.now c.behind.new.disk) (g.met.D.Disk.is_moment c.args.disk.now) c.in-Ok.ensures.looked.looks (c.in-Ok.ensures.looked.quiet (λ e. absurd (cc e))) c.behind.ensures.looked
+    looked_then (g.D.Disk.now c.args.disk.now) (g.D.Disk.now c.head_on.new.disk) (g.D.Disk.now c.behind.new.disk) (g.met.D.Disk.is_moment c.args.disk.now) (g.met.D.Disk.is_moment c.head_on.new.disk) c.in-Ok.ensures.looked.looks (c.in-Ok.ensures.looked.quiet (λ e. absurd (cc e))) c.behind.ensures.looked

@@ -24,7 +24,7 @@ each-preserved g c =
     let step = subst (IsStep (g.D.Disk.now c.each.disk).reads c.args.bits c.each.blocks.items c.each.ids.items c.each.place c.read_next.new.blocks.items c.read_next.new.ids.items) c.in-On.is c.in_ok-step.ensures.step in
     record {
       room = c.in_ok-step.ensures.room;
-      looks = looks_then (g.D.Disk.now c.args.disk.now) (g.D.Disk.now c.each.disk) (g.D.Disk.now c.read_next.new.disk) (g.met.D.Disk.is_moment c.args.disk.now) c.each.invariant.looks c.in_ok-step.ensures.looked.looks;
+      looks = looks_then (g.D.Disk.now c.args.disk.now) (g.D.Disk.now c.each.disk) (g.D.Disk.now c.read_next.new.disk) (g.met.D.Disk.is_moment c.args.disk.now) (g.met.D.Disk.is_moment c.each.disk) c.each.invariant.looks c.in_ok-step.ensures.looked.looks;
       same_count = c.in_ok-step.ensures.looked.quiet (no_fault _ _) ∙ c.each.invariant.same_count;
       read = read_more _ c.args.bits c.args.ids.now.items c.args.start c.each.blocks.items c.each.ids.items c.each.place _ c.each.invariant.looks.reads c.each.invariant.read
           c.read_next.new.blocks.items c.read_next.new.ids.items c.in-On.next step;
@@ -40,7 +40,7 @@ returns-in-End g c =
       good = subst (InTurn (IsGood c.args.bits) id_behind c.args.ids.now.items) (sym step.1) c.each.invariant.read.good;
       plain = tt;
       looked = record {
-        looks = looks_then (g.D.Disk.now c.args.disk.now) (g.D.Disk.now c.each.disk) (g.D.Disk.now c.read_next.new.disk) (g.met.D.Disk.is_moment c.args.disk.now) c.each.invariant.looks c.in_ok-step.ensures.looked.looks;
+        looks = looks_then (g.D.Disk.now c.args.disk.now) (g.D.Disk.now c.each.disk) (g.D.Disk.now c.read_next.new.disk) (g.met.D.Disk.is_moment c.args.disk.now) (g.met.D.Disk.is_moment c.each.disk) c.each.invariant.looks c.in_ok-step.ensures.looked.looks;
         fault = λ e. absurd (no_fault _ _ e);
         later = omega (arith, same);
         quiet = λ other. same;
@@ -57,7 +57,7 @@ returns-in-Faulty g c =
       good = tt;
       plain = tt;
       looked = record {
-        looks = looks_then (g.D.Disk.now c.args.disk.now) (g.D.Disk.now c.each.disk) (g.D.Disk.now c.read_next.new.disk) (g.met.D.Disk.is_moment c.args.disk.now) c.each.invariant.looks c.in_ok-step.ensures.looked.looks;
+        looks = looks_then (g.D.Disk.now c.args.disk.now) (g.D.Disk.now c.each.disk) (g.D.Disk.now c.read_next.new.disk) (g.met.D.Disk.is_moment c.args.disk.now) (g.met.D.Disk.is_moment c.each.disk) c.each.invariant.looks c.in_ok-step.ensures.looked.looks;
         fault = λ e. absurd (no_fault _ _ e);
         later = omega (arith, same);
         quiet = λ other. same;

@@ -8,7 +8,7 @@ use Rattle.spectre.proofs.Completing.{completes}
 use Rattle.spectre.proofs.DiskFirst.{first_of, refused_first}
 use Rattle.spectre.proofs.LastLines.{last_line}
 use Rattle.spectre.proofs.Talking.{all_agree, all_alike}
-use Rattle.spectre.proofs.TopCall.{asked_ends, ends_at, nothing_asked, nothing_behind, nothing_fed, nothing_lost, nothing_written}
+use Rattle.spectre.proofs.TopCall.{asked_ends, ends_at, nothing_asked, nothing_behind, nothing_ended, nothing_fed, nothing_lost, nothing_written}
 use Rattle.spectre.proofs.command.run.Goals as goal
 
 pub returns-in-Ok-clause-done : goal.returns-in-Ok-clause-done
@@ -138,6 +138,12 @@ pub returns-in-Ok-clause-last_line : goal.returns-in-Ok-clause-last_line
 returns-in-Ok-clause-last_line g c = λ names.
     let ends = asked_ends c.in-Ok.ensures.job c.do_job.ensures.ends in
     last_line _ ends names (first_of _ _ (g.D.Disk.now c.args.disk.now).reads _ c.in-Ok.ensures.job c.do_job.ensures.disk_first)
+
+pub returns-in-Ok-clause-journal_stays : goal.returns-in-Ok-clause-journal_stays
+returns-in-Ok-clause-journal_stays g c = (asked_ends c.in-Ok.ensures.job c.do_job.ensures.ends).lasting
+
+pub returns-in-Err-Memory-clause-journal_stays : goal.returns-in-Err-Memory-clause-journal_stays
+returns-in-Err-Memory-clause-journal_stays g c = nothing_ended _ (g.D.Disk.now c.args.disk.now) (g.met.D.Disk.is_moment c.args.disk.now)
 
 pub returns-in-Ok-clause-found_stays : goal.returns-in-Ok-clause-found_stays
 returns-in-Ok-clause-found_stays g c = (asked_ends c.in-Ok.ensures.job c.do_job.ensures.ends).onward

@@ -35,6 +35,7 @@ returns-in-Replay-clause-ends g c =
       taken_fed = λ _. e.taken;
       chain = if_all before _ (λ input other. absurd other);
       onward = tt;
+      lasting = tt;
       crash = tt;
     }
 
@@ -80,6 +81,7 @@ returns-in-Show-clause-ends g c =
       taken_fed = λ fed. absurd fed;
       chain = if_all first.reads _ (λ bytes other. absurd other);
       onward = tt;
+      lasting = tt;
       crash = tt;
     }
 
@@ -114,6 +116,7 @@ returns-in-Play-clause-ends g c =
       taken_fed = λ fed. absurd fed;
       chain = if_all before _ (λ input other. absurd other);
       onward = tt;
+      lasting = tt;
       crash = tt;
     }
 
@@ -148,6 +151,7 @@ returns-in-Build-clause-ends g c =
       taken_fed = λ fed. absurd fed;
       chain = if_all before _ (λ input other. absurd other);
       onward = tt;
+      lasting = tt;
       crash = tt;
     }
 
@@ -182,6 +186,7 @@ returns-in-Make-clause-ends g c =
       taken_fed = λ fed. absurd fed;
       chain = λ other. absurd other;
       onward = tt;
+      lasting = tt;
       crash = tt;
     }
 
@@ -219,6 +224,7 @@ returns-in-Drill-clause-ends g c =
       taken_fed = λ fed. absurd fed;
       chain = λ other. absurd other;
       onward = tt;
+      lasting = tt;
       crash = tt;
     }
 

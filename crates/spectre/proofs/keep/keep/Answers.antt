@@ -20,7 +20,7 @@ returns-in-Ok-clause-ends g c = λ path.
     let taken = g.K.Sink.taken in
     let fresh = c.args.fresh in
     let e = c.in-Ok.ensures in
-    ends_on path fresh (left c.args.source.now) (left c.keep_on.new.source) (taken c.args.sink.now) (taken c.keep_on.new.sink) (now c.args.disk.now) (now c.open.new.disk) (now c.keep_on.new.disk) c.keep_on.result (g.met.D.Disk.is_moment c.args.disk.now) e.looks
+    ends_on path fresh (left c.args.source.now) (left c.keep_on.new.source) (taken c.args.sink.now) (taken c.keep_on.new.sink) (now c.args.disk.now) (now c.open.new.disk) (now c.keep_on.new.disk) c.keep_on.result (g.met.D.Disk.is_moment c.args.disk.now) (g.met.D.Disk.is_moment c.open.new.disk) (g.met.D.Disk.is_moment c.keep_on.new.disk) e.looks
     (c.keep_on.ensures.ends path fresh (subst (λ (o : Option (List ℕ)). IfSome o (λ bytes. Tells fresh bytes (Ok c.in-Ok.stored))) (sym e.looks.reads) e.tells))
 
 pub returns-in-NotJournal-clause-ends : goal.returns-in-NotJournal-clause-ends
