@@ -1,5 +1,9 @@
-use Rattle.std.proofs.Common.{◌≡◌, arith, List, refl, rules, subst, sym, ◌∙◌}
-use Rattle.std.specs.Prelude.{IsErrOf, Ok}
+use Rattle.std.proofs.Common.{◌≡◌, arith, ap, Err, List, ℕ, Ok, refl, rules, subst, sym, ◌∙◌}
+use Rattle.std.proofs.lemmas.Result.{err_from_is_err_and}
+use Rattle.std.specs.Prelude.{IsErrOf}
+use Rattle.sp_io.specs.Causes.{Rose}
+use Rattle.sp_journal.specs.declared.fault.JournalFault.{JournalFault}
+use Rattle.sp_journal.specs.declared.fault.JournalFault.TheVariants.{DiskFault}
 use Rattle.sp_form.specs.Turns.{InTurn}
 use Rattle.sp_block.specs.Block.{ReadBlock}
 use Rattle.sp_journal.specs.Recovery.{EndsAt, id_behind, IsGood}
@@ -10,6 +14,9 @@ use Rattle.sp_journal.proofs.step.read_all.Goals as goal
 
 no_fault : {T E : Type 0} (x : T) (fault : E) → IsErrOf (Ok x) fault → ⊥
 no_fault x fault is = absurd (cc is)
+
+fault_is : {T : Type 0} (fault : JournalFault) → IsErrOf {T = T} (Err fault) DiskFault → fault ≡ DiskFault
+fault_is fault is = cc is
 
 pub each-init : goal.each-init
 each-init g c = record {
@@ -29,6 +36,20 @@ each-preserved g c =
       read = read_more _ c.args.bits c.args.ids.now.items c.args.start c.each.blocks.items c.each.ids.items c.each.place _ c.each.invariant.looks.reads c.each.invariant.read
           c.read_next.new.blocks.items c.read_next.new.ids.items c.in-On.next step;
     }
+
+pub returns-in_err-step-clause-looked : goal.returns-in_err-step-clause-looked
+returns-in_err-step-clause-looked g c =
+    let now = g.D.Disk.now in
+    let law = g.met.D.Disk.is_moment in
+    let looked = c.in_err-step.ensures.looked in
+    let same = c.each.invariant.same_count in
+    let p = err_from_is_err_and c.from_residual.result c.from_residual.ensures.1 in
+    rw (p.1, p.2) (record {
+      looks = looks_then (now c.args.disk.now) (now c.each.disk) (now c.read_next.new.disk) (law c.args.disk.now) (law c.each.disk) c.each.invariant.looks looked.looks;
+      fault = λ e. subst (λ (n : ℕ). Rose n (now c.read_next.new.disk).faults) same (looked.fault (ap Err (fault_is _ e)));
+      later = omega (arith, same, looked.later);
+      quiet = λ other. looked.quiet (λ e. other (ap Err (fault_is _ e))) ∙ same;
+    })
 
 pub returns-in-End : goal.returns-in-End
 returns-in-End g c =

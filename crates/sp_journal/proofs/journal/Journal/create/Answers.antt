@@ -1,10 +1,17 @@
-use Rattle.std.proofs.Common.{true, [], ◌∷◌, ◌++◌, refl, ap, ◌∙◌}
+use Rattle.std.proofs.Common.{inl, true, [], ◌∷◌, ◌++◌, refl, ap, ◌∙◌}
 use Rattle.sp_block.specs.Block.{parts_of, ReadBlock}
-use Rattle.sp_journal.specs.Journal.{head_body}
+use Rattle.sp_disk.proofs.Runs.{weaker}
+use Rattle.sp_journal.specs.Creation.{HoldsNone, HoldsNoneOrNew}
+use Rattle.sp_journal.specs.Journal.{contents, head_body}
 use Rattle.sp_block.proofs.Judged.{spelled_block}
 use Rattle.sp_journal.proofs.Lasting.{create_lasts}
 use Rattle.sp_journal.proofs.Vacant.{create_moments, create_stands}
 use Rattle.sp_journal.proofs.journal.Journal.create.Goals as goal
+
+pub returns-in_err-close_gate-clause-any_moment : goal.returns-in_err-close_gate-clause-any_moment
+returns-in_err-close_gate-clause-any_moment g c told quiet =
+    let now = g.D.Disk.now in
+    weaker (now c.args.disk.now) (now c.close_gate.new.disk) HoldsNone (HoldsNoneOrNew (contents c.args.bits c.args.genesis.now.bytes [])) (c.close_gate.ensures.any_moment told quiet) (λ image none. inl none)
 
 pub returns-in_err-open_over-clause-any_moment : goal.returns-in_err-open_over-clause-any_moment
 returns-in_err-open_over-clause-any_moment g c told quiet =
