@@ -22,7 +22,7 @@ returns-in-Ok g c =
       has = rw (ap (λ (n : State). n.journal) made) refl;
       stands = subst (λ (n : State). IsKeptOn n.bits n.kept n.journal new) (sym made)
           (kept_on head.bits engine.bits (head.genesis ∷ []) engine.kept c.in-Ok.journal new done.engine.bits_are done.engine.kept_are (λ told. done.stands (done.told.1 told)));
-      any_moment = rw is done.any_moment;
+      any_moment = rw is (λ told. (done.any_moment told, done.lasts told));
       untouched = rw is (λ found. absurd found);
       told = done.told;
       same = rw is tt;
@@ -45,7 +45,7 @@ returns-in-Err g c =
       live = tt;
       has = tt;
       stands = tt;
-      any_moment = rw is done.any_moment;
+      any_moment = rw is (λ told. (done.any_moment told, done.lasts told));
       untouched = rw is (λ found. absurd found);
       told = done.told;
       same = tt;
