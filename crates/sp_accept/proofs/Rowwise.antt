@@ -1,39 +1,43 @@
 -- What rows of blocks say of the rivals of a carrier is what one look after another finds.
-use Rattle.std.proofs.Common.{◌≡◌, ℕ, ◌+◌, ◌<◌, ◌≤◌, Bool, true, false, cond, ◌&&◌, ◌||◌, not, nat_lt, List, [], ◌∷◌, length, refl, sym, ap, ◌∙◌, subst, inl, inr, arith, eqb}
+use Rattle.std.proofs.Common.{◌≡◌, ℕ, ◌+◌, ◌<◌, Bool, true, false, cond, ◌&&◌, ◌||◌, not, nat_lt, List, [], ◌∷◌, length, refl, sym, ap, ◌∙◌, subst, inl, inr, arith, eqb}
 use Rattle.std.specs.List.{list_all, list_any}
-use Rattle.std.proofs.lemmas.Bool.{and_from, and_parts, cases_lt, eqb-true, eq-eqb, eqb-false, false≢true, false_from_ne_true, le-ltb, lt-ltb, ne_eqb, not-true}
-use Rattle.sp_bits.specs.Places.{places_where, IsRow}
+use Rattle.std.proofs.lemmas.Bool.{and_from, and_parts, cases_lt, eqb-true, eq-eqb, false≢true, false_from_ne_true, le-ltb, lt-ltb, ne_eqb, not-true}
 use Rattle.sp_bits.specs.Members.{has-places_where}
 use Rattle.sp_bits.proofs.Counts.{has-small}
 use Rattle.sp_model.specs.Graph.{has}
 use Rattle.sp_tx.specs.declared.parts.Input.{Input}
-use Rattle.sp_dag.specs.Numbered.{Numbered, AreInOrder}
+use Rattle.sp_dag.specs.Numbered.{Numbered}
 use Rattle.sp_carry.specs.declared.carrier.Carrier.{Carrier}
 use Rattle.sp_carry.specs.Payment.{Payment, conflicts}
-use Rattle.sp_carry.specs.Carried.{AreSound, Carried, IsCarried}
+use Rattle.sp_carry.specs.Carried.{Carried, IsCarried}
 use Rattle.sp_carry.specs.Lookups.{is_spent_by}
 use Rattle.sp_carry.specs.RivalBlocks.{has_rival_in, is_rival_in, rival_blocks}
 use Rattle.sp_carry.proofs.Members.{IsIn, any_of_member, member_of_all, member_of_any}
 use Rattle.sp_carry.specs.Flags.{is_set}
 use Rattle.sp_accept.specs.Around.{is_unbeaten, IsAround}
-use Rattle.sp_accept.specs.Pass.{has_source, inputs_at, is_beaten_at, is_lost, is_next}
+use Rattle.sp_accept.specs.Pass.{has_source, inputs_at, is_lost, is_next}
 use Rattle.sp_accept.specs.Rows.{no_row, payment_at, row_at, AreOf}
 use Rattle.sp_accept.specs.Standing.{is_before, is_below}
 use Rattle.sp_accept.proofs.Carriers.{AreRows, conflict_from, conflict_to, rows_are}
 use Rattle.sp_accept.proofs.Decided.{IsRivalAt, lost_at, lost_found, HasRival}
 use Rattle.sp_accept.proofs.Places.{in_place, place_in}
 
--- ---- rows that are filled place by place
+-- ---- rows that are filled block by block, of those of a row
 
-pub filled_none : (test : ℕ → Bool) (row : List ℕ) → row ≡ [] → (w : ℕ) → has row w ≡ (nat_lt w 0 && test w)
-filled_none test row e w = ap (λ (l : List ℕ). has l w) e ∙ sym (ap (λ (b : Bool). b && test w) (le-ltb w 0 (omega arith)))
+-- the row has, of the first blocks of some, those that pass
+abbrev pub IsFilled : (ℕ → Bool) → List ℕ → ℕ → List ℕ → Type 0
+IsFilled test some count row = (w : ℕ) → has row w ≡ (nat_lt w count && (has some w && test w))
 
-pub filled_more : (test : ℕ → Bool) (old new : List ℕ) (place : ℕ) (passed : Bool) → passed ≡ test place → ((w : ℕ) → has old w ≡ (nat_lt w place && test w))
-    → ((w : ℕ) → has new w ≡ (has old w || (passed && eqb w place))) → (w : ℕ) → has new w ≡ (nat_lt w (place + 1) && test w)
-filled_more test old new place passed is before now w =
-    now w ∙ ap (λ (b : Bool). b || (passed && eqb w place)) (before w) ∙ at
+-- one block more, which is put where it is one of some and passes
+pub filled_more : (test : ℕ → Bool) (some old new : List ℕ) (place : ℕ) (put : Bool) → put ≡ (has some place && test place) → IsFilled test some place old
+    → ((w : ℕ) → has new w ≡ (has old w || (put && eqb w place))) → IsFilled test some (place + 1) new
+filled_more test some old new place put is before now w =
+    now w ∙ ap (λ (b : Bool). b || (put && eqb w place)) (before w) ∙ at
   where
-    last : (c : Bool) → (false && test w || (c && true)) ≡ (true && c)
+    passes : ℕ → Bool
+    passes v = has some v && test v
+
+    last : (c : Bool) → (false && passes w || (c && true)) ≡ (true && c)
     last true = refl
     last false = refl
 
@@ -42,34 +46,50 @@ filled_more test old new place passed is before now w =
     off false true = refl
     off false false = refl
 
-    at : (nat_lt w place && test w || (passed && eqb w place)) ≡ (nat_lt w (place + 1) && test w)
+    at : (nat_lt w place && passes w || (put && eqb w place)) ≡ (nat_lt w (place + 1) && passes w)
     at =
         elim (cases_lt w place) [
           | inl less ↦
-              ap (λ (e : Bool). nat_lt w place && test w || (passed && e)) (ne_eqb w place (λ same. omega (arith, less, same)))
-              ∙ off (nat_lt w place && test w) passed
-              ∙ ap (λ (b : Bool). b && test w) (lt-ltb w place less ∙ sym (lt-ltb w (place + 1) (omega (arith, less))))
+              ap (λ (e : Bool). nat_lt w place && passes w || (put && e)) (ne_eqb w place (λ same. omega (arith, less, same)))
+              ∙ off (nat_lt w place && passes w) put
+              ∙ ap (λ (b : Bool). b && passes w) (lt-ltb w place less ∙ sym (lt-ltb w (place + 1) (omega (arith, less))))
           | inr ge ↦ elim (cases_lt place w) [
             | inl more ↦
-                ap (λ (e : Bool). nat_lt w place && test w || (passed && e)) (ne_eqb w place (λ same. omega (arith, more, same)))
-                ∙ off (nat_lt w place && test w) passed
-                ∙ ap (λ (b : Bool). b && test w) (le-ltb w place ge ∙ sym (le-ltb w (place + 1) (omega (arith, more))))
+                ap (λ (e : Bool). nat_lt w place && passes w || (put && e)) (ne_eqb w place (λ same. omega (arith, more, same)))
+                ∙ off (nat_lt w place && passes w) put
+                ∙ ap (λ (b : Bool). b && passes w) (le-ltb w place ge ∙ sym (le-ltb w (place + 1) (omega (arith, more))))
             | inr le ↦ (let same : w ≡ place = omega (arith, le, ge) in
-                ap (λ (b : Bool). b && test w || (passed && eqb w place)) (le-ltb w place ge)
-                ∙ ap (λ (e : Bool). false && test w || (passed && e)) (eq-eqb w place same)
-                ∙ last passed
-                ∙ ap (λ (b : Bool). true && b) (is ∙ ap test (sym same))
-                ∙ ap (λ (b : Bool). b && test w) (sym (lt-ltb w (place + 1) (omega (arith, same)))))
+                ap (λ (b : Bool). b && passes w || (put && eqb w place)) (le-ltb w place ge)
+                ∙ ap (λ (e : Bool). false && passes w || (put && e)) (eq-eqb w place same)
+                ∙ last put
+                ∙ ap (λ (b : Bool). true && b) (is ∙ ap passes (sym same))
+                ∙ ap (λ (b : Bool). b && passes w) (sym (lt-ltb w (place + 1) (omega (arith, same)))))
           ]
         ]
 
-pub filled_below : (test : ℕ → Bool) (row : List ℕ) (count w : ℕ) → ((w : ℕ) → has row w ≡ (nat_lt w count && test w)) → w < count → has row w ≡ test w
-filled_below test row count w h lt = h w ∙ ap (λ (b : Bool). b && test w) (lt-ltb w count lt)
+-- the block is one of some, or it isn't and nothing is put
+pub filled_here : (test : ℕ → Bool) (some old new : List ℕ) (place : ℕ) → has some place ≡ true → IsFilled test some place old
+    → ((w : ℕ) → has new w ≡ (has old w || (test place && eqb w place))) → IsFilled test some (place + 1) new
+filled_here test some old new place is before now =
+    filled_more test some old new place (test place) (ap (λ (b : Bool). b && test place) (sym is)) before now
 
--- a place that is put
-pub put_here : (old new : List ℕ) (block : ℕ) (passed : Bool) → passed ≡ true → ((w : ℕ) → has new w ≡ (has old w || eqb w block))
-    → (w : ℕ) → has new w ≡ (has old w || (passed && eqb w block))
-put_here old new block passed is h w = h w ∙ ap (λ (b : Bool). has old w || (b && eqb w block)) (sym is)
+pub filled_past : (test : ℕ → Bool) (some row : List ℕ) (place : ℕ) → has some place ≡ false → IsFilled test some place row → IsFilled test some (place + 1) row
+filled_past test some row place is before =
+    filled_more test some row row place false (ap (λ (b : Bool). b && test place) (sym is)) before (λ w. sym (or_none (has row w)))
+  where
+    or_none : (a : Bool) → (a || false) ≡ a
+    or_none true = refl
+    or_none false = refl
+
+-- ---- fewer rivals
+
+-- the rows around a block do for fewer rivals
+pub around_fewer : (table : Numbered) (z : ℕ) (rivals fewer beaten safe : List ℕ) → ((w : ℕ) → has fewer w ≡ true → has rivals w ≡ true)
+    → IsAround table z rivals beaten safe → IsAround table z fewer beaten safe
+around_fewer table z rivals fewer beaten safe within h = record {
+  beaten_are = λ w lt there. h.beaten_are w lt (within w there);
+  safe_are = λ w lt there. h.safe_are w lt (within w there);
+}
 
 -- ---- lists
 
@@ -95,7 +115,7 @@ not_false false h = absurd (false≢true (sym h))
 -- ---- the rivals of one carrier
 
 module _ (table : Numbered) (k : Carried) (carried : IsCarried k) (of : AreOf table k) (flags : List Bool) (c : ℕ) (lc : c < length k.rows) (beaten safe : List ℕ)
-    (around : IsAround table (row_at k.rows c).block beaten safe) where
+    (around : IsAround table (row_at k.rows c).block (rival_blocks k (row_at k.rows c).tx) beaten safe) where
   kept : AreRows k
   kept = rows_are k carried
 
@@ -139,7 +159,7 @@ module _ (table : Numbered) (k : Carried) (carried : IsCarried k) (of : AreOf ta
       by (i, e, r, beats) =
           let there : has safe (block_of e) ≡ true = member_of_all (has safe) (rival_blocks k (tx_of c)) (block_of e) h (rival_in e i r) in
           let p : (not (is_unbeaten table (block_of c) (block_of e)) ≡ true) × (not (is_below table (block_of e) (block_of c)) ≡ true) =
-          and_parts (not (is_unbeaten table (block_of c) (block_of e))) _ (sym (around.safe_are (block_of e) (block_in e r.within)) ∙ there) in
+          and_parts (not (is_unbeaten table (block_of c) (block_of e))) _ (sym (around.safe_are (block_of e) (block_in e r.within) (has_in (rival_blocks k (tx_of c)) (block_of e) (rival_in e i r))) ∙ there) in
           clash (is_below table (block_of e) (block_of c)) (is_set flags e) (rest e) p.0 p.1 (and_parts (row_at k.rows e).sound _ beats).1
 
   -- one in a block that isn't beaten stands in the way
@@ -151,21 +171,21 @@ module _ (table : Numbered) (k : Carried) (carried : IsCarried k) (of : AreOf ta
       let r : (r : Carrier) × IsIn k.rows r × (is_rival_in k (tx_of c) w.0 r ≡ true) =
       member_of_any (is_rival_in k (tx_of c) w.0) k.rows (sym (has-places_where (has_rival_in k (tx_of c)) w.0 small) ∙ there) in
       let e : (e : ℕ) × (e < length k.rows) × (row_at k.rows e ≡ r.0) = place_in k.rows no_row r.0 r.1 in
-      by_number w.0 e.0 e.1 w.2 (ap (is_rival_in k (tx_of c) w.0) e.2 ∙ r.2)
+      by_number w.0 e.0 e.1 w.2 there (ap (is_rival_in k (tx_of c) w.0) e.2 ∙ r.2)
     where
       pick : (b f u : Bool) → not b ≡ true → u ≡ true → cond b f u ≡ true
       pick true f u n s = absurd (false≢true n)
       pick false f u n s = s
 
-      by_number : (w e : ℕ) → e < length k.rows → has beaten w ≡ false → is_rival_in k (tx_of c) w (row_at k.rows e) ≡ true → is_outdone ≡ true
-      by_number w e le out rival =
+      by_number : (w e : ℕ) → e < length k.rows → has beaten w ≡ false → has (rival_blocks k (tx_of c)) w ≡ true → is_rival_in k (tx_of c) w (row_at k.rows e) ≡ true → is_outdone ≡ true
+      by_number w e le out there rival =
           let p : ((row_at k.rows e).sound ≡ true) × ((eqb w (block_of e) && conflicts (payment_at k (tx_of c)) (payment_at k (tx_of e))) ≡ true) = and_parts (row_at k.rows e).sound _ rival in
           let q : (eqb w (block_of e) ≡ true) × (conflicts (payment_at k (tx_of c)) (payment_at k (tx_of e)) ≡ true) = and_parts (eqb w (block_of e)) _ p.1 in
           let i : (i : Input) × IsIn (inputs_at k (tx_of c)) i × (is_spent_by i.from (inputs_at k (tx_of e)) ≡ true) × (eqb (tx_of e) (tx_of c) ≡ false) =
           conflict_to k kept (tx_of c) (tx_of e) (kept.known c lc) (kept.known e le) q.1 in
           let free : is_unbeaten table (block_of c) (block_of e) ≡ true =
           not_false (is_unbeaten table (block_of c) (block_of e))
-          (sym (around.beaten_are (block_of e) (block_in e le)) ∙ ap (has beaten) (sym (eqb-true w (block_of e) q.0)) ∙ out) in
+          (sym (around.beaten_are (block_of e) (block_in e le) (ap (has (rival_blocks k (tx_of c))) (sym (eqb-true w (block_of e) q.0)) ∙ there)) ∙ ap (has beaten) (sym (eqb-true w (block_of e) q.0)) ∙ out) in
           let s : (not (is_below table (block_of e) (block_of c)) ≡ true) × (rest e ≡ true) = and_parts (not (is_below table (block_of e) (block_of c))) (rest e) free in
           lost_at table k kept of.long of.order of.sound none flags c e i.0 (record { within = le; input = i.1; spent = i.2; apart = i.3; valid = p.0 })
           (and_from (row_at k.rows e).sound _ p.0 (pick (is_below table (block_of e) (block_of c)) (is_set flags e) (rest e) s.0 s.1))

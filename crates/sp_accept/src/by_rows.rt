@@ -1,6 +1,6 @@
 //! Whether a carrier is accepted, by rows of blocks: those in which its transaction has rivals, and
-//! those around its own block. One after another are looked at alone what it spends, and the rivals of
-//! a carrier that has some in its past.
+//! those around its own block. What it spends is looked at one after another, and so are the rivals of a
+//! carrier that has some in its past.
 
 ghost use Rattle.std.specs.Prelude.{◌≡◌, ◌<◌, ◌&&◌, not, length};
 ghost use Rattle.std.specs.List.{list_all, list_any};
@@ -55,7 +55,8 @@ pub(crate) fn is_next_by_rows<O: Order>(
 ) -> bool
     requires of { AreOf (O.table order.now) carriers.now }
     requires c { c < length carriers.now.rows }
-    requires around { IsAround (O.table order.now) (row_at carriers.now.rows c).block around.now.beaten around.now.safe }
+    requires around { IsAround (O.table order.now) (row_at carriers.now.rows c).block
+        (rival_blocks carriers.now (row_at carriers.now.rows c).tx) around.now.beaten around.now.safe }
     ensures { result ≡ is_next (O.table order.now) carriers.now flags.now c }
 {
     // Tells the proof what carriers are.

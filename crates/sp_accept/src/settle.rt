@@ -6,13 +6,14 @@ ghost use Rattle.std.specs.Prelude.{◌≡◌, ◌≢◌, ◌<◌, ◌≤◌, �
 ghost use Rattle.sp_model.specs.Graph.{has};
 ghost use Rattle.sp_dag.specs.Numbered.{AreInOrder};
 ghost use Rattle.sp_carry.specs.Flags.{is_set};
+ghost use Rattle.sp_carry.specs.RivalBlocks.{rival_blocks};
 ghost use Rattle.sp_accept.specs.Around.{IsAround};
 ghost use Rattle.sp_accept.specs.Pass.{is_next};
 ghost use Rattle.sp_accept.specs.Rows.{row_at, AreOf};
 ghost use Rattle.sp_accept.specs.Standing.{is_below};
 ghost use Rattle.sp_accept.specs.Todo.{all_turned, AreSettledBut, AreTurned, is_due, turned_at};
 
-use crate::around::{Around, around_of};
+use crate::around::{Around, around_of, rivals_of};
 use crate::by_rows::is_next_by_rows;
 use crate::flags::differ;
 use crate::lookups::first_from;
@@ -46,7 +47,8 @@ fn settle_one<O: Order>(
 ) -> Result<bool, AllocError>
     requires of { AreOf (O.table order.now) carriers.now }
     requires within { c < length carriers.now.rows }
-    requires around { IsAround (O.table order.now) (row_at carriers.now.rows c).block around.now.beaten around.now.safe }
+    requires around { IsAround (O.table order.now) (row_at carriers.now.rows c).block
+        (rival_blocks carriers.now (row_at carriers.now.rows c).tx) around.now.beaten around.now.safe }
     requires long { length flags.old.items ≡ length carriers.now.rows }
     ensures turned { AreTurned flags.old.items flags.new.items turned.old.items turned.new.items }
     ensures own { OnOk result (is_set flags.new.items c
@@ -85,10 +87,13 @@ fn settle_block<O: Order>(
         (λ d. is_due carriers.now.rows todo.now (block + 1) d
         || (any && is_below (O.table order.now) block (row_at carriers.now.rows d).block))) }
 {
-    let around = around_of(order, block, carriers.block_count());
+    let count = carriers.block_count();
+    let first = first_from(carriers, block);
     let end = first_from(carriers, block + 1);
+    let rivals = rivals_of(carriers, first, end);
+    let around = around_of(order, block, &rivals, count);
     let mut any = false;
-    'carriers: for c in first_from(carriers, block)..end {
+    'carriers: for c in first..end {
         if settle_one(order, carriers, flags, turned, &around, c)? {
             any = true;
         }
