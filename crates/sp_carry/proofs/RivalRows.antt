@@ -1,13 +1,13 @@
 -- Which blocks' marks in the row of a transaction are those of its rivals, with all carriers, with more of them, and where
 -- the last blocks go.
-use Rattle.std.proofs.Common.{◌≡◌, ℕ, zero, suc, Bool, true, false, cond, eqb, not, ◌+◌, ◌<◌, ◌≤◌, ◌||◌, ◌&&◌, List, [], ◌∷◌, ◌++◌, length, map, take, drop, get_or, nat_lt, Option, Some, None, refl, sym, ap, ◌∙◌, arith, subst, inl, inr}
-use Rattle.std.specs.Prelude.{All, filter, slice_get, unwrap_or}
+use Rattle.std.proofs.Common.{◌≡◌, ℕ, suc, Bool, true, false, eqb, not, ◌+◌, ◌<◌, ◌≤◌, ◌||◌, ◌&&◌, List, [], ◌∷◌, length, map, take, drop, nat_lt, Option, Some, refl, sym, ap, ◌∙◌, arith, subst, inl, inr}
+use Rattle.std.specs.Prelude.{slice_get, unwrap_or}
 use Rattle.std.specs.List.{list_any}
-use Rattle.std.proofs.lemmas.Bool.{cases_lt, false≢true, and_parts, and_from, eqb-true, eq-eqb, ne_eqb, not_from_false, not-true, lt-ltb, ltb-true, or_cases}
+use Rattle.std.proofs.lemmas.Bool.{cases_lt, false≢true, and_parts, and_from, eqb-true, eq-eqb, ne_eqb, not_from_false, not-true}
 use Rattle.std.proofs.lemmas.List.{get_or-take, length-take-le, take-append-drop}
 use Rattle.std.proofs.lemmas.List.Folds.{list_any-append}
 use Rattle.std.proofs.lemmas.Option.{slice_get-get_or}
-use Rattle.sp_bits.specs.Places.{has, members_below, places_where, IsRow}
+use Rattle.sp_bits.specs.Places.{has, IsRow}
 use Rattle.sp_bits.specs.Members.{has-filter, has-places_where}
 use Rattle.sp_bits.proofs.Sets.{places_same}
 use Rattle.sp_tx.specs.declared.parts.Input.{Input}
@@ -19,7 +19,7 @@ use Rattle.sp_carry.specs.Payment.{Spent, conflicts, is_same_outpoint, payment_o
 use Rattle.sp_carry.specs.Lookups.{is_spent_by, spenders_in}
 use Rattle.sp_carry.specs.Carried.{Carried, carriers_in, cut_to, rows_of_first, tx_at, used, AreLinked}
 use Rattle.sp_carry.specs.Growth.{front}
-use Rattle.sp_carry.specs.RivalBlocks.{has_other_in, has_rival_in, has_spender_in, is_in_row_of, is_in_row_of_spender, is_rival_in, is_sound_in, is_sound_one, rival_blocks, row_of, AreCut, AreMarkedBy, ArePushed, HasRivals, IsMarkedBy}
+use Rattle.sp_carry.specs.RivalBlocks.{has_other_in, has_rival_in, has_spender_in, is_in_row_of, is_in_row_of_spender, is_rival_in, is_sound_in, is_sound_one, rival_blocks, row_of, AreCut, AreMarkedBy, ArePushed, HasRivals}
 use Rattle.sp_carry.proofs.Conflicts.{conflicts_from, conflicts_turned}
 use Rattle.sp_carry.proofs.Finding.{number_is}
 use Rattle.sp_carry.proofs.Fronts.{all_used, used-front}

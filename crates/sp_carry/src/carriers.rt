@@ -25,11 +25,21 @@ use std::marker::Model;
 /// that of their places. A transaction counts once, whatever number of blocks carries it. Where two
 /// transactions have one id, which SHA-256 makes hard to find, both count as the first of them.
 /// Contracts see the number of blocks, the transactions, and the carriers.
-#[derive(Drop)]
 pub struct Carriers {
     alloc: Global,
     table: Table,
     rivals: Vec<Row>,
+}
+
+// Written out, so that where carriers are let go there is one call.
+impl Drop for Carriers {
+    fn drop(self) {
+        let Carriers {
+            alloc: _,
+            table: _,
+            rivals: _,
+        } = self;
+    }
 }
 
 impl Model for Carriers {

@@ -1,4 +1,4 @@
-use Rattle.std.proofs.Common.{◌<◌, ◌∙◌, ℕ, List, subst, sym, length}
+use Rattle.std.proofs.Common.{◌<◌, ◌∙◌, ℕ, subst, sym, length}
 use Rattle.std.specs.Prelude.{All}
 use Rattle.sp_carry.proofs.Keeping.{spenders_below}
 use Rattle.sp_carry.proofs.beside.mark_spenders.Goals as goal
