@@ -172,7 +172,7 @@ module _ (table : Numbered) (k : Carried) (kept : AreRows k) (blocks : length ta
       (i.0, record { within = lc; input = i.1; spent = i.2; apart = i.3; valid = sound c no_row lc ∙ p.1 })
 
   -- what the code finds, where a rival stands in the way
-  lost_at : (flags : List Bool) (n c : ℕ) (i : Input) → IsRivalAt n i c → is_beaten_at table k flags (block_of n) c ≡ true
+  pub lost_at : (flags : List Bool) (n c : ℕ) (i : Input) → IsRivalAt n i c → is_beaten_at table k flags (block_of n) c ≡ true
       → list_any (is_lost table k flags (row_at k.rows n)) (inputs_at k (tx_of n)) ≡ true
   lost_at flags n c i r h =
       any_of_member (is_lost table k flags (row_at k.rows n)) (inputs_at k (tx_of n)) i r.input
@@ -181,10 +181,10 @@ module _ (table : Numbered) (k : Carried) (kept : AreRows k) (blocks : length ta
       (and_from (not (eqb (tx_of c) (tx_of n))) (is_beaten table k flags (block_of n) (tx_of c)) (not_from_false (eqb (tx_of c) (tx_of n)) r.apart)
       (any_of_member (is_beaten_at table k flags (block_of n)) (carriers_in k.rows (tx_of c)) c (of_carrier k.rows (tx_of c) c r.within refl) h)))
 
-  abbrev HasRival : List Bool → ℕ → Type 0
+  abbrev pub HasRival : List Bool → ℕ → Type 0
   HasRival flags n = (i : Input) × (c : ℕ) × IsRivalAt n i c × (is_beaten_at table k flags (block_of n) c ≡ true)
 
-  lost_found : (flags : List Bool) (n : ℕ) → list_any (is_lost table k flags (row_at k.rows n)) (inputs_at k (tx_of n)) ≡ true → HasRival flags n
+  pub lost_found : (flags : List Bool) (n : ℕ) → list_any (is_lost table k flags (row_at k.rows n)) (inputs_at k (tx_of n)) ≡ true → HasRival flags n
   lost_found flags n h =
       let i : (i : Input) × IsIn (inputs_at k (tx_of n)) i × (is_lost table k flags (row_at k.rows n) i ≡ true) =
       member_of_any (is_lost table k flags (row_at k.rows n)) (inputs_at k (tx_of n)) h in

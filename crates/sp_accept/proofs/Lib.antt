@@ -18,3 +18,4 @@ pub mod Due
 pub mod Reached
 pub mod Updated
 pub mod Outcome
+pub mod Rowwise

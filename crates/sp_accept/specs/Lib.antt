@@ -6,3 +6,4 @@ pub mod Changes
 pub mod Pass
 pub mod States
 pub mod Todo
+pub mod Around

@@ -102,9 +102,12 @@ impl Accepted {
     /// It looks again at the carriers of whole blocks, block by block and ascending, at each once: of the
     /// new blocks with a sound carrier, of the older blocks that don't come before a new one with a sound
     /// carrier that has rivals, of both blocks of each pair, and of each block above one in which a carrier
-    /// turned. Each carrier takes the look-ups of one step of `rebuild`. The order is asked of each older
-    /// block beside each such new one, and of each block above one in which a carrier turned. Memory is
-    /// taken for the flags, for what turned, and for the answer.
+    /// turned. Each carrier takes two tests of rows and a look-up of each transaction that it spends, with
+    /// the carriers of that one; its rivals are looked at only where some stand in the past of its block, as
+    /// in one step of `rebuild`. The order is asked of each older block beside each such new one, for each
+    /// block that is decided on again of the blocks in which its carriers have rivals, and of each block
+    /// above one in which a carrier turned. Memory is taken for the flags, for what turned, and for the
+    /// answer.
     ///
     /// # Errors
     ///

@@ -5,6 +5,8 @@
 #![tactic(auto)]
 
 mod accepted;
+mod around;
+mod by_rows;
 mod flags;
 mod flips;
 pub mod laws;

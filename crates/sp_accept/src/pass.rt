@@ -15,7 +15,7 @@ use sp_carry::{Carriers, is_set};
 use std::alloc::{AllocError, Global};
 
 /// Whether the carrier of this number is accepted, where the flags say it of those before it.
-pub(crate) fn is_next<O: Order>(order: &O, carriers: &Carriers, flags: &[bool], c: u32) -> bool
+fn is_next<O: Order>(order: &O, carriers: &Carriers, flags: &[bool], c: u32) -> bool
     requires blocks { length (O.table order.now).parents ≡ carriers.now.blocks }
     requires c { c < length carriers.now.rows }
     ensures { result ≡ is_next (O.table order.now) carriers.now flags.now c }

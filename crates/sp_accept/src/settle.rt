@@ -6,15 +6,18 @@ ghost use Rattle.std.specs.Prelude.{◌≡◌, ◌≢◌, ◌<◌, ◌≤◌, �
 ghost use Rattle.sp_model.specs.Graph.{has};
 ghost use Rattle.sp_dag.specs.Numbered.{AreInOrder};
 ghost use Rattle.sp_carry.specs.Flags.{is_set};
+ghost use Rattle.sp_carry.specs.RivalBlocks.{rival_blocks};
+ghost use Rattle.sp_accept.specs.Around.{IsAround};
 ghost use Rattle.sp_accept.specs.Pass.{is_next};
 ghost use Rattle.sp_accept.specs.Rows.{row_at, AreOf};
 ghost use Rattle.sp_accept.specs.Standing.{is_below};
 ghost use Rattle.sp_accept.specs.Todo.{all_turned, AreSettledBut, AreTurned, is_due, turned_at};
 
+use crate::around::{Around, around_of, rivals_of};
+use crate::by_rows::is_next_by_rows;
 use crate::flags::differ;
 use crate::lookups::first_from;
 use crate::order::Order;
-use crate::pass::is_next;
 use crate::todo::note;
 use sp_bits::Row;
 use sp_carry::{Carriers, is_set};
@@ -39,10 +42,13 @@ fn settle_one<O: Order>(
     carriers: &Carriers,
     flags: &mut Vec<bool>,
     turned: &mut Vec<u32>,
+    around: &Around,
     c: u32,
 ) -> Result<bool, AllocError>
     requires of { AreOf (O.table order.now) carriers.now }
     requires within { c < length carriers.now.rows }
+    requires around { IsAround (O.table order.now) (row_at carriers.now.rows c).block
+        (rival_blocks carriers.now (row_at carriers.now.rows c).tx) around.now.beaten around.now.safe }
     requires long { length flags.old.items ≡ length carriers.now.rows }
     ensures turned { AreTurned flags.old.items flags.new.items turned.old.items turned.new.items }
     ensures own { OnOk result (is_set flags.new.items c
@@ -54,7 +60,7 @@ fn settle_one<O: Order>(
 {
     // Tells the proof what carriers are.
     let _blocks = carriers.block_count();
-    let now = is_next(order, carriers, flags, c);
+    let now = is_next_by_rows(order, carriers, flags, around, c);
     if differ(is_set(flags, c), now) {
         turn(flags, turned, c)?;
         return Ok(true);
@@ -81,12 +87,14 @@ fn settle_block<O: Order>(
         (λ d. is_due carriers.now.rows todo.now (block + 1) d
         || (any && is_below (O.table order.now) block (row_at carriers.now.rows d).block))) }
 {
-    // Tells the proof that there are at most 512 blocks.
-    let _blocks = carriers.block_count();
+    let count = carriers.block_count();
+    let first = first_from(carriers, block);
     let end = first_from(carriers, block + 1);
+    let rivals = rivals_of(carriers, first, end);
+    let around = around_of(order, block, &rivals, count);
     let mut any = false;
-    'carriers: for c in first_from(carriers, block)..end {
-        if settle_one(order, carriers, flags, turned, c)? {
+    'carriers: for c in first..end {
+        if settle_one(order, carriers, flags, turned, &around, c)? {
             any = true;
         }
     }

@@ -52,7 +52,7 @@ fn is_shared(carriers: &Carriers, input: &Input) -> bool
     spenders_of(carriers, &input.from).len() > 1
 }
 
-/// Whether that is so for one of the inputs.
+/// Whether more than one transaction spends what one of the inputs does.
 fn is_any_shared(carriers: &Carriers, inputs: &[Input]) -> bool
     ensures { result ≡ list_any (is_shared carriers.now) inputs.now }
 {
@@ -107,7 +107,7 @@ fn note_beside<O: Order>(todo: &mut Row, order: &O, blocks: u16, new: u16)
     }
 }
 
-/// So it does for each later block of a row.
+/// Notes each of the first blocks that isn't below a later block of a row and doesn't come before it.
 fn note_all_beside<O: Order>(todo: &mut Row, order: &O, news: &Row, blocks: u16, count: u16)
     requires order { AreInOrder (O.table order.now).parents }
     requires few { length (O.table order.now).parents ≤ 512 }
@@ -138,7 +138,7 @@ fn note_pair(todo: &mut Row, pair: (u16, u16), blocks: u16)
     }
 }
 
-/// So it does for each pair.
+/// Notes both blocks of each pair that ascends and is among the first blocks.
 fn note_pairs(todo: &mut Row, changed: &[(u16, u16)], blocks: u16)
     requires { blocks ≤ 512 }
     ensures kept { (z : ℕ) → IsTrue (has todo.old z) → IsTrue (has todo.new z) }

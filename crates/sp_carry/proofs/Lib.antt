@@ -24,3 +24,6 @@ pub mod Genesis
 pub mod Fronts
 pub mod Cutting
 pub mod Flipping
+pub mod Marked
+pub mod RivalRows
+pub mod Rowed

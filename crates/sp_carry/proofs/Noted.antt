@@ -5,7 +5,7 @@ use Rattle.std.proofs.lemmas.List.{take_more}
 use Rattle.std.proofs.lemmas.List.Folds.{list_any-append}
 use Rattle.sp_carry.specs.Rivals.{has_number, IsNotedBy, Set}
 
-or_more : (a b c : Bool) → ((a || b) || c) ≡ (a || (b || (c || false)))
+pub or_more : (a b c : Bool) → ((a || b) || c) ≡ (a || (b || (c || false)))
 or_more true b c = refl
 or_more false true c = refl
 or_more false false true = refl

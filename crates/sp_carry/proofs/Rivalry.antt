@@ -28,7 +28,7 @@ use Rattle.sp_carry.proofs.Noting.{is_eq-nat_cmp}
 
 -- ---- the lists of numbers
 
-in_carriers : (first tx : ℕ) (rows : List Carrier) (e : ℕ) → IsIn (carriers_from first tx rows) e
+pub in_carriers : (first tx : ℕ) (rows : List Carrier) (e : ℕ) → IsIn (carriers_from first tx rows) e
     → (i : ℕ) × (s : Carrier) × (first + i ≡ e) × (slice_get rows i ≡ Some s) × (s.tx ≡ tx)
 in_carriers first tx [] e h = absurd h
 in_carriers first tx (r ∷ rs) e h = at (eqb r.tx tx) refl h (in_carriers (suc first) tx rs e)
@@ -46,7 +46,7 @@ in_carriers first tx (r ∷ rs) e h = at (eqb r.tx tx) refl h (in_carriers (suc 
         (let t : (i : ℕ) × (s : Carrier) × (suc first + i ≡ e) × (slice_get rs i ≡ Some s) × (s.tx ≡ tx) = rest h in
         (suc t.0, t.1, (let step : first + suc t.0 ≡ suc first + t.0 = omega arith in step) ∙ t.2, t.3, t.4))
 
-in_carriers_from : (first tx : ℕ) (rows : List Carrier) (i e : ℕ) (s : Carrier) → slice_get rows i ≡ Some s → s.tx ≡ tx → first + i ≡ e → IsIn (carriers_from first tx rows) e
+pub in_carriers_from : (first tx : ℕ) (rows : List Carrier) (i e : ℕ) (s : Carrier) → slice_get rows i ≡ Some s → s.tx ≡ tx → first + i ≡ e → IsIn (carriers_from first tx rows) e
 in_carriers_from first tx [] i e s there is place = absurd (none_some there)
   where
     none_some : None ≡ Some s → ⊥
@@ -67,7 +67,7 @@ in_carriers_from first tx (r ∷ rs) (suc i) e s there is place =
     at true h = inr h
     at false h = h
 
-in_spenders : (first : ℕ) (from : Outpoint) (txs : List Transaction) (e : ℕ) → IsIn (spenders_from first from txs) e
+pub in_spenders : (first : ℕ) (from : Outpoint) (txs : List Transaction) (e : ℕ) → IsIn (spenders_from first from txs) e
     → (i : ℕ) × (t : Transaction) × (first + i ≡ e) × (slice_get txs i ≡ Some t) × (is_spent_by from t.inputs ≡ true)
 in_spenders first from [] e h = absurd h
 in_spenders first from (x ∷ xs) e h = at (is_spent_by from x.inputs) refl h (in_spenders (suc first) from xs e)
@@ -85,7 +85,7 @@ in_spenders first from (x ∷ xs) e h = at (is_spent_by from x.inputs) refl h (i
         (let t : (i : ℕ) × (t : Transaction) × (suc first + i ≡ e) × (slice_get xs i ≡ Some t) × (is_spent_by from t.inputs ≡ true) = rest h in
         (suc t.0, t.1, (let step : first + suc t.0 ≡ suc first + t.0 = omega arith in step) ∙ t.2, t.3, t.4))
 
-in_spenders_from : (first : ℕ) (from : Outpoint) (txs : List Transaction) (i e : ℕ) (t : Transaction) → slice_get txs i ≡ Some t → is_spent_by from t.inputs ≡ true
+pub in_spenders_from : (first : ℕ) (from : Outpoint) (txs : List Transaction) (i e : ℕ) (t : Transaction) → slice_get txs i ≡ Some t → is_spent_by from t.inputs ≡ true
     → first + i ≡ e → IsIn (spenders_from first from txs) e
 in_spenders_from first from [] i e t there is place = absurd (none_some there)
   where
@@ -114,18 +114,18 @@ some_same : {A : Type 0} (x y : A) → Some x ≡ Some y → x ≡ y
 some_same x y e = ap (λ (o : Option _). unwrap_or o x) e
 
 -- an outpoint that a transaction spends, as a payment
-spends_from : (from : Outpoint) (inputs : List Input) → is_spent_by from inputs ≡ true → (j : Spent) × IsIn (map spent_by inputs) j × (is_same_outpoint j.from from ≡ true)
+pub spends_from : (from : Outpoint) (inputs : List Input) → is_spent_by from inputs ≡ true → (j : Spent) × IsIn (map spent_by inputs) j × (is_same_outpoint j.from from ≡ true)
 spends_from from inputs h =
     let m : (i : Input) × IsIn inputs i × (is_same_outpoint from i.from ≡ true) = member_of_any (λ (i : Input). is_same_outpoint from i.from) inputs h in
     (spent_by m.0, in_map_from spent_by inputs m.0 m.1, same_outpoint_turned from m.0.from m.2)
 
-spends_back : (from : Outpoint) (inputs : List Input) (j : Spent) → IsIn (map spent_by inputs) j → is_same_outpoint j.from from ≡ true → is_spent_by from inputs ≡ true
+pub spends_back : (from : Outpoint) (inputs : List Input) (j : Spent) → IsIn (map spent_by inputs) j → is_same_outpoint j.from from ≡ true → is_spent_by from inputs ≡ true
 spends_back from inputs j h same =
     let m : (i : Input) × IsIn inputs i × (spent_by i ≡ j) = in_map spent_by inputs j h in
     any_of_member (λ (i : Input). is_same_outpoint from i.from) inputs m.0 m.1
     (same_outpoint_turned m.0.from from (ap (λ (s : Spent). is_same_outpoint s.from from) m.2 ∙ same))
 
-tx_there : (k : Carried) (n : ℕ) (t : Transaction) → slice_get k.txs n ≡ Some t → n < length k.txs → t ≡ tx_at k n
+pub tx_there : (k : Carried) (n : ℕ) (t : Transaction) → slice_get k.txs n ≡ Some t → n < length k.txs → t ≡ tx_at k n
 tx_there k n t there lt = sym (some_same (tx_at k n) t (sym (slice_get-get_or k.txs n (of_parts [] []) lt) ∙ there))
 
 pub row_in : (rows : List Carrier) (d : ℕ) (s : Carrier) → slice_get rows d ≡ Some s → IsIn rows s

@@ -9,3 +9,4 @@ pub mod Kept
 pub mod Worth
 pub mod Growth
 pub mod Rivals
+pub mod RivalBlocks

@@ -5,10 +5,14 @@ ghost use Rattle.sp_tx.specs.Spending.{id_of};
 ghost use Rattle.sp_carry.specs.Lookups.{spenders_in};
 ghost use Rattle.sp_carry.specs.Carried.{carriers_in, cut_to, nothing, number_of, rows_of_first, tx_at, with_block, IsCarried};
 ghost use Rattle.sp_carry.specs.Rivals.{rivals_of};
+ghost use Rattle.sp_carry.specs.RivalBlocks.{rival_blocks};
 
+use crate::beside::{add_rows, cut_rows};
 use crate::carrier::Carrier;
+use crate::carry::carry_with_room;
 use crate::rivals::rivals;
 use crate::table::Table;
+use sp_bits::Row;
 use sp_dag::Dag;
 use sp_ids::{Memory, Outpoint, TxId};
 use sp_tx::{Tx, Txs};
@@ -21,23 +25,36 @@ use std::marker::Model;
 /// that of their places. A transaction counts once, whatever number of blocks carries it. Where two
 /// transactions have one id, which SHA-256 makes hard to find, both count as the first of them.
 /// Contracts see the number of blocks, the transactions, and the carriers.
-#[derive(Drop)]
 pub struct Carriers {
     alloc: Global,
     table: Table,
+    rivals: Vec<Row>,
+}
+
+// Written out, so that where carriers are let go there is one call.
+impl Drop for Carriers {
+    fn drop(self) {
+        let Carriers {
+            alloc: _,
+            table: _,
+            rivals: _,
+        } = self;
+    }
 }
 
 impl Model for Carriers {
     ghost use Rattle.sp_carry.specs.Carried.{Carried, IsCarried};
     ghost use Rattle.sp_carry.specs.Growth.{IsBlockwise};
     ghost use Rattle.sp_carry.specs.Kept.{carried_of, IsKept};
+    ghost use Rattle.sp_carry.specs.RivalBlocks.{HasRivals};
 
     ghost Value = { Carried };
 
     ghost view = { λ carriers. carried_of carriers.table };
 
     ghost invariant = { λ carriers.
-        IsKept carriers.table × IsCarried (carried_of carriers.table) × IsBlockwise (carried_of carriers.table) };
+        IsKept carriers.table × IsCarried (carried_of carriers.table) × IsBlockwise (carried_of carriers.table)
+        × HasRivals (carried_of carriers.table) carriers.rivals.items };
 }
 
 // How many of the carriers, from the first, stand in the first blocks.
@@ -61,6 +78,7 @@ impl Carriers {
         Carriers {
             alloc,
             table: Table::new(alloc),
+            rivals: Vec::new(alloc),
         }
     }
 
@@ -68,8 +86,9 @@ impl Carriers {
     /// sound as the definition says, over the blocks in its past; a transaction whose id is known
     /// is the one that is known.
     ///
-    /// The time is that of a look-up for each transaction and each of its inputs, and of one step
-    /// for each carrier of a transaction that an input names.
+    /// The time is that of a look-up for each transaction and each of its inputs, of one step for each
+    /// carrier of a transaction that an input names, and of one for each other transaction that spends
+    /// what an input does, or, where the transaction is new, for each carrier of that one.
     ///
     /// # Errors
     ///
@@ -84,8 +103,15 @@ impl Carriers {
         // This call's contract says what a graph always is.
         let _blocks = dag.len();
         let first = self.table.rows.len();
-        match self.table.carry_all(self.alloc, dag, txs.as_slice()) {
+        match carry_with_room(
+            &mut self.table,
+            &mut self.rivals,
+            self.alloc,
+            dag,
+            txs.as_slice(),
+        ) {
             Ok(()) => {
+                add_rows(&self.table, &mut self.rivals, first);
                 self.table.blocks = number + 1;
                 Ok(())
             }
@@ -97,13 +123,14 @@ impl Carriers {
     }
 
     /// Leaves what stood after the first blocks. The time is that of a look-up for each carrier that
-    /// goes and each of its transaction's inputs.
+    /// goes and each of its transaction's inputs, and of a few steps for each transaction that stays.
     pub fn cut(&mut self, blocks: u16)
         requires { blocks ≤ self.old.blocks }
         ensures { self.new ≡ cut_to self.old blocks }
     {
         let left = rows_below(&self.table.rows, blocks);
         self.table.take_back(left);
+        cut_rows(&mut self.rivals, self.table.txs.len(), blocks);
         self.table.blocks = blocks;
     }
 
@@ -178,6 +205,17 @@ impl Carriers {
         ensures { result.now ≡ spenders_in self.now.txs from.now }
     {
         self.table.spenders_of(from)
+    }
+
+    /// The blocks in which a sound carrier conflicts with the transaction, at once.
+    pub fn rival_blocks(&self, tx: u32) -> &Row
+        requires { tx < length self.now.txs }
+        ensures { result.now ≡ rival_blocks self.now tx }
+    {
+        let row = &self.rivals[tx as usize];
+        // Tells the proof what a row is.
+        let _there = row.test(0);
+        row
     }
 
     /// The numbers of the sound carriers that conflict with a carrier, in whatever block they

@@ -1,6 +1,6 @@
 //! Carriers of the next block, one by one, and how the last ones are taken back.
 
-ghost use Rattle.std.specs.Prelude.{◌≡◌, ◌<◌, ◌≤◌, ◌+◌, ◌^◌, ℕ, length, take, OnOk, OnErr};
+ghost use Rattle.std.specs.Prelude.{◌≡◌, ◌<◌, ◌≤◌, ◌+◌, ◌^◌, ℕ, length, take, vec_capacity, OnOk, OnErr};
 ghost use Rattle.sp_dag.specs.Numbered.{IsNumbered};
 ghost use Rattle.sp_carry.specs.Carried.{Carried, with_carrier, with_carriers, AreLinked};
 ghost use Rattle.sp_carry.specs.Growth.{front, AreInTurn, HasRoom};
@@ -9,6 +9,7 @@ ghost use Rattle.sp_carry.specs.Kept.{carried_of, IsKept, Keeps};
 use crate::carrier::Carrier;
 use crate::table::Table;
 use crate::worth::is_sound;
+use sp_bits::Row;
 use sp_dag::Dag;
 use sp_ids::Memory;
 use sp_tx::Tx;
@@ -91,5 +92,30 @@ impl Table {
         'rows: while self.rows.len() > first {
             self.drop_carrier();
         }
+    }
+}
+
+// The next block's carriers, and room for a row of each transaction. After `Memory` some of the
+// carriers are there.
+pub(crate) fn carry_with_room(
+    table: &mut Table,
+    rows: &mut Vec<Row>,
+    alloc: Global,
+    dag: &Dag,
+    txs: &[Tx],
+) -> Result<(), Memory>
+    requires kept { IsKept table.old }
+    requires room { HasRoom dag.now (length txs.now) (carried_of table.old) }
+    requires numbered { IsNumbered dag.now }
+    ensures ok { OnOk result (Keeps table.new (with_carriers dag.now (carried_of table.old) txs.now)) }
+    ensures room { OnOk result (length table.new.txs.items ≤ vec_capacity rows.new) }
+    ensures same { rows.new.items ≡ rows.old.items }
+    ensures err { OnErr result ((count : ℕ) × Keeps table.new (with_carriers dag.now (carried_of table.old) (take count txs.now))) }
+{
+    table.carry_all(alloc, dag, txs)?;
+    let count = table.txs.len();
+    match rows.reserve(count.saturating_sub(rows.len())) {
+        Ok(()) => Ok(()),
+        Err(_) => Err(Memory),
     }
 }

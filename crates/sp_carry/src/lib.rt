@@ -3,12 +3,14 @@
 #![tactic(auto)]
 
 mod below;
+mod beside;
 mod carrier;
 mod carriers;
 mod carry;
 mod copies;
 mod flags;
 pub mod laws;
+mod marks;
 mod numbers;
 mod rivals;
 mod sets;

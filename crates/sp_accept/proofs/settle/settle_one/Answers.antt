@@ -9,7 +9,7 @@ returns-then-differ-clause-own g c =
     own_settled (g.O.Order.table c.args.order.now) c.args.carriers.now c.args.flags.now.items c.turn.new.flags.items c.args.c (omega (arith, c.requires.within, c.requires.long))
     c.in_ok-turn.ensures.flag (not_below_itself (g.O.Order.table c.args.order.now) c.args.carriers.now c.block_count-blocks.ensures.carried c.requires.of c.args.c c.requires.within)
     (ap (λ (l : List Bool). not (is_set l c.args.c)) (sym c.deref-2.ensures.value)
-    ∙ ap not (sym c.is_set.ensures) ∙ unlike c.is_set.result c.is_next-now.result (sym c.differ.ensures ∙ c.if-differ.true) ∙ c.is_next-now.ensures
+    ∙ ap not (sym c.is_set.ensures) ∙ unlike c.is_set.result c.is_next_by_rows-now.result (sym c.differ.ensures ∙ c.if-differ.true) ∙ c.is_next_by_rows-now.ensures
     ∙ ap (λ (l : List Bool). is_next (g.O.Order.table c.args.order.now) c.args.carriers.now l c.args.c) c.deref.ensures.value)
 
 pub returns-then-differ-clause-others : goal.returns-then-differ-clause-others

@@ -5,48 +5,74 @@ use Rattle.sp_carry.specs.Kept.{carried_of, Keeps}
 use Rattle.sp_carry.proofs.Blocks.{counted}
 use Rattle.sp_carry.proofs.Cutting.{counted_value, IsPartly, partly_read, restored, value}
 use Rattle.sp_carry.proofs.Linked.{kept_is}
+use Rattle.sp_carry.proofs.Rowed.{rowed, rows_back, rows_before, IsRowed}
 use Rattle.sp_carry.proofs.carriers.Carriers.add.Goals as goal
+
+block_carried : (c : goal.After-add_rows-arg-in-Ok-1) → IsRowed (carried_of c.self.inside.table) (carried_of c.carry_with_room.new.table)
+block_carried c =
+    let k = carried_of c.self.inside.table in
+    let number : k.blocks ≡ c.args.number = ap (λ (k : Carried). k.blocks) c.self.view_is ∙ c.requires.next in
+    rowed c.args.dag.now k c.as_slice.result.now c.carry_with_room.new.table c.self.invariant.1 c.self.invariant.2
+    (omega (arith, c.requires.few, ap length c.as_slice.ensures)) (omega (arith, number, c.requires.there, c.len-blocks.ensures.numbered.small)) c.in-Ok.ensures.ok
+
+pub add_rows-requires-clause-linked : goal.add_rows-requires-clause-linked
+add_rows-requires-clause-linked c = (block_carried c).linked
+
+pub add_rows-requires-clause-blocks : goal.add_rows-requires-clause-blocks
+add_rows-requires-clause-blocks c = (block_carried c).blocks
+
+pub add_rows-requires-clause-small : goal.add_rows-requires-clause-small
+add_rows-requires-clause-small c = (block_carried c).small
+
+pub add_rows-requires-clause-within : goal.add_rows-requires-clause-within
+add_rows-requires-clause-within c = omega (arith, (block_carried c).within, c.len-first.ensures, c.self.inside.table.rows.ok.0)
+
+pub add_rows-requires-clause-before : goal.add_rows-requires-clause-before
+add_rows-requires-clause-before c =
+    rows_before (carried_of c.self.inside.table) (carried_of c.carry_with_room.new.table) c.len-first.result c.self.inside.rivals.items c.carry_with_room.new.rows.items
+    (omega (arith, c.len-first.ensures, c.self.inside.table.rows.ok.0)) (block_carried c) c.carry_with_room.ensures.same c.self.invariant.3
 
 pub invariant_of-self : goal.invariant_of-self
 invariant_of-self c =
     let k = carried_of c.self.inside.table in
     let number : c.self.inside.table.blocks ≡ c.args.number = ap (λ (k : Carried). k.blocks) c.self.view_is ∙ c.requires.next in
     let next : k.blocks < 512 = omega (arith, number, c.requires.there, c.len-blocks.ensures.numbered.small) in
-    counted_value c.args.dag.now k c.args.txs.now _ c.self.invariant.1 c.self.invariant.2 c.requires.few next
-    (counted c.args.dag.now k c.args.txs.now c.carry_all.new.self
+    let v = counted_value c.args.dag.now k c.args.txs.now _ c.self.invariant.1 c.self.invariant.2 c.requires.few next
+    (counted c.args.dag.now k c.args.txs.now c.carry_with_room.new.table
     (record {
       blocks = c.args.number + 1;
-      txs = c.carry_all.new.self.txs;
-      ids = c.carry_all.new.self.ids;
-      rows = c.carry_all.new.self.rows;
-      by_tx = c.carry_all.new.self.by_tx;
-      spenders = c.carry_all.new.self.spenders;
+      txs = c.carry_with_room.new.table.txs;
+      ids = c.carry_with_room.new.table.ids;
+      rows = c.carry_with_room.new.table.rows;
+      by_tx = c.carry_with_room.new.table.by_tx;
+      spenders = c.carry_with_room.new.table.spenders;
     })
-    (subst (λ (ts : List Transaction). Keeps c.carry_all.new.self (with_carriers c.args.dag.now k ts)) c.as_slice.ensures c.in-Ok.ensures.ok)
-    (omega (arith, number)) refl refl refl refl (λ from. refl))
+    (subst (λ (ts : List Transaction). Keeps c.carry_with_room.new.table (with_carriers c.args.dag.now k ts)) c.as_slice.ensures c.in-Ok.ensures.ok)
+    (omega (arith, number)) refl refl refl refl (λ from. refl)) in
+    (v.0, v.1, v.2, record { long = c.add_rows.ensures.long; each = c.add_rows.ensures.each })
 
 pub returns-in-Ok-clause-ok : goal.returns-in-Ok-clause-ok
 returns-in-Ok-clause-ok c =
     let number : c.self.inside.table.blocks ≡ c.args.number = ap (λ (k : Carried). k.blocks) c.self.view_is ∙ c.requires.next in
     kept_is _ (with_block c.args.dag.now (carried_of c.self.inside.table) c.args.txs.now)
-    (counted c.args.dag.now (carried_of c.self.inside.table) c.args.txs.now c.carry_all.new.self
+    (counted c.args.dag.now (carried_of c.self.inside.table) c.args.txs.now c.carry_with_room.new.table
     (record {
       blocks = c.args.number + 1;
-      txs = c.carry_all.new.self.txs;
-      ids = c.carry_all.new.self.ids;
-      rows = c.carry_all.new.self.rows;
-      by_tx = c.carry_all.new.self.by_tx;
-      spenders = c.carry_all.new.self.spenders;
+      txs = c.carry_with_room.new.table.txs;
+      ids = c.carry_with_room.new.table.ids;
+      rows = c.carry_with_room.new.table.rows;
+      by_tx = c.carry_with_room.new.table.by_tx;
+      spenders = c.carry_with_room.new.table.spenders;
     })
-    (subst (λ (ts : List Transaction). Keeps c.carry_all.new.self (with_carriers c.args.dag.now (carried_of c.self.inside.table) ts)) c.as_slice.ensures c.in-Ok.ensures.ok)
+    (subst (λ (ts : List Transaction). Keeps c.carry_with_room.new.table (with_carriers c.args.dag.now (carried_of c.self.inside.table) ts)) c.as_slice.ensures c.in-Ok.ensures.ok)
     (omega (arith, number)) refl refl refl refl (λ from. refl))
     ∙ ap (λ (k : Carried). with_block c.args.dag.now k c.args.txs.now) c.self.view_is
 
-some_carried : (c : goal.After-take_back-arg-1) → IsPartly (carried_of c.self.inside.table) (carried_of c.carry_all.new.self)
+some_carried : (c : goal.After-take_back-arg-1) → IsPartly (carried_of c.self.inside.table) (carried_of c.carry_with_room.new.table)
 some_carried c =
     let k = carried_of c.self.inside.table in
     let number : k.blocks ≡ c.args.number = ap (λ (k : Carried). k.blocks) c.self.view_is ∙ c.requires.next in
-    partly_read c.args.dag.now k c.as_slice.result.now c.carry_all.new.self c.self.invariant.1 c.self.invariant.2
+    partly_read c.args.dag.now k c.as_slice.result.now c.carry_with_room.new.table c.self.invariant.1 c.self.invariant.2
     (omega (arith, c.requires.few, ap length c.as_slice.ensures)) (omega (arith, number, c.requires.there, c.len-blocks.ensures.numbered.small)) c.in-Err.ensures.err
 
 pub take_back-requires-clause-linked : goal.take_back-requires-clause-linked
@@ -65,13 +91,19 @@ as_before : (c : goal.After-take_back) → Keeps c.take_back.new.self (carried_o
 as_before c =
     let k = carried_of c.self.inside.table in
     let number : k.blocks ≡ c.args.number = ap (λ (k : Carried). k.blocks) c.self.view_is ∙ c.requires.next in
-    restored k c.carry_all.new.self c.take_back.new.self c.len-first.result (omega (arith, c.len-first.ensures, c.self.inside.table.rows.ok.0))
-    (partly_read c.args.dag.now k c.as_slice.result.now c.carry_all.new.self c.self.invariant.1 c.self.invariant.2
+    restored k c.carry_with_room.new.table c.take_back.new.self c.len-first.result (omega (arith, c.len-first.ensures, c.self.inside.table.rows.ok.0))
+    (partly_read c.args.dag.now k c.as_slice.result.now c.carry_with_room.new.table c.self.invariant.1 c.self.invariant.2
     (omega (arith, c.requires.few, ap length c.as_slice.ensures)) (omega (arith, number, c.requires.there, c.len-blocks.ensures.numbered.small)) c.in-Err.ensures.err)
     c.take_back.ensures
 
 pub invariant_of-self-in-Err : goal.invariant_of-self-in-Err
-invariant_of-self-in-Err c = value (carried_of c.self.inside.table) c.take_back.new.self (as_before c) c.self.invariant.1 c.self.invariant.2
+invariant_of-self-in-Err c =
+    let v = value (carried_of c.self.inside.table) c.take_back.new.self (as_before c) c.self.invariant.1 c.self.invariant.2 in (
+      v.0,
+      v.1,
+      v.2,
+      rows_back (carried_of c.self.inside.table) c.take_back.new.self c.self.inside.rivals.items _ (as_before c) c.carry_with_room.ensures.same c.self.invariant.3,
+    )
 
 pub returns-in-Err-clause-err : goal.returns-in-Err-clause-err
 returns-in-Err-clause-err c = kept_is c.take_back.new.self (carried_of c.self.inside.table) (as_before c) ∙ c.self.view_is

@@ -4,6 +4,7 @@ use Rattle.sp_carry.specs.Carried.{Carried, cut_to, rows_of_first}
 use Rattle.sp_carry.specs.Kept.{carried_of, Keeps}
 use Rattle.sp_carry.proofs.Cutting.{AreOfFirst, IsBlockwise-cut, IsCarried-cut, Keeps-cut, value}
 use Rattle.sp_carry.proofs.Linked.{kept_is}
+use Rattle.sp_carry.proofs.Rowed.{rivals_cut}
 use Rattle.sp_carry.proofs.carriers.Carriers.cut.Goals as goal
 
 of_first : (c : goal.After-self-1) → AreOfFirst (carried_of c.self.inside.table) c.args.blocks c.rows_below-left.result
@@ -35,9 +36,15 @@ unfolding left
 invariant_of-self c =
     let k = carried_of c.self.inside.table in
     let within : c.args.blocks ≤ k.blocks = omega (arith, ap (λ (x : Carried). x.blocks) c.self.view_is, c.requires) in
-    value (cut_to k c.args.blocks) (left c) (keeps c)
+    let v = value (cut_to k c.args.blocks) (left c) (keeps c)
     (IsCarried-cut k c.args.blocks c.rows_below-left.result c.self.invariant.1 c.self.invariant.2 within (of_first c))
-    (IsBlockwise-cut k c.args.blocks c.rows_below-left.result c.self.invariant.2 (of_first c))
+    (IsBlockwise-cut k c.args.blocks c.rows_below-left.result c.self.invariant.2 (of_first c)) in (
+      v.0,
+      v.1,
+      v.2,
+      rivals_cut k c.args.blocks c.rows_below-left.result c.len.result c.take_back.new.self (left c) c.self.inside.rivals.items c.cut_rows.new.rows.items c.self.invariant.1.linked (of_first c)
+          c.take_back.ensures (omega (arith, c.len.ensures)) (keeps c) c.self.invariant.3 c.cut_rows.ensures,
+    )
 
 pub returns : goal.returns
 unfolding left

@@ -1,0 +1,10 @@
+use Rattle.std.proofs.Common.{◌∙◌, refl, []}
+use Rattle.sp_carry.proofs.Keeping.{any_default}
+use Rattle.sp_carry.proofs.Marked.{all_marked, marked, marked_read}
+use Rattle.sp_carry.proofs.beside.mark.Goals as goal
+
+pub returns : goal.returns
+returns c =
+    all_marked c.args.rows.now.items _ c.args.tx c.args.block c.set.new.self c.requires.tx refl
+    (marked_read _ _ c.set.new.self c.args.block (c.index.ensures ∙ any_default c.args.rows.now.items c.args.tx _ [] c.requires.tx)
+    (marked _ c.set.new.self c.args.block c.test-there.ensures.row c.requires.block c.set.ensures))
