@@ -1,6 +1,6 @@
 //! Sums of votes that are kept beside a view, one for each pair, so that the virtual vote of its members is a look-up.
 
-ghost use Rattle.std.specs.Prelude.{◌≡◌, ◌≢◌, ◌<◌, ◌≤◌, [], ℕ, length, IfOk, OnOk, OnErr, All, Contains, pos, slice_get, slice_index_or, Some, vec_len, vec_capacity};
+ghost use Rattle.std.specs.Prelude.{◌≡◌, ◌≢◌, ◌<◌, ◌≤◌, [], ℕ, ℤ, length, IfOk, OnOk, OnErr, All, Contains, pos, slice_get, slice_index_or, Some, vec_len, vec_capacity};
 ghost use Rattle.sp_model.specs.Votes.{sgn};
 ghost use Rattle.sp_dag.specs.Numbered.{pairs_of};
 
@@ -38,32 +38,48 @@ fn lengthen(list: &mut Vec<i32>, long: usize)
     }
 }
 
-// Notes a number, where the old sum and the new one have other signs.
-fn note_turned(list: &mut Vec<u32>, i: u32, old: i32, new: i32) -> Result<(), AllocError>
-    ensures within { OnOk result ((n : ℕ) → i < n → All (λ j. j < n) list.old.items →
+// The sum of a pair, if there is one.
+fn sum_at(sums: &[i32], pair: u32) -> Option<i32>
+    ensures { result ≡ slice_get sums.now pair }
+{
+    match sums.get(pair as usize) {
+        Some(sum) => Some(*sum),
+        None => None,
+    }
+}
+
+// Notes a pair, where it has an old sum and a new one, of other signs.
+fn note_turned(
+    list: &mut Vec<u32>,
+    pair: u32,
+    old: Option<i32>,
+    new: Option<i32>,
+) -> Result<(), AllocError>
+    ensures within { OnOk result ((n : ℕ) → pair < n → All (λ j. j < n) list.old.items →
         All (λ j. j < n) list.new.items) }
     ensures kept { OnOk result ((j : ℕ) → Contains list.old.items j → Contains list.new.items j) }
-    ensures turned { OnOk result (sgn old ≢ sgn new → Contains list.new.items i) }
+    ensures turned { OnOk result ((a b : ℤ) → old ≡ Some a → new ≡ Some b → sgn a ≢ sgn b →
+        Contains list.new.items pair) }
 {
+    let Some(old) = old else { return Ok(()) };
+    let Some(new) = new else { return Ok(()) };
     if side(old, 0) == side(new, 0) {
         return Ok(());
     }
-    list.push(i)?;
+    list.push(pair)?;
     Ok(())
 }
 
-// The numbers on which two lists have another sign, among those of the first one.
-fn turned_of(alloc: Global, older: &[i32], newer: &[i32]) -> Result<Vec<u32>, Memory>
-    requires few { length older.now ≤ 130816 }
-    requires as_long { length older.now ≤ length newer.now }
-    ensures within { IfOk result (λ list. All (λ i. i < length older.now) list.items) }
-    ensures turned { IfOk result (λ list. (i : ℕ) → i < length older.now →
-        sgn (slice_index_or older.now i (pos 0)) ≢ sgn (slice_index_or newer.now i (pos 0)) →
+// The first pairs, so many, that have a sum in both lists, of other signs.
+fn turned_of(alloc: Global, count: u32, older: &[i32], newer: &[i32]) -> Result<Vec<u32>, Memory>
+    ensures within { IfOk result (λ list. All (λ i. i < count) list.items) }
+    ensures turned { IfOk result (λ list. (i : ℕ) (a b : ℤ) → i < count →
+        slice_get older.now i ≡ Some a → slice_get newer.now i ≡ Some b → sgn a ≢ sgn b →
         Contains list.items i) }
 {
     let mut list = Vec::new(alloc);
-    'pairs: for i in 0..older.len() {
-        note_turned(&mut list, i as u32, older[i], newer[i])?;
+    'pairs: for pair in 0..count {
+        note_turned(&mut list, pair, sum_at(older, pair), sum_at(newer, pair))?;
     }
     Ok(list)
 }
@@ -124,30 +140,31 @@ impl Sums {
         side(self.list[pair as usize], 0)
     }
 
-    /// The numbers of the pairs on which the virtual vote is another one than by older sums, of which there are no more.
+    /// The numbers of the pairs on which the virtual vote is another one than by older sums, where there are both.
     ///
     /// # Errors
     ///
     /// Memory was refused.
-    pub fn turned(&self, older: &Sums) -> Result<Vec<u32>, Memory>
-        requires few { length older.now ≤ 130816 }
-        requires as_long { length older.now ≤ length self.now }
-        ensures within { IfOk result (λ list. All (λ i. i < length older.now) list.items) }
-        ensures turned { IfOk result (λ list. (i : ℕ) → i < length older.now →
-            sgn (slice_index_or older.now i (pos 0)) ≢ sgn (slice_index_or self.now i (pos 0)) →
+    pub fn turned(&self, dag: &Dag, older: &Sums) -> Result<Vec<u32>, Memory>
+        ensures within { IfOk result (λ list. All (λ i. i < length (pairs_of dag.now)) list.items) }
+        ensures turned { IfOk result (λ list. (i : ℕ) (a b : ℤ) → i < length (pairs_of dag.now) →
+            slice_get older.now i ≡ Some a → slice_get self.now i ≡ Some b → sgn a ≢ sgn b →
             Contains list.items i) }
     {
-        turned_of(self.alloc, older.list.as_slice(), self.list.as_slice())
+        let list = turned_of(
+            self.alloc,
+            dag.pair_count(),
+            older.list.as_slice(),
+            self.list.as_slice(),
+        )?;
+        Ok(list)
     }
 
     // The sum of a pair, if there is one.
     pub(crate) fn get(&self, pair: u32) -> Option<i32>
         ensures { result ≡ slice_get self.now pair }
     {
-        match self.list.get(pair as usize) {
-            Some(sum) => Some(*sum),
-            None => None,
-        }
+        sum_at(&self.list, pair)
     }
 
     // Writes the sum of a pair.
