@@ -8,6 +8,7 @@ use Rattle.sp_model.specs.Graph.{has}
 use Rattle.sp_frozen.specs.Voters.{AreRows}
 use Rattle.sp_rows.specs.Pool.{Pool}
 use Rattle.sp_view.specs.Stored.{count_of, row_of}
+use Rattle.sp_view.specs.Summed.{AreSums}
 use Rattle.sp_view.specs.Views.{IsView, Viewed, held}
 use Rattle.sp_engine.proofs.Covering.{all_is, few_views}
 use Rattle.sp_engine.proofs.Ending.{EndsWith}
@@ -69,6 +70,7 @@ pub began : (table : Numbered) (v : Tallied) (view fork : Viewed) (pool : Pool) 
     → ((r : ℕ) → count_of pool r ≡ count_of v.rows r + held view.entries r) → ((r : ℕ) → row_of pool r ≡ row_of v.rows r) → fork ≡ view → HaveJoined table (length table.parents) v (with_pool v pool) fork
 began table v view fork pool voted sound ends counts rows same =
     let parts = views_parts table v.rows v.frozen.blocks ends.front (view ∷ []) (subst (λ (l : List Viewed). AreViews table v.rows v.frozen.blocks l) ends.is voted.holds.views) in
+    let summed : AreSums table view.members v.sums = subst (λ (l : List ℕ). AreSums table l v.sums) (sym (ends.members ∙ ap (range_with_len 0) voted.every)) voted.sums in
     let beside = forked table v view pool voted parts.1.0 parts.1.1 counts rows in
     subst (λ (w : Viewed). HaveJoined table (length table.parents) v (with_pool v pool) w) (sym same) (record {
       joining = record {
@@ -88,6 +90,8 @@ began table v view fork pool voted sound ends counts rows same =
         all = view;
         is = ends.is;
         places = λ r some. rows r;
+        sums = summed;
+        sums_before = summed;
       };
       every = voted.every;
       each = ap (λ (k : ℕ). map (bar_row table) (filter (is_tip table.parents) (range_with_len (length table.parents) k))) (let e : 0 ≡ length table.parents - length table.parents = omega arith in e);
@@ -110,6 +114,7 @@ whole_of table v beside voted = record {
   all = voted.holds.tips.all;
   is = voted.holds.tips.is;
   members = voted.holds.tips.members ∙ ap (range_with_len 0) voted.every;
+  sums = voted.sums;
 }
 
 pub whole_joined : (table : Numbered) (n : ℕ) (old v : Tallied) (was : Viewed) → HaveJoined table n old v was → AreWhole table v
@@ -121,6 +126,7 @@ whole_joined table n old v was h = record {
   all = h.joining.all;
   is = all_last table n old v was h.joining;
   members = h.members;
+  sums = subst (λ (l : List ℕ). AreSums table l v.sums) h.members h.joining.sums;
 }
 
 module _ (table : Numbered) (v : Tallied) (whole : AreWhole table v) where
