@@ -1,20 +1,19 @@
 -- A fork of the view of all blocks is held while blocks join, and the blocks that joined are taken back.
-use Rattle.std.proofs.Common.{◌≡◌, ℕ, ◌+◌, ◌<◌, ◌≤◌, ◌-◌, List, [], ◌∷◌, ◌++◌, length, map, refl, sym, ap, subst, ◌∙◌, true, Some, arith, length-append}
+use Rattle.std.proofs.Common.{◌≡◌, ℕ, ◌+◌, ◌<◌, ◌≤◌, ◌-◌, List, [], ◌∷◌, ◌++◌, length, map, refl, sym, ap, subst, ◌∙◌, arith, length-append}
 use Rattle.std.proofs.lemmas.List.{append_assoc}
-use Rattle.std.specs.Prelude.{filter, slice_get}
+use Rattle.std.specs.Prelude.{filter}
 use Rattle.std.specs.List.{range_with_len}
 use Rattle.sp_dag.specs.Numbered.{Numbered}
-use Rattle.sp_model.specs.Graph.{has}
 use Rattle.sp_frozen.specs.Voters.{AreRows}
 use Rattle.sp_rows.specs.Pool.{Pool}
 use Rattle.sp_view.specs.Stored.{count_of, row_of}
 use Rattle.sp_view.specs.Summed.{AreSums}
-use Rattle.sp_view.specs.Views.{IsView, Viewed, held}
-use Rattle.sp_engine.proofs.Covering.{all_is, few_views}
+use Rattle.sp_view.specs.Views.{Viewed, held}
+use Rattle.sp_engine.proofs.Covering.{few_views}
 use Rattle.sp_engine.proofs.Ending.{EndsWith}
 use Rattle.sp_engine.proofs.Forked.{forked, with_pool}
-use Rattle.sp_engine.proofs.Sharing.{held_more, view_of, views_parts}
-use Rattle.sp_engine.specs.Votes.{AreJoining, AreOfTips, AreSameRows, AreViews, AreVoted, AreVotedBeside, AreWhole, bar_row, HaveJoined, held_by, is_tip, IsOfAll, Tallied}
+use Rattle.sp_engine.proofs.Sharing.{held_more, views_parts}
+use Rattle.sp_engine.specs.Votes.{AreJoining, AreOfTips, AreSameRows, AreViews, AreVoted, AreVotedBeside, AreWhole, bar_row, HaveJoined, held_by, is_tip, Tallied}
 
 module _ (table : Numbered) (n : ℕ) (old v : Tallied) (was : Viewed) (j : AreJoining table n old v was) where
   -- what stands before the view of all blocks
@@ -128,16 +127,3 @@ whole_joined table n old v was h = record {
   members = h.members;
   sums = subst (λ (l : List ℕ). AreSums table l v.sums) h.members h.joining.sums;
 }
-
-module _ (table : Numbered) (v : Tallied) (whole : AreWhole table v) where
-  pub whole_some : 0 < length v.views
-  whole_some = omega (arith, ap length whole.is, length-append whole.front (whole.all ∷ []))
-
-  pub whole_members : (view : Viewed) → IsOfAll v view → view.members ≡ range_with_len 0 (length table.parents)
-  whole_members view h = ap (λ (w : Viewed). w.members) (all_is v whole.front whole.all view whole.is h) ∙ whole.members
-
-  pub whole_view : (i : ℕ) (view : Viewed) → slice_get v.views i ≡ Some view → IsView table view v.rows
-  whole_view i view at = (view_of table v.rows v.frozen.blocks v.views i view whole.views at).0
-
-  pub whole_below : (i : ℕ) (view : Viewed) → slice_get v.views i ≡ Some view → (z : ℕ) → has view.members z ≡ true → z < v.frozen.blocks
-  whole_below i view at = (view_of table v.rows v.frozen.blocks v.views i view whole.views at).1

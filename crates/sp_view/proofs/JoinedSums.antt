@@ -1,5 +1,5 @@
 -- What a block that joins a set adds to the sum of the votes on a pair.
-use Rattle.std.proofs.Common.{◌≡◌, ℕ, ◌<◌, ◌≤◌, ◌+◌, Bool, true, false, ◌&&◌, cond, List, [], length, get_or, Option, Some, refl, sym, ap, subst, ◌∙◌, eqb, arith}
+use Rattle.std.proofs.Common.{◌≡◌, ℕ, ◌<◌, ◌≤◌, ◌+◌, Bool, true, false, ◌&&◌, cond, List, [], length, get_or, Some, refl, sym, ap, ◌∙◌, eqb, arith}
 use Rattle.std.specs.Prelude.{ℤ, pos, not, ◌-ℤ◌, ◌+ℤ◌, slice_get}
 use Rattle.std.proofs.lemmas.Int.{ints}
 use Rattle.std.proofs.lemmas.List.FromFn.{length-range_with_len}
@@ -15,7 +15,7 @@ use Rattle.sp_model.specs.Loose.{is_loose, is_plus, is_minus, plus, minus}
 use Rattle.sp_model.specs.Votes.{vote}
 use Rattle.sp_model.proofs.Rounds.{length-filter-le}
 use Rattle.sp_model.specs.Joining.{Joins}
-use Rattle.sp_view.specs.Settled.{AreSides, IsAsked}
+use Rattle.sp_view.specs.Settled.{IsAsked}
 use Rattle.sp_view.specs.Summed.{IsStill}
 use Rattle.sp_view.specs.Sums.{sum_of, AreJoined, IsLone}
 use Rattle.sp_view.specs.Voting.{IsJoined}

@@ -1,6 +1,6 @@
 -- Sums that are kept pair by pair, while a block joins the set and where it stays.
-use Rattle.std.proofs.Common.{◌≡◌, ◌≢◌, ◌⊎◌, ℕ, zero, suc, ◌+◌, ◌<◌, ◌≤◌, ◌&&◌, true, cond, List, [], ◌∷◌, ◌++◌, get_or, length, Option, Some, None, refl, sym, ap, subst, ◌∙◌, ltb, inl, inr, arith}
-use Rattle.std.specs.Prelude.{ℤ, pos, slice_get, IfSome}
+use Rattle.std.proofs.Common.{◌≡◌, ◌≢◌, ◌⊎◌, ℕ, zero, suc, ◌+◌, ◌<◌, ◌≤◌, ◌&&◌, true, cond, List, [], ◌∷◌, ◌++◌, get_or, length, Option, Some, None, sym, ap, subst, ◌∙◌, ltb, inl, inr, arith}
+use Rattle.std.specs.Prelude.{ℤ, pos, slice_get}
 use Rattle.std.proofs.lemmas.Option.{get_or_from_slice_get, slice_get-get_or, slice_get_within}
 use Rattle.std.proofs.lemmas.Bool.{and_parts, cases_eq, cases_lt, lt-ltb, le-ltb}
 use Rattle.sp_dag.specs.Numbered.{AreInOrder, IsNumbered, Numbered, graph_of, pairs_of, with_next}

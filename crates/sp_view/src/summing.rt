@@ -53,7 +53,13 @@ fn sum_after(
     if step.same {
         return sum + vote_of(b, ups, downs);
     }
-    tally(members, ups, downs, &row_at(pool, plus), &row_at(pool, minus))
+    tally(
+        members,
+        ups,
+        downs,
+        &row_at(pool, plus),
+        &row_at(pool, minus),
+    )
 }
 
 // Writes the sum of a pair after the block joined, where sums are kept.
@@ -86,5 +92,8 @@ pub(crate) fn note_sum(
     let Some(sum) = sums.get(pair) else {
         return;
     };
-    sums.set(pair, sum_after(dag, frozen, pool, before, members, b, pair, step, sum));
+    sums.set(
+        pair,
+        sum_after(dag, frozen, pool, before, members, b, pair, step, sum),
+    );
 }

@@ -1,5 +1,5 @@
-use Rattle.std.proofs.Common.{◌≡◌, ◌≢◌, ◌<◌, ◌∙◌, ℕ, List, sym, subst, length, Some}
-use Rattle.std.specs.Prelude.{ℤ, All, Contains, IfOk, slice_get}
+use Rattle.std.proofs.Common.{◌<◌, ℕ, List, sym, subst, length}
+use Rattle.std.specs.Prelude.{All, Contains}
 use Rattle.std.proofs.lemmas.Option.{slice_get_within}
 use Rattle.sp_dag.specs.Numbered.{pairs_of}
 use Rattle.sp_engine.proofs.changes.turned_pairs.Goals as goal

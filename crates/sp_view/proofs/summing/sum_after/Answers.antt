@@ -1,9 +1,9 @@
-use Rattle.std.proofs.Common.{◌≡◌, ◌∙◌, ◌<◌, FitsSigned, List, ℕ, Option, Some, ap, arith, cond, get_or, length, refl, rules, subst, sym}
-use Rattle.std.specs.Prelude.{ℤ, slice_get}
+use Rattle.std.proofs.Common.{◌≡◌, ◌∙◌, ◌<◌, FitsSigned, List, ℕ, Option, Some, ap, arith, cond, get_or, length, rules, subst}
+use Rattle.std.specs.Prelude.{slice_get}
 use Rattle.std.proofs.lemmas.Int.{ints, to_z-of_z}
 use Rattle.std.specs.Int.{w32}
 use Rattle.sp_dag.specs.Numbered.{Numbered, graph_of, pairs_of}
-use Rattle.sp_model.specs.Graph.{Graph, has}
+use Rattle.sp_model.specs.Graph.{has}
 use Rattle.sp_view.specs.Summed.{IsStill}
 use Rattle.sp_view.specs.Sums.{sum_of}
 use Rattle.sp_view.specs.Views.{IsEntry}

@@ -1,7 +1,6 @@
-use Rattle.std.proofs.Common.{◌≡◌, ◌≢◌, ◌∙◌, ◌<◌, ℕ, Some, arith, inl, inr, subst, sym}
-use Rattle.std.specs.Prelude.{ℤ, Contains, slice_get}
+use Rattle.std.proofs.Common.{◌≡◌, ◌∙◌, ℕ, Some, arith, inl, inr, subst, sym}
+use Rattle.std.specs.Prelude.{Contains, slice_get}
 use Rattle.std.proofs.lemmas.Bool.{cases_lt}
-use Rattle.sp_model.specs.Votes.{sgn}
 use Rattle.sp_view.proofs.sums.turned_of.Goals as goal
 
 pub pairs-preserved : goal.pairs-preserved

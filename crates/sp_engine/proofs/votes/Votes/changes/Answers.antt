@@ -1,4 +1,4 @@
-use Rattle.std.proofs.Common.{◌≡◌, ◌<◌, List, sym, arith, subst, length}
+use Rattle.std.proofs.Common.{◌<◌, List, sym, arith, subst}
 use Rattle.std.specs.Prelude.{ℤ}
 use Rattle.std.proofs.lemmas.Result.{IfOk-weaker}
 use Rattle.sp_dag.specs.Numbered.{Numbered}
