@@ -1,6 +1,7 @@
 -- A valid block of a new id is kept: the engine stands for the longer list, and the answer is the one that is defined.
 use Rattle.std.proofs.Common.{◌≡◌, ℕ, ◌-◌, ◌≤◌, false, Fits, w16, List, [], ◌∷◌, ◌++◌, length, refl, sym, ap, subst, ◌∙◌, Some, arith, length-append}
-use Rattle.std.specs.Prelude.{slice_get}
+use Rattle.std.specs.Prelude.{ℤ, slice_get}
+use Rattle.std.specs.List.{range_with_len}
 use Rattle.std.specs.Option.{option_map}
 use Rattle.std.proofs.Math.ListN.{length-map}
 use Rattle.std.proofs.lemmas.List.{append-nil}
@@ -27,6 +28,7 @@ use Rattle.sp_engine.specs.Presence.{joining}
 use Rattle.sp_engine.specs.Votes.{AreVoted, Tallied}
 use Rattle.sp_engine.specs.declared.answer.Answer.TheVariants.{Kept, Held}
 use Rattle.sp_frozen.specs.Voters.{FrozenRows}
+use Rattle.sp_view.specs.Summed.{AreSums}
 use Rattle.sp_view.specs.Views.{Viewed}
 use Rattle.sp_engine.proofs.Sharing.{views_move}
 use Rattle.sp_engine.specs.Votes.{IsAsBefore}
@@ -171,8 +173,8 @@ held_is_no_growth id other e = cc
 -- ---- where memory was refused
 
 voted_as_before : (table : Numbered) (old new : Tallied) → IsAsBefore old new → AreVoted table old → AreVoted table new
-voted_as_before table old new same voted = subst (λ (f : FrozenRows). AreVoted table (record { frozen = f; rows = new.rows; views = new.views })) (sym same.frozen)
-    (subst (λ (l : List Viewed). AreVoted table (record { frozen = old.frozen; rows = new.rows; views = l })) (sym same.views) (record {
+voted_as_before table old new same voted = subst (λ (f : FrozenRows). AreVoted table (record { frozen = f; rows = new.rows; views = new.views; sums = new.sums })) (sym same.frozen)
+    (subst (λ (l : List Viewed). AreVoted table (record { frozen = old.frozen; rows = new.rows; views = l; sums = new.sums })) (sym same.views) (record {
       holds = record {
         frozen = voted.holds.frozen;
         views = views_move table old.rows old.frozen.blocks new.rows old.views (λ r. omega (arith, same.rows.counts r, voted.holds.shared.counts r)) (λ r some. same.rows.places r (omega (arith, some, voted.holds.shared.counts r))) voted.holds.views;
@@ -180,6 +182,7 @@ voted_as_before table old new same voted = subst (λ (f : FrozenRows). AreVoted 
         tips = voted.holds.tips;
       };
       every = voted.every;
+      sums = subst (λ (l : List ℤ). AreSums table (range_with_len 0 (length table.parents)) l) (sym same.sums) voted.sums;
     }))
 
 -- all that is kept stands as before

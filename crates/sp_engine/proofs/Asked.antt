@@ -1,30 +1,19 @@
 -- What the votes say of two numbers, in whichever order they are given.
-use Rattle.std.proofs.Common.{◌≡◌, ◌≢◌, ℕ, ◌<◌, Bool, true, false, cond, not, ◌&&◌, ◌||◌, List, length, Option, Some, None, refl, sym, ap, subst, ◌∙◌, eqb, ltb, inl, inr, arith}
-use Rattle.std.specs.Prelude.{ℤ, neg_ℤ, min, max, IsSome}
+use Rattle.std.proofs.Common.{◌≡◌, ◌≢◌, ℕ, ◌<◌, Bool, true, false, cond, not, ◌&&◌, ◌||◌, List, length, sym, ap, subst, ◌∙◌, eqb, ltb, inl, inr, arith}
+use Rattle.std.specs.Prelude.{ℤ, neg_ℤ, min, max}
 use Rattle.std.proofs.lemmas.Bool.{cases_lt, false≢true, lt-ltb, le-ltb, ne_eqb}
 use Rattle.std.specs.List.{range_with_len}
 use Rattle.sp_dag.specs.Numbered.{Numbered, graph_of, AreInOrder}
 use Rattle.sp_dag.proofs.Ranked.{downset_numbered, keys_are_numbers}
-use Rattle.sp_model.specs.Graph.{Graph, has, in_past, related, IsDownset}
+use Rattle.sp_model.specs.Graph.{in_past, related, IsDownset}
 use Rattle.sp_model.specs.Votes.{virt, word_of}
 use Rattle.sp_model.specs.declared.word.Word.TheVariants.{Before, After}
 use Rattle.sp_model.proofs.Ancestors.{virt_ancestor}
 use Rattle.sp_model.proofs.Exchange.{virt_neg}
-use Rattle.sp_rows.specs.Pool.{Pool}
-use Rattle.sp_view.specs.Views.{IsEntry}
 use Rattle.sp_engine.proofs.Ranges.{in_range}
 
 pub all_down : (table : Numbered) → AreInOrder table.parents → IsDownset (graph_of table) (range_with_len 0 (length table.parents))
 all_down table order = subst (λ (l : List ℕ). IsDownset (graph_of table) l) (keys_are_numbers table) (downset_numbered table order)
-
--- a pair inside the set has rows
-pub some_entry : (g : Graph) (set : List ℕ) (x y : ℕ) (pool : Pool) (entry : Option (ℕ × ℕ)) → IsEntry g set x y pool entry → has set x ≡ true → has set y ≡ true → IsSome entry
-some_entry g set x y pool None is one two = absurd (false≢true (sym is ∙ both (has set x) (has set y) one two))
-  where
-    both : (c d : Bool) → c ≡ true → d ≡ true → (c && d) ≡ true
-    both true d one two = two
-    both false d one two = absurd (false≢true one)
-some_entry g set x y pool (Some entry) is one two = refl
 
 other_way : (e c d : Bool) → (e || (not e && (c || d))) ≡ true → e ≡ false → c ≡ false → d ≡ true
 other_way true c d h apart none = absurd (false≢true (sym apart))

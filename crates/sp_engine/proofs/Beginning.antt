@@ -1,22 +1,25 @@
 -- The votes of no blocks, and those of genesis alone.
 use Rattle.std.proofs.Common.{◌≡◌, ℕ, ◌≤◌, length, map, take, ap, ◌∙◌, sym, subst, arith, List, [], ◌∷◌, ◌++◌, ◌+◌, refl, length-append}
 use Rattle.std.specs.List.{range_with_len}
+use Rattle.std.specs.Prelude.{ℤ}
 use Rattle.std.proofs.lemmas.Bool.{false≢true}
 use Rattle.sp_dag.specs.Numbered.{Numbered, AreInOrder}
 use Rattle.sp_frozen.specs.Voters.{FrozenRows}
 use Rattle.sp_rows.specs.Pool.{Counted, Pool}
 use Rattle.sp_view.specs.Stored.{count_of}
+use Rattle.sp_view.specs.Summed.{AreSums}
+use Rattle.sp_view.proofs.KeptSums.{none_right}
 use Rattle.sp_view.specs.Views.{IsView, Viewed}
 use Rattle.sp_view.proofs.Starting.{view_nothing}
 use Rattle.sp_engine.specs.Votes.{AreVoted, bar_row, empty_view, HaveJoined, HaveJoinedBut, Tallied, tips_from, tips_of}
 
 -- those of no blocks, where genesis joins next
-pub joined_none : (table : Numbered) → AreInOrder table.parents → length table.parents ≡ 1 → (frozen : FrozenRows) (rows : Pool) (views : List Viewed)
-    → frozen ≡ record { blocks = 0; pluses = []; minuses = [] } → rows.rows ≡ [] → views ≡ empty_view ∷ []
-    → (let v : Tallied = record { frozen = frozen; rows = rows; views = views } in HaveJoinedBut table 0 v v empty_view)
-joined_none table order single frozen rows views f r v =
-    subst (λ (x : FrozenRows). let w : Tallied = record { frozen = x; rows = rows; views = views } in HaveJoinedBut table 0 w w empty_view) (sym f)
-    (subst (λ (x : List Viewed). let w : Tallied = record { frozen = record { blocks = 0; pluses = []; minuses = [] }; rows = rows; views = x } in HaveJoinedBut table 0 w w empty_view) (sym v) (record {
+pub joined_none : (table : Numbered) → AreInOrder table.parents → length table.parents ≡ 1 → (frozen : FrozenRows) (rows : Pool) (views : List Viewed) (sums : List ℤ)
+    → frozen ≡ record { blocks = 0; pluses = []; minuses = [] } → rows.rows ≡ [] → views ≡ empty_view ∷ [] → sums ≡ []
+    → (let v : Tallied = record { frozen = frozen; rows = rows; views = views; sums = sums } in HaveJoinedBut table 0 v v empty_view)
+joined_none table order single frozen rows views sums f r v s =
+    subst (λ (x : FrozenRows). let w : Tallied = record { frozen = x; rows = rows; views = views; sums = sums } in HaveJoinedBut table 0 w w empty_view) (sym f)
+    (subst (λ (x : List Viewed). let w : Tallied = record { frozen = record { blocks = 0; pluses = []; minuses = [] }; rows = rows; views = x; sums = sums } in HaveJoinedBut table 0 w w empty_view) (sym v) (record {
       joining = record {
         frozen = record {
           within = omega arith;
@@ -46,6 +49,8 @@ joined_none table order single frozen rows views f r v =
         all = empty_view;
         is = refl;
         places = λ r some. refl;
+        sums = unsummed;
+        sums_before = unsummed;
       };
       last = omega (arith, single);
       each = refl;
@@ -53,6 +58,9 @@ joined_none table order single frozen rows views f r v =
       none = λ _. refl;
     }))
   where
+    unsummed : AreSums table [] sums
+    unsummed = subst (λ (l : List ℤ). AreSums table [] l) (sym s) (record { right = none_right table []; long = λ i x y at inside. absurd (false≢true inside) })
+
     nothing : IsView table empty_view rows
     nothing = view_nothing table rows order
 
@@ -82,6 +90,7 @@ voted_alone table old v alone h = record {
     };
   };
   every = h.every;
+  sums = subst (λ (l : List ℕ). AreSums table l v.sums) h.members h.joining.sums;
 }
   where
     no_items : (xs : List Viewed) → length xs ≤ 0 → xs ≡ []

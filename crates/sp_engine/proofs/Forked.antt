@@ -13,7 +13,7 @@ use Rattle.sp_engine.proofs.Covering.{few_views}
 use Rattle.sp_engine.proofs.Sharing.{views_move}
 
 abbrev pub with_pool : Tallied → Pool → Tallied
-with_pool v pool = record { frozen = v.frozen; rows = pool; views = v.views }
+with_pool v pool = record { frozen = v.frozen; rows = pool; views = v.views; sums = v.sums }
 
 -- no row is held too often to be held once more
 pub few_holders : (table : Numbered) (v : Tallied) → length table.parents ≤ 512 → AreVoted table v → (r : ℕ) → count_of v.rows r ≤ 514
@@ -40,6 +40,7 @@ forked table v fork pool voted is below counts rows = record {
     tips = voted.holds.tips;
   };
   every = voted.every;
+  sums = voted.sums;
 }
 
 -- so it is where the fork was made
@@ -64,4 +65,5 @@ let_go table v fork pool voted counts rows = record {
     tips = voted.holds.tips;
   };
   every = voted.every;
+  sums = voted.sums;
 }

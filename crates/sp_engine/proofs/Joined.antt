@@ -10,13 +10,16 @@ use Rattle.sp_frozen.proofs.Growth.{frozen_stays}
 use Rattle.sp_frozen.specs.Voters.{HoldsFrozen}
 use Rattle.sp_rows.specs.Pool.{Pool}
 use Rattle.sp_view.specs.Stored.{count_of, row_of}
-use Rattle.sp_view.specs.Views.{AreKeptIds, held, Viewed}
+use Rattle.sp_view.specs.Summed.{AreSums}
+use Rattle.sp_view.specs.Views.{AreKeptIds, held, IsView, Viewed}
+use Rattle.sp_view.proofs.KeptSums.{sums_stay}
 use Rattle.sp_engine.specs.Votes.{AreJoining, AreShared, AreViews, bar_row, HaveJoined, HaveJoinedBut, held_by, is_tip, is_top_tip, is_uncovered, IsDerived, IsLast, IsPut, JoinedAlone, Tallied, tips_from}
 use Rattle.sp_engine.proofs.Bars.{bar_old, map_same}
 use Rattle.sp_engine.proofs.Beside.{shared_stays}
 use Rattle.sp_engine.proofs.Covering.{filter_map, filter_rows, snoc}
 use Rattle.sp_engine.proofs.Onward.{take_more, tips_stay}
-use Rattle.sp_engine.proofs.Sharing.{held_more, views_move, views_stay, views_up}
+use Rattle.sp_engine.proofs.Retreat.{all_last}
+use Rattle.sp_engine.proofs.Sharing.{held_more, views_move, views_parts, views_stay, views_up}
 use Rattle.sp_engine.proofs.StillTips.{all_stays, bar_stays, last_tip, tips_below, tips_few, tips_more, tips_within}
 
 no_items : (xs : List Viewed) → length xs ≡ 0 → xs ≡ []
@@ -37,9 +40,9 @@ module _ (table : Numbered) (n : ℕ) (old v : Tallied) (was : Viewed) where
     )
 
     -- where no view changes
-    pub joining_moves : (w : Tallied) → w.views ≡ v.views → ((r : ℕ) → count_of w.rows r ≡ count_of v.rows r) → ((r : ℕ) → 0 < count_of v.rows r → row_of w.rows r ≡ row_of v.rows r)
+    pub joining_moves : (w : Tallied) → w.views ≡ v.views → AreSums table j.all.members w.sums → ((r : ℕ) → count_of w.rows r ≡ count_of v.rows r) → ((r : ℕ) → 0 < count_of v.rows r → row_of w.rows r ≡ row_of v.rows r)
         → HoldsFrozen table w.frozen → v.frozen.blocks ≤ w.frozen.blocks → AreJoining table n old w was
-    joining_moves w views counts rows frozen more = record {
+    joining_moves w views summed counts rows frozen more = record {
       frozen = frozen;
       before = j.before;
       rows = j.rows;
@@ -65,6 +68,8 @@ module _ (table : Numbered) (n : ℕ) (old v : Tallied) (was : Viewed) where
       all = j.all;
       is = views ∙ j.is;
       places = λ r some. rows r (omega (arith, some, held_old r)) ∙ j.places r some;
+      sums = summed;
+      sums_before = j.sums_before;
     }
 
   module _ (h : HaveJoinedBut table n old v was) where
@@ -149,7 +154,8 @@ module _ (table : Numbered) (n : ℕ) (old v : Tallied) (was : Viewed) where
       module _ (order : AreInOrder table.parents) (small : length table.parents ≤ 512) (own : tip.members ≡ bar_row table v.frozen.blocks) (kept : IsDerived table v.frozen.blocks v.views tip)
           (pool : Pool) (left : List Viewed) (left_is : left ≡ h.joining.olds ++ filter (is_uncovered table) ((h.joining.joined ++ tip ∷ []) ++ put.more ∷ []))
           (left_views : AreViews table pool w.frozen.blocks left) (counts : (r : ℕ) → count_of pool r + held_by w.views r ≡ count_of w.rows r + held_by left r)
-          (rows : (r : ℕ) → 0 < count_of pool r → row_of pool r ≡ row_of w.rows r) where
+          (rows : (r : ℕ) → 0 < count_of pool r → row_of pool r ≡ row_of w.rows r)
+          (summed : AreSums table (range_with_len 0 (length table.parents)) w.sums) where
         abbrev rest : List Viewed
         rest = filter (is_uncovered table) h.joining.joined
 
@@ -184,7 +190,7 @@ module _ (table : Numbered) (n : ℕ) (old v : Tallied) (was : Viewed) where
         held_left : (r : ℕ) → count_of pool r ≡ held_by (was ∷ []) r + held_by left r
         held_left r = omega (arith, counts r, shared.counts r)
 
-        pub joined_one : HaveJoined table n old (record { frozen = w.frozen; rows = pool; views = left }) was
+        pub joined_one : HaveJoined table n old (record { frozen = w.frozen; rows = pool; views = left; sums = w.sums }) was
         joined_one = record {
           joining = record {
             frozen = frozen;
@@ -217,6 +223,8 @@ module _ (table : Numbered) (n : ℕ) (old v : Tallied) (was : Viewed) where
                   held_more h.joining.olds ((rest ++ tip ∷ []) ++ put.more ∷ []) r,
                 ))
                 ∙ put_places r some;
+            sums = subst (λ (l : List ℕ). AreSums table l w.sums) (sym (put.members ∙ ap (range_with_len 0) h.last)) summed;
+            sums_before = h.joining.sums_before;
           };
           every = omega (arith, blocks, h.last);
           each = members;
@@ -235,6 +243,8 @@ pub joined_stays : (table more : Numbered) (id salt : ℕ) (ps : List ℕ) (n : 
     → HaveJoined table n old v was → HaveJoinedBut more n old v was
 joined_stays table more id salt ps n old v was is numbered order' h =
     let after : AreInOrder (table.parents ++ ps ∷ []) = subst (λ (t : Numbered). AreInOrder t.parents) is order' in
+    let parts = views_parts table v.rows v.frozen.blocks (h.joining.olds ++ h.joining.joined) (h.joining.all ∷ []) (subst (λ (l : List Viewed). AreViews table v.rows v.frozen.blocks l) (all_last table n old v was h.joining) h.joining.views) in
+    let own : IsView table h.joining.all v.rows = parts.1.0 in
     subst (λ (t : Numbered). HaveJoinedBut t n old v was) (sym is) (record {
       joining = record {
         frozen = frozen_stays table id salt ps numbered after v.frozen h.joining.frozen;
@@ -253,6 +263,8 @@ joined_stays table more id salt ps n old v was is numbered order' h =
         all = h.joining.all;
         is = h.joining.is;
         places = h.joining.places;
+        sums = sums_stay table id salt ps h.joining.all.members v.sums numbered after own.asked own.below h.joining.sums;
+        sums_before = sums_stay table id salt ps was.members old.sums numbered after h.joining.shared.sound.0.asked h.joining.shared.sound.0.below h.joining.sums_before;
       };
       last = omega (arith, h.every, length-append table.parents (ps ∷ []));
       each =

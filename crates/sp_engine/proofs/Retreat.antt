@@ -1,19 +1,19 @@
 -- A fork of the view of all blocks is held while blocks join, and the blocks that joined are taken back.
-use Rattle.std.proofs.Common.{◌≡◌, ℕ, ◌+◌, ◌<◌, ◌≤◌, ◌-◌, List, [], ◌∷◌, ◌++◌, length, map, refl, sym, ap, subst, ◌∙◌, true, Some, arith, length-append}
+use Rattle.std.proofs.Common.{◌≡◌, ℕ, ◌+◌, ◌<◌, ◌≤◌, ◌-◌, List, [], ◌∷◌, ◌++◌, length, map, refl, sym, ap, subst, ◌∙◌, arith, length-append}
 use Rattle.std.proofs.lemmas.List.{append_assoc}
-use Rattle.std.specs.Prelude.{filter, slice_get}
+use Rattle.std.specs.Prelude.{filter}
 use Rattle.std.specs.List.{range_with_len}
 use Rattle.sp_dag.specs.Numbered.{Numbered}
-use Rattle.sp_model.specs.Graph.{has}
 use Rattle.sp_frozen.specs.Voters.{AreRows}
 use Rattle.sp_rows.specs.Pool.{Pool}
 use Rattle.sp_view.specs.Stored.{count_of, row_of}
-use Rattle.sp_view.specs.Views.{IsView, Viewed, held}
-use Rattle.sp_engine.proofs.Covering.{all_is, few_views}
+use Rattle.sp_view.specs.Summed.{AreSums}
+use Rattle.sp_view.specs.Views.{Viewed, held}
+use Rattle.sp_engine.proofs.Covering.{few_views}
 use Rattle.sp_engine.proofs.Ending.{EndsWith}
 use Rattle.sp_engine.proofs.Forked.{forked, with_pool}
-use Rattle.sp_engine.proofs.Sharing.{held_more, view_of, views_parts}
-use Rattle.sp_engine.specs.Votes.{AreJoining, AreOfTips, AreSameRows, AreViews, AreVoted, AreVotedBeside, AreWhole, bar_row, HaveJoined, held_by, is_tip, IsOfAll, Tallied}
+use Rattle.sp_engine.proofs.Sharing.{held_more, views_parts}
+use Rattle.sp_engine.specs.Votes.{AreJoining, AreOfTips, AreSameRows, AreViews, AreVoted, AreVotedBeside, AreWhole, bar_row, HaveJoined, held_by, is_tip, Tallied}
 
 module _ (table : Numbered) (n : ℕ) (old v : Tallied) (was : Viewed) (j : AreJoining table n old v was) where
   -- what stands before the view of all blocks
@@ -69,6 +69,7 @@ pub began : (table : Numbered) (v : Tallied) (view fork : Viewed) (pool : Pool) 
     → ((r : ℕ) → count_of pool r ≡ count_of v.rows r + held view.entries r) → ((r : ℕ) → row_of pool r ≡ row_of v.rows r) → fork ≡ view → HaveJoined table (length table.parents) v (with_pool v pool) fork
 began table v view fork pool voted sound ends counts rows same =
     let parts = views_parts table v.rows v.frozen.blocks ends.front (view ∷ []) (subst (λ (l : List Viewed). AreViews table v.rows v.frozen.blocks l) ends.is voted.holds.views) in
+    let summed : AreSums table view.members v.sums = subst (λ (l : List ℕ). AreSums table l v.sums) (sym (ends.members ∙ ap (range_with_len 0) voted.every)) voted.sums in
     let beside = forked table v view pool voted parts.1.0 parts.1.1 counts rows in
     subst (λ (w : Viewed). HaveJoined table (length table.parents) v (with_pool v pool) w) (sym same) (record {
       joining = record {
@@ -88,6 +89,8 @@ began table v view fork pool voted sound ends counts rows same =
         all = view;
         is = ends.is;
         places = λ r some. rows r;
+        sums = summed;
+        sums_before = summed;
       };
       every = voted.every;
       each = ap (λ (k : ℕ). map (bar_row table) (filter (is_tip table.parents) (range_with_len (length table.parents) k))) (let e : 0 ≡ length table.parents - length table.parents = omega arith in e);
@@ -110,6 +113,7 @@ whole_of table v beside voted = record {
   all = voted.holds.tips.all;
   is = voted.holds.tips.is;
   members = voted.holds.tips.members ∙ ap (range_with_len 0) voted.every;
+  sums = voted.sums;
 }
 
 pub whole_joined : (table : Numbered) (n : ℕ) (old v : Tallied) (was : Viewed) → HaveJoined table n old v was → AreWhole table v
@@ -121,17 +125,5 @@ whole_joined table n old v was h = record {
   all = h.joining.all;
   is = all_last table n old v was h.joining;
   members = h.members;
+  sums = subst (λ (l : List ℕ). AreSums table l v.sums) h.members h.joining.sums;
 }
-
-module _ (table : Numbered) (v : Tallied) (whole : AreWhole table v) where
-  pub whole_some : 0 < length v.views
-  whole_some = omega (arith, ap length whole.is, length-append whole.front (whole.all ∷ []))
-
-  pub whole_members : (view : Viewed) → IsOfAll v view → view.members ≡ range_with_len 0 (length table.parents)
-  whole_members view h = ap (λ (w : Viewed). w.members) (all_is v whole.front whole.all view whole.is h) ∙ whole.members
-
-  pub whole_view : (i : ℕ) (view : Viewed) → slice_get v.views i ≡ Some view → IsView table view v.rows
-  whole_view i view at = (view_of table v.rows v.frozen.blocks v.views i view whole.views at).0
-
-  pub whole_below : (i : ℕ) (view : Viewed) → slice_get v.views i ≡ Some view → (z : ℕ) → has view.members z ≡ true → z < v.frozen.blocks
-  whole_below i view at = (view_of table v.rows v.frozen.blocks v.views i view whole.views at).1

@@ -6,6 +6,7 @@ use Rattle.std.proofs.lemmas.List.Elements.{filter-append}
 use Rattle.sp_dag.specs.Numbered.{Numbered, AreInOrder}
 use Rattle.sp_rows.specs.Pool.{Pool}
 use Rattle.sp_view.specs.Stored.{count_of, row_of}
+use Rattle.sp_view.specs.Summed.{AreSums}
 use Rattle.sp_view.specs.Views.{Viewed, held}
 use Rattle.sp_engine.specs.Votes.{AreOfTips, AreViews, AreVoted, bar_row, HaveJoined, held_by, is_tip, is_top_tip, is_uncovered, Tallied, tips_from, tips_of}
 use Rattle.sp_engine.proofs.Bars.{tip_in}
@@ -60,7 +61,7 @@ module _ (table : Numbered) (order : AreInOrder table.parents) (small : length t
 
     -- no view but those that stay holds a row
     pub settled : (mid pool : Pool) (new : List Viewed) → new ≡ filter (is_uncovered table) v.views → ((r : ℕ) → count_of v.rows r ≡ count_of mid r + held was.entries r)
-        → ((r : ℕ) → count_of pool r + held_by v.views r ≡ count_of mid r + held_by new r) → AreViews table pool v.frozen.blocks new → AreVoted table (record { frozen = v.frozen; rows = pool; views = new })
+        → ((r : ℕ) → count_of pool r + held_by v.views r ≡ count_of mid r + held_by new r) → AreViews table pool v.frozen.blocks new → AreVoted table (record { frozen = v.frozen; rows = pool; views = new; sums = v.sums })
     settled mid pool new is less counts sound = record {
       holds = record {
         frozen = h.joining.frozen;
@@ -69,6 +70,7 @@ module _ (table : Numbered) (order : AreInOrder table.parents) (small : length t
         tips = subst (λ (k : ℕ). AreOfTips table k new) (sym h.every) (tips_settled new is);
       };
       every = h.every;
+      sums = subst (λ (l : List ℕ). AreSums table l v.sums) h.members h.joining.sums;
     }
 
     pub views_mid : (mid : Pool) → ((r : ℕ) → count_of v.rows r ≡ count_of mid r + held was.entries r) → ((r : ℕ) → 0 < count_of mid r → row_of mid r ≡ row_of v.rows r) → AreViews table mid v.frozen.blocks v.views

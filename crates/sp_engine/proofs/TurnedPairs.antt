@@ -1,52 +1,22 @@
 -- Each pair of a smaller set on which all blocks vote otherwise stands among the changed ones.
-use Rattle.std.proofs.Common.{◌≡◌, ℕ, zero, suc, ◌+◌, ◌<◌, ◌≤◌, Bool, true, false, cond, ◌&&◌, List, [], ◌∷◌, length, map, refl, sym, ap, subst, ◌∙◌, eqb, inl, inr, Some, arith}
-use Rattle.std.specs.Prelude.{All, Contains, not, slice_get, flat_map}
+use Rattle.std.proofs.Common.{◌≡◌, ◌≢◌, ℕ, zero, suc, ◌+◌, ◌<◌, ◌≤◌, true, false, List, [], ◌∷◌, length, map, sym, ap, subst, ◌∙◌, eqb, inl, inr, Some, arith}
+use Rattle.std.specs.Prelude.{ℤ, Contains, not, slice_get, flat_map}
 use Rattle.std.specs.List.{range_with_len}
 use Rattle.std.proofs.lemmas.Bool.{and_from, cases_lt, eqb-true, false≢true, or_cases}
-use Rattle.std.proofs.lemmas.List.Elements.{All-cons, All-nil, Contains-append_left, Contains-append_right}
+use Rattle.std.proofs.lemmas.List.Elements.{Contains-append_left, Contains-append_right}
 use Rattle.std.proofs.lemmas.Option.{slice_get-get_or}
 use Rattle.sp_model.specs.Graph.{Graph, has, related}
-use Rattle.sp_model.specs.Votes.{virt}
+use Rattle.sp_model.specs.Votes.{sgn, virt}
 use Rattle.sp_model.proofs.Sets.{has-filter_from}
 use Rattle.sp_dag.specs.Numbered.{Numbered, graph_of, pairs_of, unrelated_below}
 use Rattle.sp_dag.proofs.Ranked.{keys_are_numbers}
-use Rattle.sp_view.specs.Changed.{changed_from, changed_of, has_changed}
-use Rattle.sp_view.proofs.Changes.{votes_differ}
+use Rattle.sp_view.specs.Summed.{AreSums}
+use Rattle.sp_view.specs.Sums.{sum_of}
+use Rattle.sp_view.proofs.Gains.{virt_sum}
+use Rattle.sp_view.proofs.KeptSums.{sum_there}
 use Rattle.sp_accept.specs.Acceptance.{first_blocks}
 use Rattle.sp_accept.specs.Changes.{TellsChanges}
 use Rattle.sp_engine.proofs.Ranges.{in_range}
-
--- ---- the changed pairs
-
-module _ (g : Graph) (older set : List ℕ) where
-  -- each number is one of a pair
-  numbers_within : (first : ℕ) (pairs : List (ℕ × ℕ)) → All (λ i. i < first + length pairs) (changed_from g older set first pairs)
-  numbers_within first [] = All-nil (λ i. i < first + 0)
-  numbers_within first (pair ∷ rest) = at (has_changed g older set pair) (λ i d lt. (let less : _ < first + 1 + length rest = numbers_within (first + 1) rest i d lt in omega (arith, less)))
-    where
-      at : (b : Bool) → All (λ i. i < first + suc (length rest)) (changed_from g older set (first + 1) rest)
-          → All (λ i. i < first + suc (length rest)) (cond b (first ∷ changed_from g older set (first + 1) rest) (changed_from g older set (first + 1) rest))
-      at true all = All-cons (λ i. i < first + suc (length rest)) first (changed_from g older set (first + 1) rest) (omega arith) all
-      at false all = all
-
-  -- and each pair that has changed has its number there
-  number_there : (first : ℕ) (pairs : List (ℕ × ℕ)) (j k : ℕ) (pair : ℕ × ℕ) → k ≡ first + j → slice_get pairs j ≡ Some pair → has_changed g older set pair ≡ true → Contains (changed_from g older set first pairs) k
-  number_there first [] j k pair place at is = cc
-  number_there first (p ∷ rest) zero k pair place at is =
-      let same : p ≡ pair = cc in
-      let here : k ≡ first = omega (arith, place) in
-      let now : has_changed g older set p ≡ true = ap (has_changed g older set) same ∙ is in
-      subst (λ (b : Bool). Contains (cond b (first ∷ changed_from g older set (first + 1) rest) (changed_from g older set (first + 1) rest)) k) (sym now)
-      (Contains-append_left (first ∷ []) (changed_from g older set (first + 1) rest) k (0, omega arith, sym here))
-  number_there first (p ∷ rest) (suc j) k pair place at is = more (has_changed g older set p) (number_there (first + 1) rest j k pair (omega (arith, place)) at is)
-    where
-      more : (b : Bool) → Contains (changed_from g older set (first + 1) rest) k
-          → Contains (cond b (first ∷ changed_from g older set (first + 1) rest) (changed_from g older set (first + 1) rest)) k
-      more true there = Contains-append_right (first ∷ []) (changed_from g older set (first + 1) rest) k there
-      more false there = there
-
-pub changed_within : (table : Numbered) (older set : List ℕ) → All (λ i. i < length (pairs_of table)) (changed_of table older set)
-changed_within table older set i d lt = (let less : _ < 0 + length (pairs_of table) = numbers_within (graph_of table) older set 0 (pairs_of table) i d lt in omega (arith, less))
 
 -- ---- an unrelated pair is listed
 
@@ -72,18 +42,23 @@ pair_listed table x y lt within apart =
     in_flat (λ w. map (λ z. (z, w)) (unrelated_below (graph_of table) w)) 0 (length table.parents) y (x, y) (omega arith) (omega (arith, within)) (in_map (unrelated_below (graph_of table) y) x y row) in
     (there.0, slice_get-get_or (pairs_of table) there.0 (x, y) there.1 ∙ ap Some there.2)
 
--- ---- so what is asked of a view tells the changes
+-- ---- so what is asked of the sums tells the changes
 
-pub tells : (table : Numbered) (n : ℕ) (older set : List ℕ) (pairs : List (ℕ × ℕ)) → older ≡ first_blocks n → set ≡ range_with_len 0 (length table.parents) → ((z : ℕ) → has older z ≡ true → z < length table.parents)
-    → ((i : ℕ) (pair : ℕ × ℕ) → Contains (changed_of table older set) i → slice_get (pairs_of table) i ≡ Some pair → Contains pairs pair) → TellsChanges table n pairs
-tells table n older set pairs was now below found = λ x y lt under apart differ.
+pub tells : (table : Numbered) (n : ℕ) (older set : List ℕ) (sums_before sums : List ℤ) (pairs : List (ℕ × ℕ)) → older ≡ first_blocks n → set ≡ range_with_len 0 (length table.parents)
+    → ((z : ℕ) → has older z ≡ true → z < length table.parents) → AreSums table older sums_before → AreSums table set sums
+    → ((i : ℕ) (a b : ℤ) (pair : ℕ × ℕ) → slice_get sums_before i ≡ Some a → slice_get sums i ≡ Some b → sgn a ≢ sgn b → slice_get (pairs_of table) i ≡ Some pair → Contains pairs pair)
+    → TellsChanges table n pairs
+tells table n older set sums_before sums pairs was now below summed_before summed found = λ x y lt under apart differ.
+    let g : Graph = graph_of table in
     let before : (z : ℕ) → z < n → has older z ≡ true = λ z less. ap (λ (l : List ℕ). has l z) was ∙ in_range 0 n z (omega arith) (omega (arith, less)) in
     let there : (z : ℕ) → z < n → has set z ≡ true = λ z less. ap (λ (l : List ℕ). has l z) now ∙ in_range 0 (length table.parents) z (omega arith) (omega (arith, below z (before z less))) in
     let one = pair_listed table x y lt (below y (before y under)) apart in
-    let turned : virt (graph_of table) older x y ≡ virt (graph_of table) set x y → ⊥ =
-    λ e. differ (ap (λ (l : List ℕ). virt (graph_of table) l x y) (sym was) ∙ e ∙ ap (λ (l : List ℕ). virt (graph_of table) l x y) (now ∙ sym (keys_are_numbers table))) in
     let low : x < n = omega (arith, lt, under) in
-    let inside : (has set x && has set y) ≡ true = and_from (has set x) (has set y) (there x low) (there y under) in
-    let inside_before : (has older x && has older y) ≡ true = and_from (has older x) (has older y) (before x low) (before y under) in
-    let changed : has_changed (graph_of table) older set (x, y) ≡ true = rw (inside, inside_before, votes_differ (graph_of table) older set x y turned) refl in
-    found one.0 (x, y) (number_there (graph_of table) older set 0 (pairs_of table) one.0 one.0 (x, y) (omega arith) one.1 changed) one.1
+    let turned : sgn (sum_of g older x y) ≡ sgn (sum_of g set x y) → ⊥ =
+    λ e. differ (
+    ap (λ (l : List ℕ). virt g l x y) (sym was) ∙ virt_sum g older x y ∙ e ∙ sym (virt_sum g set x y) ∙ ap (λ (l : List ℕ). virt g l x y) (now ∙ sym (keys_are_numbers table))
+    ) in
+    found one.0 (sum_of g older x y) (sum_of g set x y) (x, y)
+    (sum_there table older sums_before one.0 x y summed_before one.1 (and_from (has older x) (has older y) (before x low) (before y under)))
+    (sum_there table set sums one.0 x y summed one.1 (and_from (has set x) (has set y) (there x low) (there y under)))
+    turned one.1

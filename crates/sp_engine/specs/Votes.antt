@@ -1,5 +1,5 @@
 -- The votes of the first blocks of a graph, as the engine keeps them: views of the tips' pasts and of all blocks, whose rows they share.
-use Rattle.std.specs.Prelude.{ℕ, true, false, ◌≡◌, ◌≤◌, ◌<◌, ◌+◌, ◌-◌, ◌&&◌, nat_le, Bool, not, List, [], ◌∷◌, ◌++◌, length, map, filter, take, slice_get, slice_index_or, Option, Some, None}
+use Rattle.std.specs.Prelude.{ℕ, true, false, ◌≡◌, ◌≤◌, ◌<◌, ◌+◌, ◌-◌, ◌&&◌, nat_le, Bool, not, List, [], ◌∷◌, ◌++◌, length, map, filter, take, slice_get, slice_index_or, ℤ, Option, Some, None}
 use Rattle.std.specs.List.{list_all, list_any, range_with_len}
 use Rattle.sp_bits.specs.Places.{places_where}
 use Rattle.sp_model.specs.Graph.{Graph, has, past}
@@ -8,13 +8,16 @@ use Rattle.sp_dag.specs.Numbered.{Numbered, graph_of, pairs_of}
 use Rattle.sp_frozen.specs.Voters.{AreRows, FrozenRows, HoldsFrozen}
 use Rattle.sp_rows.specs.Pool.{Pool}
 use Rattle.sp_view.specs.Stored.{count_of, row_of}
+use Rattle.sp_view.specs.Summed.{AreSums}
 use Rattle.sp_view.specs.Views.{AreKeptIds, IsBest, Viewed, entry_at, held, IsView}
 
--- the frozen votes, the pool of rows, and the views over it: those of the tips, ascending, and behind them that of all blocks
+-- the frozen votes, the pool of rows, the views over it: those of the tips, ascending, and behind them that of all blocks;
+-- and the sums of all blocks' votes, by the numbers of the pairs
 pub record Tallied : Type 0 where
   pub frozen : FrozenRows
   pub rows : Pool
   pub views : List Viewed
+  pub sums : List ℤ
 
 -- how often some views hold a row
 abbrev pub held_by : List Viewed → ℕ → ℕ
@@ -68,6 +71,7 @@ pub record HoldsVotes (table : Numbered) (v : Tallied) (beside : List Viewed) : 
 pub record AreVotedBeside (table : Numbered) (v : Tallied) (beside : List Viewed) : Type 0 where
   pub holds : HoldsVotes table v beside
   pub every : v.frozen.blocks ≡ length table.parents
+  pub sums : AreSums table (range_with_len 0 (length table.parents)) v.sums
 
 -- the votes of all blocks of a table: no row is held but by the views, each as often as it is counted
 abbrev pub AreVoted : Numbered → Tallied → Type 0
@@ -82,6 +86,7 @@ pub record AreWhole (table : Numbered) (v : Tallied) : Type 0 where
   pub all : Viewed
   pub is : v.views ≡ front ++ all ∷ []
   pub members : all.members ≡ range_with_len 0 (length table.parents)
+  pub sums : AreSums table (range_with_len 0 (length table.parents)) v.sums
 
 -- the view of all blocks, which is the last one
 abbrev pub IsOfAll : Tallied → Viewed → Type 0
@@ -129,6 +134,7 @@ pub record IsAsBefore (old new : Tallied) : Type 0 where
   pub frozen : new.frozen ≡ old.frozen
   pub views : new.views ≡ old.views
   pub rows : AreSameRows old.rows new.rows
+  pub sums : new.sums ≡ old.sums
 
 -- what stays of the rows of the view that a block's own was derived from keeps its id
 abbrev pub IsDerived : Numbered → ℕ → List Viewed → Viewed → Type 0
@@ -143,7 +149,7 @@ pub record JoinedAlone (table : Numbered) (n : ℕ) (old : List Viewed) (was tip
 
 -- Blocks from number n on have joined the votes of the first n blocks. The views of the old tips stand first, all of them,
 -- then those of blocks that joined, and last that of all blocks; what that was is held beside. The rows that the old
--- views hold have their places.
+-- views hold have their places. The sums are those of the view of all blocks, and those from before that of what it was.
 pub record AreJoining (table : Numbered) (n : ℕ) (old v : Tallied) (was : Viewed) : Type 0 where
   pub frozen : HoldsFrozen table v.frozen
   pub before : HoldsFrozen table old.frozen
@@ -161,6 +167,8 @@ pub record AreJoining (table : Numbered) (n : ℕ) (old v : Tallied) (was : View
   pub all : Viewed
   pub is : v.views ≡ olds ++ (joined ++ all ∷ [])
   pub places : (r : ℕ) → 0 < held_by old.views r → row_of v.rows r ≡ row_of old.rows r
+  pub sums : AreSums table all.members v.sums
+  pub sums_before : AreSums table was.members old.sums
 
 -- so they stand where each block that joined has its view, but for those that another one covers, and that of all blocks has them all
 pub record HaveJoined (table : Numbered) (n : ℕ) (old v : Tallied) (was : Viewed) : Type 0 where

@@ -171,8 +171,8 @@ impl Engine {
         }
     }
 
-    /// What the present blocks say of two blocks. Their rows stand ready, so it takes about the time
-    /// of two look-ups by hash and of four counts.
+    /// What the present blocks say of two blocks. Their sum stands ready, so it takes about the time
+    /// of two look-ups by hash and of two by number.
     pub fn vote(&self, x: &BlockId, y: &BlockId) -> Word
         ensures { result ≡
             word (graph_in self.now.profile self.now.kept) (present self.now.kept) x.now y.now }

@@ -42,7 +42,7 @@ fn decide(
 ) -> Result<Vec<Flip>, Memory>
     requires numbered { AreNumbered pool.now dag.old }
     requires joined { (old : Tallied) × HaveJoined dag.old before.now.blocks old votes.old before.now.all
-        × (before.now.tips + 1 ≡ length old.views) }
+        × (before.now.tips + 1 ≡ length old.views) × (before.now.sums ≡ old.sums) }
     requires blocks { before.now.blocks ≡ length dag.old.parents }
     requires members { before.now.all.members ≡ first_blocks (length dag.old.parents) }
     requires accepting { IsAccepting pool.now dag.old carriers.old accepted.old }
@@ -100,7 +100,7 @@ fn take_back(
     requires within { before.blocks ≤ length dag.old.parents }
     requires carried { before.blocks ≤ carriers.old.blocks }
     requires joining { (old : Tallied) × AreJoining dag.old before.blocks old votes.old before.all
-        × (before.tips + 1 ≡ length old.views) }
+        × (before.tips + 1 ≡ length old.views) × (before.sums ≡ old.sums) }
     requires accepted { txs ≤ length purse.old.accepted }
     requires none { (tx : ℕ) → txs ≤ tx → is_set purse.old.accepted tx ≡ false }
     requires of { (list : List Transaction) × IsOf list purse.old
@@ -108,7 +108,7 @@ fn take_back(
     ensures dag { dag.new ≡ first_numbered dag.old before.blocks }
     ensures carriers { carriers.new ≡ first_carried carriers.old before.blocks }
     ensures votes { (old : Tallied) → AreJoining dag.old before.blocks old votes.old before.all →
-        before.tips + 1 ≡ length old.views → IsAsBefore old votes.new }
+        before.tips + 1 ≡ length old.views → before.sums ≡ old.sums → IsAsBefore old votes.new }
     ensures of { (list : List Transaction) → IsOf list purse.old → IsOf (take txs list) purse.new }
     ensures accepted { purse.new.accepted ≡ take txs purse.old.accepted }
 {

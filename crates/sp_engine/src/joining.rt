@@ -3,10 +3,12 @@
 //! these stays as it is.
 
 ghost use Rattle.std.specs.Prelude.{◌≡◌, ◌<◌, ◌≤◌, ◌+◌, ◌^◌, ◌++◌, ◌∷◌, [], true, not, ℕ, List, length, filter, vec_len, vec_capacity, IfOk, OnOk, OnErr};
+ghost use Rattle.std.specs.List.{range_with_len};
 ghost use Rattle.sp_model.specs.Graph.{has, past};
 ghost use Rattle.sp_dag.specs.Numbered.{Numbered, graph_of};
 ghost use Rattle.sp_frozen.specs.Voters.{HoldsFrozen};
 ghost use Rattle.sp_view.specs.Stored.{count_of, live, row_of};
+ghost use Rattle.sp_view.specs.Summed.{AreRight};
 ghost use Rattle.sp_view.specs.Views.{held, Viewed, AreKeptIds, IsBest, IsView};
 ghost use Rattle.sp_engine.specs.Votes.{AreKeptIdsBy, AreShared, AreViews, bar_row, held_by, is_top_tip, is_uncovered, IsLast, IsPut};
 
@@ -15,7 +17,7 @@ use sp_dag::Dag;
 use sp_frozen::Frozen;
 use sp_ids::Memory;
 use sp_rows::RowPool;
-use sp_view::View;
+use sp_view::{Sums, View};
 use std::alloc::Global;
 use std::mem;
 
@@ -125,8 +127,8 @@ pub(crate) fn new_tip(
     }
 }
 
-/// Adds the last block of a graph to the view of all blocks, which is the last one, and puts a view
-/// before it.
+/// Adds the last block of a graph to the view of all blocks, which is the last one, and to the sums of
+/// their votes, and puts a view before it.
 ///
 /// # Errors
 ///
@@ -136,6 +138,7 @@ pub(crate) fn put_tip(
     dag: &Dag,
     frozen: &Frozen,
     rows: &mut RowPool,
+    sums: &mut Sums,
     tip: View,
 ) -> Result<(), Memory>
     requires room { vec_len views.old < vec_capacity views.old }
@@ -146,6 +149,8 @@ pub(crate) fn put_tip(
         AreShared dag.now rows.old frozen.now.blocks (tip ∷ views.old.items) beside }
     requires few { vec_len views.old ≤ 512 }
     requires last { (b : ℕ) → b + 1 ≡ length dag.now.parents → IsLast b views.old.items }
+    requires sums { (b : ℕ) → b + 1 ≡ length dag.now.parents →
+        AreRight dag.now (range_with_len 0 b) sums.old }
     ensures put { OnOk result ((b : ℕ) → b + 1 ≡ length dag.now.parents →
         IsPut dag.now b views.old.items tip views.new.items) }
     ensures views { OnOk result
@@ -156,7 +161,10 @@ pub(crate) fn put_tip(
     ensures places { (row : ℕ) (front : List Viewed) (all : Viewed) → views.old.items ≡ front ++ all ∷ [] →
         held all.entries row < count_of rows.old row → 0 < count_of rows.new row →
         row_of rows.new row ≡ row_of rows.old row }
+    ensures sums { OnOk result (AreRight dag.now (range_with_len 0 (length dag.now.parents)) sums.new) }
+    ensures as_long { length sums.new ≡ length sums.old }
     ensures err { OnErr result (views.new.items ≡ views.old.items) }
+    ensures err_sums { OnErr result (sums.new ≡ sums.old) }
     ensures err_counts { OnErr result ((row : ℕ) →
         count_of rows.new row + held tip.entries row ≡ count_of rows.old row) }
     ensures err_rows { OnErr result ((row : ℕ) → 0 < count_of rows.new row →
@@ -167,7 +175,7 @@ pub(crate) fn put_tip(
     let _pairs = dag.pair_count();
     let _live = rows.live();
     let last = views.len() - 1;
-    match views[last].add(dag, frozen, rows, b) {
+    match views[last].add_with_sums(dag, frozen, rows, sums, b) {
         Ok(()) => match views.insert(last, tip) {
             Ok(()) => Ok(()),
             // There is room.

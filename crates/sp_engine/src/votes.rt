@@ -1,6 +1,7 @@
 //! The votes of all present blocks: frozen ones, and rows of loose ones that the views of the tips
-//! and of all blocks share. While an arrival's blocks join, a fork of the view of all is held beside,
-//! so that it can be told which votes turned.
+//! and of all blocks share, beside the sums of the votes of all. While an arrival's blocks join, a fork
+//! of the view of all is held beside, so that the blocks can be taken back, and the sums from before, so
+//! that it can be told which votes turned.
 
 ghost use Rattle.std.specs.Prelude.{◌≡◌, ◌≢◌, ◌<◌, ◌≤◌, ◌+◌, ◌∷◌, [], ℕ, List, length, IfOk, IfSome, IfNone, OnOk, OnErr, IsTrue, IsFalse, ◌↔◌};
 ghost use Rattle.sp_bits.specs.Places.{IsGreatest};
@@ -12,7 +13,7 @@ ghost use Rattle.sp_accept.specs.Changes.{TellsChanges};
 ghost use Rattle.sp_engine.specs.Engine.{numbers};
 ghost use Rattle.sp_engine.specs.Votes.{AreJoining, AreVoted, AreWhole, empty_view, Grew, HaveJoined, HaveJoinedBut, IsAsBefore, IsOfAll, IsOfTip, is_tip, Tallied};
 
-use crate::changes::changed_pairs;
+use crate::changes::turned_pairs;
 use crate::joining::{new_tip, put_last, put_tip, release_covered, release_joined};
 use crate::words::{related_word, word_by};
 use sp_bits::Row;
@@ -21,17 +22,19 @@ use sp_frozen::Frozen;
 use sp_ids::Memory;
 use sp_model::Word;
 use sp_rows::RowPool;
-use sp_view::View;
+use sp_view::{Sums, View};
 use std::alloc::Global;
 use std::marker::Model;
 
-/// The votes of the first blocks of a graph. Contracts see the frozen votes, the pool of rows, and
-/// the views over it: those of the tips, ascending, and behind them that of all blocks.
+/// The votes of the first blocks of a graph. Contracts see the frozen votes, the pool of rows, the
+/// views over it: those of the tips, ascending, and behind them that of all blocks; and the sums of the
+/// votes of all blocks, by the numbers of the pairs.
 pub(crate) struct Votes {
     alloc: Global,
     frozen: Frozen,
     rows: RowPool,
     views: Vec<View>,
+    sums: Sums,
 }
 
 impl Model for Votes {
@@ -39,16 +42,17 @@ impl Model for Votes {
 
     ghost Value = { Tallied };
 
-    ghost view = { λ v. record { frozen = v.frozen; rows = v.rows; views = v.views.items } };
+    ghost view = { λ v. record { frozen = v.frozen; rows = v.rows; views = v.views.items; sums = v.sums } };
 }
 
 /// What the votes were before the blocks of an arrival joined them: how many blocks, how many of
-/// their tips, and the view of all of them.
+/// their tips, the view of all of them, and the sums of its votes.
 #[derive(Drop)]
 pub(crate) struct Before {
     pub(crate) blocks: u16,
     pub(crate) tips: usize,
     pub(crate) all: View,
+    pub(crate) sums: Sums,
 }
 
 // Written out, so that where they are let go there is one call.
@@ -59,6 +63,7 @@ impl Drop for Votes {
             frozen: _,
             rows: _,
             views: _,
+            sums: _,
         } = self;
     }
 }
@@ -91,6 +96,7 @@ impl Votes {
             frozen: Frozen::new(alloc),
             rows: RowPool::new(alloc),
             views,
+            sums: Sums::new(alloc),
         })
     }
 
@@ -114,15 +120,23 @@ impl Votes {
         // Tells the proof that there are at most 512 blocks.
         let _blocks = dag.len();
         self.views.reserve(1)?;
+        self.sums.grow(dag)?;
         let views = self.views.as_slice();
         let tip = new_tip(self.alloc, views, dag, &mut self.frozen, &mut self.rows)?;
-        put_tip(&mut self.views, dag, &self.frozen, &mut self.rows, tip)?;
+        put_tip(
+            &mut self.views,
+            dag,
+            &self.frozen,
+            &mut self.rows,
+            &mut self.sums,
+            tip,
+        )?;
         release_covered(&mut self.views, &mut self.rows, dag, tips);
         Ok(())
     }
 
     /// What the votes are before the blocks of an arrival join them. The view of all blocks is held
-    /// once more, so that it stays.
+    /// once more, so that it stays, and the sums are copied.
     ///
     /// # Errors
     ///
@@ -133,6 +147,7 @@ impl Votes {
             HaveJoined dag.now (length dag.now.parents) self.old self.new before.all) }
         ensures blocks { IfOk result (λ before. before.blocks ≡ length dag.now.parents) }
         ensures tips { IfOk result (λ before. before.tips + 1 ≡ length self.old.views) }
+        ensures sums { IfOk result (λ before. before.sums ≡ self.old.sums) }
         ensures members { IfOk result (λ before.
             before.all.members ≡ first_blocks (length dag.now.parents)) }
         ensures err { OnErr result (IsAsBefore self.old self.new) }
@@ -141,8 +156,14 @@ impl Votes {
         let _blocks = dag.len();
         let blocks = self.frozen.blocks();
         let tips = self.views.len() - 1;
+        let sums = self.sums.fork()?;
         let all = self.views[tips].fork(&mut self.rows)?;
-        Ok(Before { blocks, tips, all })
+        Ok(Before {
+            blocks,
+            tips,
+            all,
+            sums,
+        })
     }
 
     /// The pairs of the blocks from before on which all blocks have another virtual vote than those
@@ -152,18 +173,12 @@ impl Votes {
     ///
     /// Memory was refused.
     pub(crate) fn changes(&self, dag: &Dag, before: &Before) -> Result<Vec<(u16, u16)>, Memory>
-        requires { (old : Tallied) × HaveJoined dag.now before.now.blocks old self.now before.now.all }
+        requires { (old : Tallied) × HaveJoined dag.now before.now.blocks old self.now before.now.all
+            × (before.now.sums ≡ old.sums) }
         ensures { IfOk result (λ pairs. (n : ℕ) → before.now.all.members ≡ first_blocks n →
             TellsChanges dag.now n pairs.items) }
     {
-        changed_pairs(
-            self.alloc,
-            dag,
-            self.all(),
-            &before.all,
-            &self.frozen,
-            &self.rows,
-        )
+        turned_pairs(self.alloc, dag, &before.sums, &self.sums)
     }
 
     /// Keeps the blocks that joined: the views of covered tips are let go, and what was before.
@@ -179,23 +194,30 @@ impl Votes {
             blocks: _,
             tips: _,
             all,
+            sums: _,
         } = before;
         all.release(&mut self.rows);
         release_covered(&mut self.views, &mut self.rows, dag, 0);
     }
 
     /// Takes the blocks back that joined, for a graph that is cut to those from before after this
-    /// call: their views are let go, and the view of all blocks is that from before.
+    /// call: their views are let go, and the view of all blocks and the sums are those from before.
     pub(crate) fn take_back(&mut self, dag: &Dag, before: Before)
         requires { (old : Tallied) × AreJoining dag.now before.blocks old self.old before.all
-            × (before.tips + 1 ≡ length old.views) }
+            × (before.tips + 1 ≡ length old.views) × (before.sums ≡ old.sums) }
         ensures { (old : Tallied) → AreJoining dag.now before.blocks old self.old before.all →
-            before.tips + 1 ≡ length old.views → IsAsBefore old self.new }
+            before.tips + 1 ≡ length old.views → before.sums ≡ old.sums → IsAsBefore old self.new }
     {
-        let Before { blocks, tips, all } = before;
+        let Before {
+            blocks,
+            tips,
+            all,
+            sums,
+        } = before;
         put_last(&mut self.views, &mut self.rows, all);
         release_joined(&mut self.views, &mut self.rows, tips);
         self.frozen.cut(dag, blocks);
+        self.sums = sums;
     }
 
     /// The frozen votes, lent as they stand.
@@ -240,7 +262,7 @@ impl Votes {
         None
     }
 
-    /// The word of two different blocks, by four counts at most.
+    /// The word of two different blocks, by the sign of the sum that is kept for them.
     pub(crate) fn word(&self, dag: &Dag, x: u16, y: u16) -> Word
         requires voted { AreWhole dag.now self.now }
         requires x_in { x < length dag.now.parents }
@@ -253,7 +275,7 @@ impl Votes {
         let _blocks = dag.len();
         match dag.pair_of(x, y) {
             Some(pair) => {
-                let vote = self.all().virtual_vote(&self.frozen, &self.rows, pair);
+                let vote = self.sums.virtual_vote(pair);
                 word_by(vote, x < y)
             }
             None => related_word(dag, x, y),

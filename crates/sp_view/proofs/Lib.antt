@@ -28,3 +28,5 @@ pub mod Lone
 pub mod Fresh
 pub mod Changes
 pub mod Listing
+pub mod JoinedSums
+pub mod KeptSums

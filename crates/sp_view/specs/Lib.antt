@@ -5,3 +5,4 @@ pub mod Views
 pub mod Changed
 pub mod Moving
 pub mod Sums
+pub mod Summed

@@ -1,4 +1,4 @@
-//! The two rows of one pair in a pool, when a block joins the set.
+//! The two rows of one pair in a pool, when a block joins the set, and the sum of its votes.
 
 ghost use Rattle.std.specs.Prelude.{◌≡◌, ◌≢◌, ◌<◌, ◌≤◌, ◌+◌, ◌==◌, ◌↔◌, ℕ, length, IsTrue, if◌then◌else◌, slice_get, None, Some, IfSome, vec_len};
 ghost use Rattle.sp_dag.specs.Numbered.{graph_of, pairs_of};
@@ -7,16 +7,33 @@ ghost use Rattle.sp_bits.specs.Places.{difference};
 ghost use Rattle.sp_model.specs.Graph.{has};
 ghost use Rattle.sp_view.specs.Settled.{AreSides, AreOpen, AreKept};
 ghost use Rattle.sp_view.specs.Voting.{IsVoting, IsJoined};
+ghost use Rattle.sp_view.specs.Summed.{AreRight, IsStill};
 ghost use Rattle.sp_view.specs.Views.{holds, held, entry_at, moved_of, IsEntry, IsFresh, IsOnce, AreFresh, KeepIds, AreEntries, AreKeptIds};
 ghost use Rattle.sp_view.specs.Moving.{changes_of, moves_of, moved_rows};
 
 use crate::asking::{asked, has_both, is_none};
 use crate::pair_rows::{Sides, joined_rows, new_rows};
 use crate::stored::{RowName, give, holders, put, row_at, taken};
+use crate::summing::note_sum;
+use crate::sums::Sums;
 use sp_bits::Row;
 use sp_dag::Dag;
 use sp_frozen::Frozen;
 use sp_rows::RowPool;
+
+// The rows of an old pair after a block joined, and whether nobody was asked: then they are as before.
+#[derive(Clone, Copy)]
+struct Joined {
+    rows: (RowName, RowName),
+    same: bool,
+}
+
+// The same of any pair, which may have no rows.
+#[derive(Clone, Copy)]
+pub(crate) struct Step {
+    pub(crate) entry: Option<(RowName, RowName)>,
+    pub(crate) same: bool,
+}
 
 // Whether two rows have the same places.
 pub(crate) fn are_same(one: &Row, other: &Row) -> bool
@@ -150,7 +167,7 @@ fn joined_entry(
     b: u16,
     pair: u32,
     entry: (RowName, RowName),
-) -> (RowName, RowName)
+) -> Joined
     requires joined { IsJoined dag.now frozen.now b before.now members.now }
     requires listed { pair < length (pairs_of dag.now) }
     requires inside { pair < length frozen.now.pluses }
@@ -162,24 +179,32 @@ fn joined_entry(
         changes_of (graph_of dag.now) before.now members.now x y ≤ spare pool.old }
     ensures rows { (x y : ℕ) → slice_get (pairs_of dag.now) pair ≡ Some (x, y) →
         AreSides (graph_of dag.now) members.now x y
-        (row_of pool.new result.0) (row_of pool.new result.1) }
+        (row_of pool.new result.rows.0) (row_of pool.new result.rows.1) }
+    ensures same { IsTrue result.same → (x y : ℕ) →
+        slice_get (pairs_of dag.now) pair ≡ Some (x, y) →
+        AreSides (graph_of dag.now) members.now x y
+        (row_of pool.old entry.0) (row_of pool.old entry.1) }
     ensures kept { (x y : ℕ) → slice_get (pairs_of dag.now) pair ≡ Some (x, y) →
-        KeepIds (graph_of dag.now) before.now members.now x y (Some entry) (Some result) }
+        KeepIds (graph_of dag.now) before.now members.now x y (Some entry) (Some result.rows) }
     ensures counts { (r : ℕ) → count_of pool.new r + holds (Some entry) r ≡
-        count_of pool.old r + holds (Some result) r }
+        count_of pool.old r + holds (Some result.rows) r }
     ensures others { (r : ℕ) → holds (Some entry) r < count_of pool.old r →
         row_of pool.new r ≡ row_of pool.old r }
     ensures alive { (r : ℕ) → 0 < count_of pool.old r → 0 < count_of pool.new r }
     ensures once { (r : ℕ) →
-        IsOnce (count_of pool.old r) (holds (Some entry) r) (holds (Some result) r) }
-    ensures spare { spare pool.old ≤ spare pool.new + moved_of (Some entry) (Some result) }
-    ensures live { live pool.new ≤ live pool.old + moved_of (Some entry) (Some result) }
+        IsOnce (count_of pool.old r) (holds (Some entry) r) (holds (Some result.rows) r) }
+    ensures spare { spare pool.old ≤ spare pool.new + moved_of (Some entry) (Some result.rows) }
+    ensures live { live pool.new ≤ live pool.old + moved_of (Some entry) (Some result.rows) }
 {
     let todo = asked(dag, frozen, pool, members, b, pair, &entry);
     if is_none(&todo) {
-        return entry;
+        return Joined {
+            rows: entry,
+            same: true,
+        };
     }
-    asked_entry(dag, frozen, pool, before, members, b, pair, entry, &todo)
+    let rows = asked_entry(dag, frozen, pool, before, members, b, pair, entry, &todo);
+    Joined { rows, same: false }
 }
 
 // The rows of a pair that the block brought into the set.
@@ -222,7 +247,7 @@ fn step_entry(
     b: u16,
     pair: u32,
     entry: Option<(RowName, RowName)>,
-) -> Option<(RowName, RowName)>
+) -> Step
     requires joined { IsJoined dag.now frozen.now b before.now members.now }
     requires listed { pair < length (pairs_of dag.now) }
     requires inside { IfSome entry (λ _. pair < length frozen.now.pluses) }
@@ -232,16 +257,19 @@ fn step_entry(
     requires room { (x y : ℕ) → slice_get (pairs_of dag.now) pair ≡ Some (x, y) →
         moves_of (graph_of dag.now) before.now members.now x y ≤ spare pool.old }
     ensures entry { (x y : ℕ) → slice_get (pairs_of dag.now) pair ≡ Some (x, y) →
-        IsEntry (graph_of dag.now) members.now x y pool.new result }
+        IsEntry (graph_of dag.now) members.now x y pool.new result.entry }
+    ensures same { IsTrue result.same → (x y : ℕ) →
+        slice_get (pairs_of dag.now) pair ≡ Some (x, y) →
+        IsStill (graph_of dag.now) before.now members.now x y }
     ensures kept { (x y : ℕ) → slice_get (pairs_of dag.now) pair ≡ Some (x, y) →
-        KeepIds (graph_of dag.now) before.now members.now x y entry result }
+        KeepIds (graph_of dag.now) before.now members.now x y entry result.entry }
     ensures counts { (r : ℕ) → count_of pool.new r + holds entry r ≡
-        count_of pool.old r + holds result r }
+        count_of pool.old r + holds result.entry r }
     ensures others { (r : ℕ) → holds entry r < count_of pool.old r →
         row_of pool.new r ≡ row_of pool.old r }
     ensures alive { (r : ℕ) → 0 < count_of pool.old r → 0 < count_of pool.new r }
-    ensures once { (r : ℕ) → IsOnce (count_of pool.old r) (holds entry r) (holds result r) }
-    ensures fresh { entry ≡ None → IfSome result (IsFresh pool.old pool.new) }
+    ensures once { (r : ℕ) → IsOnce (count_of pool.old r) (holds entry r) (holds result.entry r) }
+    ensures fresh { entry ≡ None → IfSome result.entry (IsFresh pool.old pool.new) }
     ensures spare { (x y : ℕ) → slice_get (pairs_of dag.now) pair ≡ Some (x, y) →
         spare pool.old ≤ spare pool.new
         + moves_of (graph_of dag.now) before.now members.now x y }
@@ -250,21 +278,34 @@ fn step_entry(
         + moves_of (graph_of dag.now) before.now members.now x y }
 {
     match entry {
-        Some(rows) => Some(joined_entry(dag, frozen, pool, before, members, b, pair, rows)),
+        Some(rows) => {
+            let joined = joined_entry(dag, frozen, pool, before, members, b, pair, rows);
+            Step {
+                entry: Some(joined.rows),
+                same: joined.same,
+            }
+        }
         None => {
             // Tells the proof that there are at most 512 blocks.
             let _blocks = dag.len();
             let (x, y) = dag.pair(pair);
             if has_both(members, x, y) {
-                Some(new_entry(dag, frozen, pool, members, pair))
+                let rows = new_entry(dag, frozen, pool, members, pair);
+                Step {
+                    entry: Some(rows),
+                    same: false,
+                }
             } else {
-                None
+                Step {
+                    entry: None,
+                    same: false,
+                }
             }
         }
     }
 }
 
-// The entries of all pairs after the block joined.
+// The entries of all pairs after the block joined, and those of their sums that are kept.
 pub(crate) fn join_entries(
     dag: &Dag,
     frozen: &Frozen,
@@ -273,6 +314,7 @@ pub(crate) fn join_entries(
     members: &Row,
     b: u16,
     entries: &mut Vec<Option<(RowName, RowName)>>,
+    sums: &mut Sums,
 )
     requires joined { IsJoined dag.now frozen.now b before.now members.now }
     requires long { vec_len entries.old ≡ length (pairs_of dag.now) }
@@ -283,6 +325,7 @@ pub(crate) fn join_entries(
     requires entry { AreEntries dag.now before.now pool.old entries.old.items }
     requires room { moved_rows (graph_of dag.now) before.now members.now
         (pairs_of dag.now) ≤ spare pool.old }
+    requires sums { AreRight dag.now before.now sums.old }
     ensures long { vec_len entries.new ≡ vec_len entries.old }
     ensures entry { AreEntries dag.now members.now pool.new entries.new.items }
     ensures kept { AreKeptIds dag.now before.now members.now
@@ -295,11 +338,16 @@ pub(crate) fn join_entries(
     ensures fresh { AreFresh entries.old.items entries.new.items pool.old pool.new }
     ensures live { live pool.new ≤ live pool.old
         + moved_rows (graph_of dag.now) before.now members.now (pairs_of dag.now) }
+    ensures sums { AreRight dag.now members.now sums.new }
+    ensures as_long { length sums.new ≡ length sums.old }
 {
     // Tells the proof that there are at most 130,816 pairs.
     let _pairs = dag.pair_count();
     'pairs: for i in 0..entries.len() {
+        let pair = i as u32;
         let entry = entries[i];
-        entries[i] = step_entry(dag, frozen, pool, before, members, b, i as u32, entry);
+        let step = step_entry(dag, frozen, pool, before, members, b, pair, entry);
+        entries[i] = step.entry;
+        note_sum(dag, frozen, pool, before, members, b, pair, &step, sums);
     }
 }

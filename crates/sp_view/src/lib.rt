@@ -12,10 +12,13 @@ mod pair_rows;
 mod settle;
 mod sharing;
 mod stored;
+mod summing;
+mod sums;
 mod tally;
 mod view;
 
 // A crate can name a view in a contract only if the types of its fields are exported.
 #[doc(hidden)]
 pub use stored::RowName;
+pub use sums::Sums;
 pub use view::View;

@@ -11,6 +11,7 @@ ghost use Rattle.sp_view.specs.Stored.{count_of, row_of, live};
 ghost use Rattle.sp_view.specs.Changed.{changed_of, has_changed};
 ghost use Rattle.sp_view.specs.Settled.{IsAsked};
 ghost use Rattle.sp_view.specs.Sums.{sum_of, AreJoined, IsLone};
+ghost use Rattle.sp_view.specs.Summed.{AreRight};
 ghost use Rattle.sp_view.specs.Views.{Viewed, entry_at, held, IsBest, IsStart, IsView, AreFresh, AreKeptIds, AreListed};
 ghost use Rattle.sp_view.specs.Moving.{changed_rows, moved_rows};
 
@@ -20,6 +21,7 @@ use crate::derive::derive_entries;
 use crate::entries::join_entries;
 use crate::sharing::{give_entries, share_entries};
 use crate::stored::{RowName, row_at};
+use crate::sums::Sums;
 use crate::tally::{gain, lone_of, side, tally};
 use sp_bits::Row;
 use sp_dag::Dag;
@@ -170,6 +172,54 @@ impl View {
         ensures err { OnErr result (self.new ≡ self.old) }
         ensures err_rows { OnErr result (pool.new.rows ≡ pool.old.rows) }
     {
+        let mut none = Sums::new(self.alloc);
+        self.add_with_sums(dag, frozen, pool, &mut none, b)?;
+        Ok(())
+    }
+
+    /// Adds a block as [`View::add`] does, with sums of the members' votes, which become those with the block.
+    ///
+    /// # Errors
+    ///
+    /// Memory was refused; the view, all live rows and the sums are as before.
+    pub fn add_with_sums(
+        &mut self,
+        dag: &Dag,
+        frozen: &Frozen,
+        pool: &mut RowPool,
+        sums: &mut Sums,
+        b: u16,
+    ) -> Result<(), Memory>
+        requires view { IsView dag.now self.old pool.old }
+        requires frozen { HoldsFrozen dag.now frozen.now }
+        requires added { (z : ℕ) → IsTrue (has self.old.members z) → z < frozen.now.blocks }
+        requires b_added { b < frozen.now.blocks }
+        requires new { IsFalse (has self.old.members b) }
+        requires past { (z : ℕ) → IsTrue (in_past (graph_of dag.now) z b) →
+            IsTrue (has self.old.members z) }
+        requires few { live pool.old < 2 ^ 30 }
+        requires sums { AreRight dag.now self.old.members sums.old }
+        ensures ok { OnOk result (IsView dag.now self.new pool.new) }
+        ensures members { OnOk result (self.new.members
+            ≡ places_where (λ p. has self.old.members p || (p == b))) }
+        ensures kept { OnOk result (AreKeptIds dag.now self.old.members self.new.members
+            self.old.entries self.new.entries) }
+        ensures counts { (r : ℕ) → count_of pool.new r + held self.old.entries r ≡
+            count_of pool.old r + held self.new.entries r }
+        ensures others { (r : ℕ) → held self.old.entries r < count_of pool.old r →
+            row_of pool.new r ≡ row_of pool.old r }
+        ensures fresh { OnOk result (AreFresh self.old.entries self.new.entries pool.old pool.new) }
+        ensures live { OnOk result (live pool.new ≤ live pool.old
+            + (2 * length (anticone (graph_of dag.now) self.old.members b)
+            + changed_rows (graph_of dag.now) self.old.members self.new.members
+            (pairs_of dag.now))) }
+        ensures long { length self.new.entries ≤ length (pairs_of dag.now) }
+        ensures sums { OnOk result (AreRight dag.now self.new.members sums.new) }
+        ensures as_long { length sums.new ≡ length sums.old }
+        ensures err { OnErr result (self.new ≡ self.old) }
+        ensures err_sums { OnErr result (sums.new ≡ sums.old) }
+        ensures err_rows { OnErr result (pool.new.rows ≡ pool.old.rows) }
+    {
         // Tells the proof that there are at most 512 blocks, in order.
         let _blocks = dag.len();
         let pairs = dag.pair_count() as usize;
@@ -180,7 +230,16 @@ impl View {
         // Each pair may take both its rows anew.
         pool.reserve(2 * dag.pair_count())?;
         grow(&mut self.entries, pairs);
-        join_entries(dag, frozen, pool, &before, &members, b, &mut self.entries);
+        join_entries(
+            dag,
+            frozen,
+            pool,
+            &before,
+            &members,
+            b,
+            &mut self.entries,
+            sums,
+        );
         self.members = members;
         Ok(())
     }

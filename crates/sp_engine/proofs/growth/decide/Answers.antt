@@ -26,7 +26,7 @@ update-requires-clause-first c =
     c.requires.accepting.carriers.carried c.in_ok-add_all.ensures.below
 
 pub changes-requires : goal.changes-requires
-changes-requires c = (c.requires.joined.0, c.in_ok-add_all.ensures.joined c.args.before.now.blocks c.requires.joined.0 c.args.before.now.all c.requires.joined.1 c.requires.joined.2)
+changes-requires c = (c.requires.joined.0, c.in_ok-add_all.ensures.joined c.args.before.now.blocks c.requires.joined.0 c.args.before.now.all c.requires.joined.1 c.requires.joined.2, c.requires.joined.3)
 
 pub update-requires-clause-whole : goal.update-requires-clause-whole
 update-requires-clause-whole c =

@@ -51,6 +51,7 @@ take_back-requires-clause-joining c = (
   c.args.votes.now,
   c.in-Err.ensures.err c.args.votes.now (joined_at c.args.dag.now (length c.args.dag.now.parents) c.in_ok-before.before.blocks c.args.votes.now c.before-2.new.self c.in_ok-before.before.all c.in_ok-before.ensures.blocks c.in_ok-before.ensures.joined) c.in_ok-before.ensures.tips,
   c.in_ok-before.ensures.tips,
+  c.in_ok-before.ensures.sums,
 )
 
 pub take_back-requires-clause-accepted : goal.take_back-requires-clause-accepted
@@ -85,7 +86,7 @@ returns-in-Err-clause-carriers c =
 pub returns-in-Err-clause-votes : goal.returns-in-Err-clause-votes
 returns-in-Err-clause-votes c =
     let h = joined_at c.args.dag.now (length c.args.dag.now.parents) c.in_ok-before.before.blocks c.args.votes.now c.before-2.new.self c.in_ok-before.before.all c.in_ok-before.ensures.blocks c.in_ok-before.ensures.joined in
-    c.take_back.ensures.votes c.args.votes.now (c.in-Err.ensures.err c.args.votes.now h c.in_ok-before.ensures.tips) c.in_ok-before.ensures.tips
+    c.take_back.ensures.votes c.args.votes.now (c.in-Err.ensures.err c.args.votes.now h c.in_ok-before.ensures.tips) c.in_ok-before.ensures.tips c.in_ok-before.ensures.sums
 
 pub returns-in-Err-clause-purse : goal.returns-in-Err-clause-purse
 returns-in-Err-clause-purse c =

@@ -1,4 +1,6 @@
-use Rattle.std.proofs.Common.{◌≡◌, ◌∙◌, ◌≤◌, ◌-◌, ℕ, List, ◌∷◌, ◌++◌, [], sym, arith, subst, length}
+use Rattle.std.specs.List.{range_with_len}
+use Rattle.sp_view.specs.Summed.{AreRight}
+use Rattle.std.proofs.Common.{ap, ◌+◌, ◌≡◌, ◌∙◌, ◌≤◌, ◌-◌, ℕ, List, ◌∷◌, ◌++◌, [], sym, arith, subst, length}
 use Rattle.sp_dag.specs.Numbered.{Numbered, pairs_of}
 use Rattle.sp_view.specs.Views.{Viewed}
 use Rattle.sp_engine.specs.Votes.{AreShared, AreViews, IsPut}
@@ -13,8 +15,8 @@ overflow_sub-last c = omega (arith, c.len-last.ensures, some_there c.args.dag.no
 pub index_mut-requires : goal.index_mut-requires
 index_mut-requires c = omega (arith, c.len-last.ensures, some_there c.args.dag.now c.len-b.result c.args.views.now.items c.len-b.ensures.value c.len-b.ensures.numbered.some c.requires.last)
 
-pub add-requires-clause-view : goal.add-requires-clause-view
-add-requires-clause-view c =
+pub add_with_sums-requires-clause-view : goal.add_with_sums-requires-clause-view
+add_with_sums-requires-clause-view c =
     let table : Numbered = c.args.dag.now in
     let rows = c.args.rows.now in
     let b : ℕ = c.len-b.result - 1 in
@@ -25,8 +27,8 @@ add-requires-clause-view c =
     at_end table c.len-b.result c.len-last.result views view c.len-b.ensures.value c.len-b.ensures.numbered.some (c.len-last.ensures ∙ c.args.views.now.ok.0) c.requires.last c.index_mut.ensures.value in
     last_view table rows b n views view c.args.tip end.ends c.requires.views
 
-pub add-requires-clause-added : goal.add-requires-clause-added
-add-requires-clause-added c =
+pub add_with_sums-requires-clause-added : goal.add_with_sums-requires-clause-added
+add_with_sums-requires-clause-added c =
     let table : Numbered = c.args.dag.now in
     let rows = c.args.rows.now in
     let b : ℕ = c.len-b.result - 1 in
@@ -37,8 +39,8 @@ add-requires-clause-added c =
     at_end table c.len-b.result c.len-last.result views view c.len-b.ensures.value c.len-b.ensures.numbered.some (c.len-last.ensures ∙ c.args.views.now.ok.0) c.requires.last c.index_mut.ensures.value in
     last_below table rows b n views view c.args.tip end.ends c.requires.views
 
-pub add-requires-clause-new : goal.add-requires-clause-new
-add-requires-clause-new c =
+pub add_with_sums-requires-clause-new : goal.add_with_sums-requires-clause-new
+add_with_sums-requires-clause-new c =
     let table : Numbered = c.args.dag.now in
     let rows = c.args.rows.now in
     let b : ℕ = c.len-b.result - 1 in
@@ -49,8 +51,8 @@ add-requires-clause-new c =
     at_end table c.len-b.result c.len-last.result views view c.len-b.ensures.value c.len-b.ensures.numbered.some (c.len-last.ensures ∙ c.args.views.now.ok.0) c.requires.last c.index_mut.ensures.value in
     last_new table rows b n views view c.args.tip end.ends c.requires.views
 
-pub add-requires-clause-past : goal.add-requires-clause-past
-add-requires-clause-past c =
+pub add_with_sums-requires-clause-past : goal.add_with_sums-requires-clause-past
+add_with_sums-requires-clause-past c =
     let table : Numbered = c.args.dag.now in
     let rows = c.args.rows.now in
     let b : ℕ = c.len-b.result - 1 in
@@ -61,8 +63,8 @@ add-requires-clause-past c =
     at_end table c.len-b.result c.len-last.result views view c.len-b.ensures.value c.len-b.ensures.numbered.some (c.len-last.ensures ∙ c.args.views.now.ok.0) c.requires.last c.index_mut.ensures.value in
     last_past table rows b n views view c.args.tip end.ends c.requires.views c.len-b.ensures.numbered.order (omega (arith, c.len-b.ensures.value, c.len-b.ensures.numbered.some))
 
-pub add-requires-clause-few : goal.add-requires-clause-few
-add-requires-clause-few c =
+pub add_with_sums-requires-clause-few : goal.add_with_sums-requires-clause-few
+add_with_sums-requires-clause-few c =
     let table : Numbered = c.args.dag.now in
     let rows = c.args.rows.now in
     let b : ℕ = c.len-b.result - 1 in
@@ -89,10 +91,36 @@ returns-in-Ok-insert-clause-put c =
     let view : Viewed = c.index_mut.result.now in
     let end : IsAtEnd b (c.len-last.result - 1) views view =
     at_end table c.len-b.result c.len-last.result views view c.len-b.ensures.value c.len-b.ensures.numbered.some (c.len-last.ensures ∙ c.args.views.now.ok.0) c.requires.last c.index_mut.ensures.value in
-    let new : Viewed = c.add.new.self in
+    let new : Viewed = c.add_with_sums.new.self in
     let items : c.insert.new.self.items ≡ end.ends.front ++ c.args.tip ∷ new ∷ [] = c.in-Ok-insert.ensures.items ∙ put_before b views (c.len-last.result - 1) view new c.args.tip end.ends end.place in
     let members = members_after table rows b n views view c.args.tip end.ends c.requires.views new (omega (arith, c.len-b.ensures.value, c.len-b.ensures.numbered.some, c.len-b.ensures.numbered.small)) c.in-Ok.ensures.members in
     λ k at. subst (λ (m : ℕ). IsPut table m views c.args.tip c.insert.new.self.items) (let e : b ≡ k = omega (arith, c.len-b.ensures.value, at) in e) (is_put table rows b n views view c.args.tip end.ends c.requires.views c.insert.new.self.items new items members c.in-Ok.ensures.kept)
+
+pub add_with_sums-requires-clause-sums : goal.add_with_sums-requires-clause-sums
+add_with_sums-requires-clause-sums c =
+    let table : Numbered = c.args.dag.now in
+    let b : ℕ = c.len-b.result - 1 in
+    let views : List Viewed = c.args.views.now.items in
+    let view : Viewed = c.index_mut.result.now in
+    let end : IsAtEnd b (c.len-last.result - 1) views view =
+    at_end table c.len-b.result c.len-last.result views view c.len-b.ensures.value c.len-b.ensures.numbered.some (c.len-last.ensures ∙ c.args.views.now.ok.0) c.requires.last c.index_mut.ensures.value in
+    subst (λ (l : List ℕ). AreRight table l c.args.sums.now) (sym end.ends.members) (c.requires.sums b (omega (arith, c.len-b.ensures.value, c.len-b.ensures.numbered.some)))
+
+pub returns-in-Ok-insert-clause-sums : goal.returns-in-Ok-insert-clause-sums
+returns-in-Ok-insert-clause-sums c =
+    let table : Numbered = c.args.dag.now in
+    let rows = c.args.rows.now in
+    let b : ℕ = c.len-b.result - 1 in
+    let n : ℕ = c.args.frozen.now.blocks in
+    let views : List Viewed = c.args.views.now.items in
+    let view : Viewed = c.index_mut.result.now in
+    let end : IsAtEnd b (c.len-last.result - 1) views view =
+    at_end table c.len-b.result c.len-last.result views view c.len-b.ensures.value c.len-b.ensures.numbered.some (c.len-last.ensures ∙ c.args.views.now.ok.0) c.requires.last c.index_mut.ensures.value in
+    let new : Viewed = c.add_with_sums.new.self in
+    let members : new.members ≡ range_with_len 0 (b + 1) = members_after table rows b n views view c.args.tip end.ends c.requires.views new (omega (arith, c.len-b.ensures.value, c.len-b.ensures.numbered.some, c.len-b.ensures.numbered.small)) c.in-Ok.ensures.members in
+    subst (λ (l : List ℕ). AreRight table l c.add_with_sums.new.sums)
+    (members ∙ ap (range_with_len 0) (let e : b + 1 ≡ length table.parents = omega (arith, c.len-b.ensures.value, c.len-b.ensures.numbered.some) in e))
+    c.in-Ok.ensures.sums
 
 pub returns-in-Ok-insert-clause-views : goal.returns-in-Ok-insert-clause-views
 returns-in-Ok-insert-clause-views c =
@@ -104,11 +132,11 @@ returns-in-Ok-insert-clause-views c =
     let view : Viewed = c.index_mut.result.now in
     let end : IsAtEnd b (c.len-last.result - 1) views view =
     at_end table c.len-b.result c.len-last.result views view c.len-b.ensures.value c.len-b.ensures.numbered.some (c.len-last.ensures ∙ c.args.views.now.ok.0) c.requires.last c.index_mut.ensures.value in
-    let new : Viewed = c.add.new.self in
+    let new : Viewed = c.add_with_sums.new.self in
     let items : c.insert.new.self.items ≡ end.ends.front ++ c.args.tip ∷ new ∷ [] = c.in-Ok-insert.ensures.items ∙ put_before b views (c.len-last.result - 1) view new c.args.tip end.ends end.place in
     let members = members_after table rows b n views view c.args.tip end.ends c.requires.views new (omega (arith, c.len-b.ensures.value, c.len-b.ensures.numbered.some, c.len-b.ensures.numbered.small)) c.in-Ok.ensures.members in
-    subst (λ (l : List Viewed). AreViews table c.add.new.pool n l) (sym items)
-    (views_after table rows b n views view c.args.tip end.ends c.requires.views c.add.new.pool new c.requires.shared.0 c.requires.shared.1 c.in-Ok.ensures.counts c.in-Ok.ensures.others c.in-Ok.ensures.ok
+    subst (λ (l : List Viewed). AreViews table c.add_with_sums.new.pool n l) (sym items)
+    (views_after table rows b n views view c.args.tip end.ends c.requires.views c.add_with_sums.new.pool new c.requires.shared.0 c.requires.shared.1 c.in-Ok.ensures.counts c.in-Ok.ensures.others c.in-Ok.ensures.ok
     (below_after table rows b n views view c.args.tip end.ends c.requires.views new (omega (arith, c.len-b.ensures.value, c.len-b.ensures.numbered.some, c.requires.next)) members))
 
 pub returns-in-Ok-insert-clause-shared : goal.returns-in-Ok-insert-clause-shared
@@ -121,10 +149,10 @@ returns-in-Ok-insert-clause-shared c =
     let view : Viewed = c.index_mut.result.now in
     let end : IsAtEnd b (c.len-last.result - 1) views view =
     at_end table c.len-b.result c.len-last.result views view c.len-b.ensures.value c.len-b.ensures.numbered.some (c.len-last.ensures ∙ c.args.views.now.ok.0) c.requires.last c.index_mut.ensures.value in
-    let new : Viewed = c.add.new.self in
+    let new : Viewed = c.add_with_sums.new.self in
     let items : c.insert.new.self.items ≡ end.ends.front ++ c.args.tip ∷ new ∷ [] = c.in-Ok-insert.ensures.items ∙ put_before b views (c.len-last.result - 1) view new c.args.tip end.ends end.place in
-    λ beside shared. subst (λ (l : List Viewed). AreShared table c.add.new.pool n l beside) (sym items)
-    (shared_put table rows b n views view c.args.tip end.ends c.requires.views c.add.new.pool new beside shared c.in-Ok.ensures.counts c.in-Ok.ensures.others)
+    λ beside shared. subst (λ (l : List Viewed). AreShared table c.add_with_sums.new.pool n l beside) (sym items)
+    (shared_put table rows b n views view c.args.tip end.ends c.requires.views c.add_with_sums.new.pool new beside shared c.in-Ok.ensures.counts c.in-Ok.ensures.others)
 
 pub returns-in-Err-clause-err_rows : goal.returns-in-Err-clause-err_rows
-returns-in-Err-clause-err_rows c = λ row some. c.release.ensures.rows row some ∙ same_row c.args.rows.now c.add.new.pool row c.in-Err.ensures.err_rows
+returns-in-Err-clause-err_rows c = λ row some. c.release.ensures.rows row some ∙ same_row c.args.rows.now c.add_with_sums.new.pool row c.in-Err.ensures.err_rows

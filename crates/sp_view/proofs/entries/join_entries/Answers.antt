@@ -9,6 +9,7 @@ use Rattle.sp_view.specs.Stored.{count_of, row_of}
 use Rattle.sp_view.specs.Views.{entry_at, holds, held, IsEntry, IsFresh, IsOnce, KeepIds}
 use Rattle.sp_view.proofs.Fresh.{fresh_none, fresh_step}
 use Rattle.sp_view.proofs.Held.{entries_step, held_set, holds_held, if_there, keeps_itself, kept_step, once_step, some_pair}
+use Rattle.sp_view.proofs.KeptSums.{sums_step}
 use Rattle.sp_view.proofs.Moves.{moved_take, moved_take_le}
 use Rattle.sp_view.proofs.TwoRows.{results_of}
 use Rattle.sp_view.proofs.entries.join_entries.Goals as goal
@@ -16,8 +17,8 @@ use Rattle.sp_view.proofs.entries.join_entries.Goals as goal
 read_at : (entries : List (Option (ℕ × ℕ))) (i : ℕ) (read : Option (ℕ × ℕ)) → i < length entries → read ≡ get_or entries i read → read ≡ entry_at entries i
 read_at entries i read lt is = is ∙ get_or_default entries i read None lt
 
-pub step_entry-requires-clause-inside : goal.step_entry-requires-clause-inside
-step_entry-requires-clause-inside c =
+pub step_entry-step-requires-clause-inside : goal.step_entry-step-requires-clause-inside
+step_entry-step-requires-clause-inside c =
     let table : Numbered = c.args.dag.now in
     let inside : c.pairs.i < length c.pairs.entries.items = omega (arith, c.pairs.entries.ok.0) in
     let listed : c.pairs.i < length (pairs_of table) = omega (arith, c.requires.long) in
@@ -28,21 +29,21 @@ step_entry-requires-clause-inside c =
     (if_there (entry_at c.args.entries.now.items c.pairs.i) (pair.1 < c.args.frozen.now.blocks) (c.pairs.i < length c.args.frozen.now.pluses)
     (c.requires.inside c.pairs.i pair.0 pair.1 at) (λ y_in. c.requires.joined.voting.held.there c.pairs.i pair.0 pair.1 at y_in))
 
-pub step_entry-requires-clause-live : goal.step_entry-requires-clause-live
-step_entry-requires-clause-live c = λ r.
+pub step_entry-step-requires-clause-live : goal.step_entry-step-requires-clause-live
+step_entry-step-requires-clause-live c = λ r.
     let inside : c.pairs.i < length c.pairs.entries.items = omega (arith, c.pairs.entries.ok.0) in
     subst (λ (e : Option (ℕ × ℕ)). holds e r ≤ count_of c.pairs.pool r) (sym (read_at c.pairs.entries.items c.pairs.i c.index-entry.result.now inside c.index-entry.ensures))
     (omega (arith, holds_held c.pairs.entries.items c.pairs.i r, c.pairs.invariant.counts r, c.requires.live r))
 
-pub step_entry-requires-clause-entry : goal.step_entry-requires-clause-entry
-step_entry-requires-clause-entry c = λ x y at.
+pub step_entry-step-requires-clause-entry : goal.step_entry-step-requires-clause-entry
+step_entry-step-requires-clause-entry c = λ x y at.
     let table : Numbered = c.args.dag.now in
     let inside : c.pairs.i < length c.pairs.entries.items = omega (arith, c.pairs.entries.ok.0) in
     let now : IsEntry (graph_of table) c.args.before.now x y c.pairs.pool (entry_at c.pairs.entries.items c.pairs.i) = rw (le-ltb c.pairs.i c.pairs.i (omega arith)) at (c.pairs.invariant.entry c.pairs.i x y at) in
     subst (λ (e : Option (ℕ × ℕ)). IsEntry (graph_of table) c.args.before.now x y c.pairs.pool e) (sym (read_at c.pairs.entries.items c.pairs.i c.index-entry.result.now inside c.index-entry.ensures)) now
 
-pub step_entry-requires-clause-room : goal.step_entry-requires-clause-room
-step_entry-requires-clause-room c = λ x y at.
+pub step_entry-step-requires-clause-room : goal.step_entry-step-requires-clause-room
+step_entry-step-requires-clause-room c = λ x y at.
     let pairs = pairs_of c.args.dag.now in
     let g : Graph = graph_of c.args.dag.now in
     omega (
@@ -52,6 +53,17 @@ step_entry-requires-clause-room c = λ x y at.
       moved_take g c.args.before.now c.args.members.now pairs c.pairs.i x y at,
       moved_take_le g c.args.before.now c.args.members.now pairs (c.pairs.i + 1),
     )
+
+pub note_sum-requires-clause-live : goal.note_sum-requires-clause-live
+note_sum-requires-clause-live c = λ r.
+    let inside : c.pairs.i < length c.pairs.entries.items = omega (arith, c.pairs.entries.ok.0) in
+    let e_is : c.index-entry.result.now ≡ entry_at c.pairs.entries.items c.pairs.i = read_at c.pairs.entries.items c.pairs.i c.index-entry.result.now inside c.index-entry.ensures in
+    let step : count_of c.step_entry-step.new.pool r + holds (entry_at c.pairs.entries.items c.pairs.i) r ≡ count_of c.pairs.pool r + holds c.step_entry-step.result.entry r =
+    subst (λ (e : Option (ℕ × ℕ)). count_of c.step_entry-step.new.pool r + holds e r ≡ count_of c.pairs.pool r + holds c.step_entry-step.result.entry r) e_is (c.step_entry-step.ensures.counts r) in
+    omega (arith, step, holds_held c.pairs.entries.items c.pairs.i r, c.pairs.invariant.counts r, c.requires.live r)
+
+pub note_sum-requires-clause-sum : goal.note_sum-requires-clause-sum
+note_sum-requires-clause-sum c = λ x y at. rw (le-ltb c.pairs.i c.pairs.i (omega arith)) at (c.pairs.invariant.sums c.pairs.i x y at)
 
 pub pairs-init : goal.pairs-init
 pairs-init c = record {
@@ -66,6 +78,8 @@ pairs-init c = record {
   fresh = fresh_none c.args.entries.now.items c.args.pool.now;
   live = omega arith;
   room = omega arith;
+  as_long = refl;
+  sums = λ j x y at. rw (le-ltb j 0 (omega arith)) (c.requires.sums j x y at);
 }
 
 pub pairs-preserved : goal.pairs-preserved
@@ -79,41 +93,44 @@ pairs-preserved c =
     let at_i : slice_get (pairs_of table) c.pairs.i ≡ Some (pair.0, pair.1) = some_pair (pairs_of table) c.pairs.i (omega (arith, c.requires.long)) in
     let e_is : c.index-entry.result.now ≡ entry_at c.pairs.entries.items c.pairs.i = read_at c.pairs.entries.items c.pairs.i c.index-entry.result.now inside c.index-entry.ensures in
     let enough : (r : ℕ) → held c.pairs.entries.items r ≤ count_of c.pairs.pool r = λ r. omega (arith, c.pairs.invariant.counts r, c.requires.live r) in
-    let others : (r : ℕ) → holds (entry_at c.pairs.entries.items c.pairs.i) r < count_of c.pairs.pool r → row_of c.step_entry.new.pool r ≡ row_of c.pairs.pool r =
-    λ r. subst (λ (e : Option (ℕ × ℕ)). holds e r < count_of c.pairs.pool r → row_of c.step_entry.new.pool r ≡ row_of c.pairs.pool r) e_is (c.step_entry.ensures.others r) in
-    let once : (r : ℕ) → IsOnce (count_of c.pairs.pool r) (holds (entry_at c.pairs.entries.items c.pairs.i) r) (holds c.step_entry.result r) =
-    λ r. subst (λ (e : Option (ℕ × ℕ)). IsOnce (count_of c.pairs.pool r) (holds e r) (holds c.step_entry.result r)) e_is (c.step_entry.ensures.once r) in
+    let others : (r : ℕ) → holds (entry_at c.pairs.entries.items c.pairs.i) r < count_of c.pairs.pool r → row_of c.step_entry-step.new.pool r ≡ row_of c.pairs.pool r =
+    λ r. subst (λ (e : Option (ℕ × ℕ)). holds e r < count_of c.pairs.pool r → row_of c.step_entry-step.new.pool r ≡ row_of c.pairs.pool r) e_is (c.step_entry-step.ensures.others r) in
+    let once : (r : ℕ) → IsOnce (count_of c.pairs.pool r) (holds (entry_at c.pairs.entries.items c.pairs.i) r) (holds c.step_entry-step.result.entry r) =
+    λ r. subst (λ (e : Option (ℕ × ℕ)). IsOnce (count_of c.pairs.pool r) (holds e r) (holds c.step_entry-step.result.entry r)) e_is (c.step_entry-step.ensures.once r) in
     record {
       long = c.pairs.invariant.long;
       unturned = λ j le.
           let other : j ≢ c.pairs.i = λ e. omega arith in
-          get_or-set_other c.pairs.entries.items c.pairs.i j c.step_entry.result None other ∙ c.pairs.invariant.unturned j (omega arith);
+          get_or-set_other c.pairs.entries.items c.pairs.i j c.step_entry-step.result.entry None other ∙ c.pairs.invariant.unturned j (omega arith);
       entry =
-          entries_step table before members c.pairs.i c.pairs.pool c.step_entry.new.pool c.pairs.entries.items c.step_entry.result inside enough others
-          (λ x y at is. c.step_entry.ensures.entry x y at) c.pairs.invariant.entry;
+          entries_step table before members c.pairs.i c.pairs.pool c.step_entry-step.new.pool c.pairs.entries.items c.step_entry-step.result.entry inside enough others
+          (λ x y at is. c.step_entry-step.ensures.entry x y at) c.pairs.invariant.entry;
       kept =
-          kept_step table before members c.pairs.i c.args.entries.now.items c.pairs.entries.items c.step_entry.result inside
+          kept_step table before members c.pairs.i c.args.entries.now.items c.pairs.entries.items c.step_entry-step.result.entry inside
           (λ x y at.
-          subst (λ (e : Option (ℕ × ℕ)). KeepIds g before members x y e c.step_entry.result)
-          (e_is ∙ c.pairs.invariant.unturned c.pairs.i (omega arith)) (c.step_entry.ensures.kept x y at))
+          subst (λ (e : Option (ℕ × ℕ)). KeepIds g before members x y e c.step_entry-step.result.entry)
+          (e_is ∙ c.pairs.invariant.unturned c.pairs.i (omega arith)) (c.step_entry-step.ensures.kept x y at))
           c.pairs.invariant.kept;
       counts = λ r.
-          let step : count_of c.step_entry.new.pool r + holds (entry_at c.pairs.entries.items c.pairs.i) r ≡ count_of c.pairs.pool r + holds c.step_entry.result r =
-          subst (λ (e : Option (ℕ × ℕ)). count_of c.step_entry.new.pool r + holds e r ≡ count_of c.pairs.pool r + holds c.step_entry.result r) e_is (c.step_entry.ensures.counts r) in
-          omega (arith, step, c.pairs.invariant.counts r, held_set c.pairs.entries.items c.pairs.i c.step_entry.result r inside);
+          let step : count_of c.step_entry-step.new.pool r + holds (entry_at c.pairs.entries.items c.pairs.i) r ≡ count_of c.pairs.pool r + holds c.step_entry-step.result.entry r =
+          subst (λ (e : Option (ℕ × ℕ)). count_of c.step_entry-step.new.pool r + holds e r ≡ count_of c.pairs.pool r + holds c.step_entry-step.result.entry r) e_is (c.step_entry-step.ensures.counts r) in
+          omega (arith, step, c.pairs.invariant.counts r, held_set c.pairs.entries.items c.pairs.i c.step_entry-step.result.entry r inside);
       others = λ r h.
           let some : holds (entry_at c.pairs.entries.items c.pairs.i) r < count_of c.pairs.pool r = omega (arith, holds_held c.pairs.entries.items c.pairs.i r, c.pairs.invariant.counts r) in
           others r some ∙ c.pairs.invariant.others r h;
-      alive = λ r h. c.step_entry.ensures.alive r (c.pairs.invariant.alive r h);
-      once = λ r. once_step c.pairs.entries.items c.pairs.i c.step_entry.result (count_of c.pairs.pool r) r inside (enough r) (c.pairs.invariant.once r) (once r);
-      fresh = fresh_step c.args.entries.now.items c.pairs.entries.items c.pairs.i c.step_entry.result c.args.pool.now c.pairs.pool c.step_entry.new.pool inside
+      alive = λ r h. c.step_entry-step.ensures.alive r (c.pairs.invariant.alive r h);
+      once = λ r. once_step c.pairs.entries.items c.pairs.i c.step_entry-step.result.entry (count_of c.pairs.pool r) r inside (enough r) (c.pairs.invariant.once r) (once r);
+      fresh = fresh_step c.args.entries.now.items c.pairs.entries.items c.pairs.i c.step_entry-step.result.entry c.args.pool.now c.pairs.pool c.step_entry-step.new.pool inside
           (c.pairs.invariant.unturned c.pairs.i (omega arith)) enough c.pairs.invariant.alive
-          (subst (λ (e : Option (ℕ × ℕ)). (r : ℕ) → count_of c.step_entry.new.pool r + holds e r ≡ count_of c.pairs.pool r + holds c.step_entry.result r) e_is c.step_entry.ensures.counts)
-          (λ r some. results_of (count_of c.pairs.pool r) (holds (entry_at c.pairs.entries.items c.pairs.i) r) (holds c.step_entry.result r) (once r) some)
-          (subst (λ (e : Option (ℕ × ℕ)). e ≡ None → IfSome c.step_entry.result (IsFresh c.pairs.pool c.step_entry.new.pool)) e_is c.step_entry.ensures.fresh)
+          (subst (λ (e : Option (ℕ × ℕ)). (r : ℕ) → count_of c.step_entry-step.new.pool r + holds e r ≡ count_of c.pairs.pool r + holds c.step_entry-step.result.entry r) e_is c.step_entry-step.ensures.counts)
+          (λ r some. results_of (count_of c.pairs.pool r) (holds (entry_at c.pairs.entries.items c.pairs.i) r) (holds c.step_entry-step.result.entry r) (once r) some)
+          (subst (λ (e : Option (ℕ × ℕ)). e ≡ None → IfSome c.step_entry-step.result.entry (IsFresh c.pairs.pool c.step_entry-step.new.pool)) e_is c.step_entry-step.ensures.fresh)
           c.pairs.invariant.fresh;
-      live = omega (arith, c.step_entry.ensures.live pair.0 pair.1 at_i, c.pairs.invariant.live, moved_take g before members (pairs_of table) c.pairs.i pair.0 pair.1 at_i);
-      room = omega (arith, c.step_entry.ensures.spare pair.0 pair.1 at_i, c.pairs.invariant.room, moved_take g before members (pairs_of table) c.pairs.i pair.0 pair.1 at_i);
+      live = omega (arith, c.step_entry-step.ensures.live pair.0 pair.1 at_i, c.pairs.invariant.live, moved_take g before members (pairs_of table) c.pairs.i pair.0 pair.1 at_i);
+      as_long = c.note_sum.ensures.as_long ∙ c.pairs.invariant.as_long;
+      sums = sums_step table before members c.pairs.i c.pairs.sums c.note_sum.new.sums c.note_sum.ensures.others
+          (λ x y at. c.note_sum.ensures.sum x y at) c.pairs.invariant.sums;
+      room = omega (arith, c.step_entry-step.ensures.spare pair.0 pair.1 at_i, c.pairs.invariant.room, moved_take g before members (pairs_of table) c.pairs.i pair.0 pair.1 at_i);
     }
 
 pub returns : goal.returns
@@ -127,5 +144,9 @@ returns c = record {
   others = c.pairs.invariant.others;
   once = c.pairs.invariant.once;
   fresh = c.pairs.invariant.fresh;
+  sums = λ i x y at.
+      let listed : i < length (pairs_of c.args.dag.now) = slice_get_within (pairs_of c.args.dag.now) i (x, y) at in
+      rw (lt-ltb i c.pairs.i (omega (arith, c.requires.long))) at (c.pairs.invariant.sums i x y at);
+  as_long = c.pairs.invariant.as_long;
   live = omega (arith, c.pairs.invariant.live, moved_take_le (graph_of c.args.dag.now) c.args.before.now c.args.members.now (pairs_of c.args.dag.now) c.pairs.i);
 }

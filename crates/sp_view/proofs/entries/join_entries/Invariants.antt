@@ -1,10 +1,11 @@
-use Rattle.std.proofs.Common.{◌≡◌, ◌<◌, ◌≤◌, ◌+◌, ℕ, take}
+use Rattle.std.proofs.Common.{◌≡◌, ◌<◌, ◌≤◌, ◌+◌, ℕ, length, take}
 use Rattle.std.specs.Prelude.{vec_len}
 use Rattle.sp_dag.specs.Numbered.{graph_of, pairs_of}
 use Rattle.sp_view.specs.Stored.{count_of, row_of, spare, live}
 use Rattle.sp_view.specs.Moving.{moved_rows}
 use Rattle.sp_view.specs.Views.{entry_at, held, AreFresh, AreKeptIds}
 use Rattle.sp_view.proofs.Held.{AreEntriesTo}
+use Rattle.sp_view.proofs.KeptSums.{AreSumsTo}
 use Rattle.sp_view.proofs.entries.join_entries.Given as goal
 
 abbrev pub invariant-pairs : goal.invariant-pairs
@@ -18,6 +19,8 @@ invariant-pairs l = record {
   alive : (r : ℕ) → 0 < count_of l.fn.pool r → 0 < count_of l.pool r;
   once : (r : ℕ) → held l.entries.items r ≤ 1;
   fresh : AreFresh l.fn.entries.items l.entries.items l.fn.pool l.pool;
+  as_long : length l.sums ≡ length l.fn.sums;
+  sums : AreSumsTo l.dag l.before l.members l.i l.sums;
   live : live l.pool ≤ live l.fn.pool + moved_rows (graph_of l.dag) l.before l.members (take l.i (pairs_of l.dag));
   room : spare l.fn.pool ≤ spare l.pool + moved_rows (graph_of l.dag) l.before l.members (take l.i (pairs_of l.dag));
 }

@@ -18,6 +18,9 @@ returns-then-is_none-clause-rows c = λ x y at.
     (c.asked-todo.ensures.kept c.args.before.now x y at c.requires.joined.joins c.requires.joined.row (c.requires.sides x y at)).1 in
     unasked_sides g c.args.before.now c.args.members.now x y ups downs c.requires.joined.row c.requires.joined.voting.asked (c.requires.sides x y at) kept
 
-pub asked_entry-requires-clause-asked : goal.asked_entry-requires-clause-asked
-asked_entry-requires-clause-asked c = λ x y at.
+pub asked_entry-rows-requires-clause-asked : goal.asked_entry-rows-requires-clause-asked
+asked_entry-rows-requires-clause-asked c = λ x y at.
     c.asked-todo.ensures.kept c.args.before.now x y at c.requires.joined.joins c.requires.joined.row (c.requires.sides x y at)
+
+pub returns-then-is_none-clause-same : goal.returns-then-is_none-clause-same
+returns-then-is_none-clause-same c = λ _. returns-then-is_none-clause-rows c

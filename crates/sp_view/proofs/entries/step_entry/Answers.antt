@@ -1,6 +1,8 @@
-use Rattle.std.proofs.Common.{ℕ, Option, Some, arith, subst}
+use Rattle.std.proofs.Common.{◌∙◌, ℕ, Option, Some, arith, subst, sym}
 use Rattle.sp_dag.specs.Numbered.{graph_of}
 use Rattle.sp_model.specs.Graph.{Graph}
+use Rattle.sp_view.specs.Settled.{AreSides}
+use Rattle.sp_view.specs.Stored.{row_of}
 use Rattle.sp_view.specs.Views.{IsEntry}
 use Rattle.sp_view.proofs.Moves.{moved_changes, moves_old}
 use Rattle.sp_view.proofs.entries.step_entry.Goals as goal
@@ -12,9 +14,9 @@ returns-in-Some-clause-spare c = λ x y at.
     subst (λ (e : Option (ℕ × ℕ)). IsEntry g c.args.before.now x y c.args.pool.now e) c.in-Some.is (c.requires.entry x y at) in
     omega (
       arith,
-      c.joined_entry.ensures.spare,
+      c.joined_entry-joined.ensures.spare,
       moves_old g c.args.before.now c.args.members.now x y entry.0,
-      moved_changes g c.args.before.now c.args.members.now x y c.requires.joined.row c.requires.joined.voting.asked.row c.in-Some.rows c.joined_entry.result (c.joined_entry.ensures.kept x y at),
+      moved_changes g c.args.before.now c.args.members.now x y c.requires.joined.row c.requires.joined.voting.asked.row c.in-Some.rows c.joined_entry-joined.result.rows (c.joined_entry-joined.ensures.kept x y at),
     )
 
 pub returns-in-Some-clause-live : goal.returns-in-Some-clause-live
@@ -24,7 +26,15 @@ returns-in-Some-clause-live c = λ x y at.
     subst (λ (e : Option (ℕ × ℕ)). IsEntry g c.args.before.now x y c.args.pool.now e) c.in-Some.is (c.requires.entry x y at) in
     omega (
       arith,
-      c.joined_entry.ensures.live,
+      c.joined_entry-joined.ensures.live,
       moves_old g c.args.before.now c.args.members.now x y entry.0,
-      moved_changes g c.args.before.now c.args.members.now x y c.requires.joined.row c.requires.joined.voting.asked.row c.in-Some.rows c.joined_entry.result (c.joined_entry.ensures.kept x y at),
+      moved_changes g c.args.before.now c.args.members.now x y c.requires.joined.row c.requires.joined.voting.asked.row c.in-Some.rows c.joined_entry-joined.result.rows (c.joined_entry-joined.ensures.kept x y at),
     )
+
+pub returns-in-Some-clause-same : goal.returns-in-Some-clause-same
+returns-in-Some-clause-same c = λ same x y at.
+    let g : Graph = graph_of c.args.dag.now in
+    let entry : IsEntry g c.args.before.now x y c.args.pool.now (Some c.in-Some.rows) =
+    subst (λ (e : Option (ℕ × ℕ)). IsEntry g c.args.before.now x y c.args.pool.now e) c.in-Some.is (c.requires.entry x y at) in
+    let still : AreSides g c.args.members.now x y (row_of c.args.pool.now c.in-Some.rows.0) (row_of c.args.pool.now c.in-Some.rows.1) = c.joined_entry-joined.ensures.same same x y at in
+    record { inside = entry.0; plus_is = sym entry.1.plus_is ∙ still.plus_is; minus_is = sym entry.1.minus_is ∙ still.minus_is }

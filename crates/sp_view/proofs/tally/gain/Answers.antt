@@ -12,8 +12,7 @@ returns-in-Some c =
     omega (
       arith,
       ints,
-      c.share.ensures,
-      c.share-in-Some.ensures,
+      c.vote_of.ensures,
       bit_small (has c.args.plus.now c.in-Some.place),
       bit_small (has c.args.minus.now c.in-Some.place),
       lone_meet c.args.row.now c.args.plus.now c.in-Some.place lone,

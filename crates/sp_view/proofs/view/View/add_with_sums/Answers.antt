@@ -12,7 +12,7 @@ use Rattle.sp_view.proofs.Brought.{moved_brought}
 use Rattle.sp_view.proofs.Growing.{entries_grown, view_joined}
 use Rattle.sp_view.proofs.Moves.{all_moved_few}
 use Rattle.sp_view.proofs.Pools.{row_of_words}
-use Rattle.sp_view.proofs.view.View.add.Goals as goal
+use Rattle.sp_view.proofs.view.View.add_with_sums.Goals as goal
 
 pub returns-in_err-reserve-2-clause-others : goal.returns-in_err-reserve-2-clause-others
 returns-in_err-reserve-2-clause-others c = λ r _. row_of_words c.args.pool.now c.reserve-2.new.self r (ap (λ (l : List Counted). words_of l r) c.in_err-reserve-2.ensures.rows)
