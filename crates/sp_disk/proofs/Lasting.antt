@@ -1,8 +1,8 @@
 -- What lasts over a run of a disk's calls.
-use Rattle.std.proofs.Common.{◌≡◌, inl, inr, ℕ, ◌<◌, ◌≤◌, List, Option, Some, refl, sym, subst, arith}
+use Rattle.std.proofs.Common.{◌≡◌, inl, inr, ℕ, ◌≤◌, List, Option, Some, refl, sym, subst, arith}
 use Rattle.std.proofs.lemmas.Bool.{cases_lt}
 use Rattle.std.specs.Prelude.{IfSome}
-use Rattle.sp_disk.specs.Images.{Among, Same}
+use Rattle.sp_disk.specs.Images.{Among}
 use Rattle.sp_disk.specs.Moments.{Ebbs, IsMoment, Lasts, Leaves, Looks, Moment}
 use Rattle.sp_disk.proofs.Runs.{same_then, still}
 
@@ -117,7 +117,7 @@ looks_ebb old mid new law first second = record {
     | inl behind ↦ second.time.ebbs.falls t u behind le until image left
     | inr t_le ↦
         let has : (v : ℕ) → t ≤ v → v ≤ mid.clock → mid.at v image → new.at t image = λ v v_from v_until at_v.
-            (second.time.ebbs.past t t_le).1 image (first.falls t v past v_from v_until image at_v) in
+        (second.time.ebbs.past t t_le).1 image (first.falls t v past v_from v_until image at_v) in
         elim (cases_lt mid.clock u) [
           | inl later ↦ has mid.clock t_le (omega arith) (here mid law image (second.within u (omega (arith, later)) until image left))
           | inr u_le ↦ has u le u_le ((second.time.ebbs.past u u_le).0 image left)

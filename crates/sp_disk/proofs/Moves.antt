@@ -51,9 +51,9 @@ syncs k k' more =
     let is : state_of k' ≡ state s.reads s.reads [] = state_is k k' Sync more in
     let one : (image : List ℕ) → IsImage (state_of k') image → image ≡ s.reads = λ image left. synced_only s.reads image (subst (λ (t : State). IsImage t image) is left) in
     let fewer : Among (IsImage s) (IsImage (state_of k')) = λ image left.
-        let same = one image left in
-        let bytes : IsBytes s.reads = subst IsBytes same left.bytes in
-        subst (IsImage s) (sym same) (read_image s (is_long (state k.start k.start []) k.events (starts_long k.start)) bytes) in
+    let same = one image left in
+    let bytes : IsBytes s.reads = subst IsBytes same left.bytes in
+    subst (IsImage s) (sym same) (read_image s (is_long (state k.start k.start []) k.events (starts_long k.start)) bytes) in
     record {
       ok = told_only s.reads (λ bytes. EachIs bytes (IsImage (state_of k'))) (λ bytes. one);
       looks = record {
