@@ -489,14 +489,14 @@ function reveal(n) {
   if (y < edge || y + box.height > pane.clientHeight - edge) pane.scrollTop += y - pane.clientHeight / 2;
 }
 
-// The nearest block in a direction, straight ahead rather than aside.
+// Upwards and downwards the nearest block of the next row, aside the next one of the same row.
 function towards(across, down) {
   const here = blocks[state.cursor ?? state.one ?? 0];
   let best = null, least = Infinity;
   blocks.forEach((block, n) => {
     const dx = block.left - here.left, dy = block.top - here.top, ahead = dx * across + dy * down;
     if (!hasCome(n) || ahead <= 0) return;
-    const aside = Math.abs(dx * down) + Math.abs(dy * across), far = ahead + 3 * aside;
+    const aside = Math.abs(dx * down) + Math.abs(dy * across), far = down ? ahead * 1000 + aside : aside * 1000 + ahead;
     if (far < least) { least = far; best = n; }
   });
   return best;
