@@ -57,7 +57,7 @@ from formats import (
     spelled,
     transaction,
 )
-from session import Path, Session, hold, is_launcher, program
+from session import Path, Session, hold, is_launcher, ready
 
 __all__ = ["Ledger", "genesis", "block", "mined", "transaction", "locked", "lock_of"]
 
@@ -107,7 +107,7 @@ class Ledger:
     ) -> None:
         self.head = self._head(file, genesis, bits, profile, fresh)
         self.genesis_id = sha256(self.head.genesis)
-        name, held = program(), []
+        name, held = ready(), []
         if not is_launcher(name) and not os.fspath(file).startswith("-"):
             try:
                 held = [hold(file)]

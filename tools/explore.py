@@ -29,6 +29,7 @@ sys.path.append(str(pathlib.Path(__file__).resolve().parent.parent / "examples")
 from errors import LedgerError
 from page.data import data_of
 from page.whole import json_of, page_of
+from session import ready
 from subject import KINDS, subject_of
 
 
@@ -59,6 +60,7 @@ def main(words: List[str]) -> int:
     parser.add_argument("--open", action="store_true", help="open the page in the browser")
     given = parser.parse_args(words)
     try:
+        ready()
         data = data_of(subject_of(given.input, given.kind))
         if given.data:
             write(json_of(data) + "\n", given.output)

@@ -31,6 +31,17 @@ def is_launcher(name: str) -> bool:
     return os.path.exists(name) and os.path.samefile(name, LAUNCHER)
 
 
+def ready() -> str:
+    """The program, once it is built: where that is bin/spectre's to do, it says on standard error how far it
+    is."""
+    name = program()
+    if is_launcher(name):
+        code = subprocess.run([name, "make", "0", "0", "1"], stdin=subprocess.DEVNULL, stdout=subprocess.DEVNULL).returncode
+        if code:
+            raise ended(code)
+    return name
+
+
 def hold(file: Path, alone: bool = True) -> int:
     """Opens a file and takes the lock that bin/spectre takes: alone as for `node`, or with others as for
     `show`. Answers the open file; the lock lasts until it and all that inherit it are closed."""

@@ -496,7 +496,7 @@ function towards(across, down) {
   blocks.forEach((block, n) => {
     const dx = block.left - here.left, dy = block.top - here.top, ahead = dx * across + dy * down;
     if (!hasCome(n) || ahead <= 0) return;
-    const aside = Math.abs(dx * down) + Math.abs(dy * across), far = down ? ahead * 1000 + aside : aside * 1000 + ahead;
+    const far = down ? ahead * 1000 + Math.abs(dx) : dy ? Infinity : ahead;
     if (far < least) { least = far; best = n; }
   });
   return best;
