@@ -74,6 +74,8 @@ def found_head(file: Path) -> Optional[Head]:
     """The head of the journal in a file, or None where the file is empty or isn't there. Where it holds
     something else, the smallest head: the program then says what is wrong."""
     try:
+        if not os.path.isfile(file):
+            return None
         with open(file, "rb") as opened:
             first = opened.read(LONGEST_HEAD)
     except OSError:
@@ -84,6 +86,12 @@ def found_head(file: Path) -> Optional[Head]:
         return read_journal_head(Cursor(first))
     except NotThisForm:
         return Head(1, 0, EMPTY)
+
+
+def is_file(file: Path) -> bool:
+    """Whether a name is that of a file, or of none yet: what bin/spectre locks."""
+    name = os.fspath(file)
+    return bool(name) and not name.startswith("-") and (os.path.isfile(name) or not os.path.exists(name))
 
 
 class Ledger:
@@ -108,7 +116,7 @@ class Ledger:
         self.head = self._head(file, genesis, bits, profile, fresh)
         self.genesis_id = sha256(self.head.genesis)
         name, held = ready(), []
-        if not is_launcher(name) and not os.fspath(file).startswith("-"):
+        if not is_launcher(name) and is_file(file):
             try:
                 held = [hold(file)]
             except OSError:  # a file that can't be opened: the program says so
@@ -303,7 +311,7 @@ def main(words: List[str]) -> int:
     parser.add_argument("--fresh", action="store_true", help="make a new journal over other bytes")
     parser.add_argument("--timeout", type=float, metavar="S", help="how many seconds an answer may take")
     parser.add_argument("request", nargs="*", metavar="REQUEST")
-    given = parser.parse_args(words)
+    given = parser.parse_intermixed_args(words)
     try:
         first = EMPTY if given.genesis == "empty" else given.genesis and hexadecimal(given.genesis)
         with Ledger(given.file, first, given.bits, given.profile, given.fresh, given.timeout) as ledger:

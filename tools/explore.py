@@ -8,7 +8,9 @@
 The page needs no network and no other file. It shows the graph, the words of each two blocks, the states of
 transactions and the balances behind each arrival; tools/README.md has its keys, and the form of the data that
 stand in it. Each word, state and balance was written by the program, which is asked for them behind each
-arrival (watch.py). Of an input with a fault the page shows the program's line, and what stands before it.
+arrival (watch.py). Of an input with a fault the page shows the program's line, and what stands before it. Where the answers
+behind all arrivals would have more than five million lines, or as many as `--lines` says, it is asked behind
+every second arrival, every third, and so on.
 
 With `--data` the data alone are written, as JSON. What the input is, is seen by its first bytes, or said by
 `--kind`. A journal is read under the lock of bin/spectre. The status is 2 where nothing can be shown.
@@ -31,6 +33,7 @@ from page.data import data_of
 from page.whole import json_of, page_of
 from session import ready
 from subject import KINDS, subject_of
+from watch import MOST_LINES
 
 
 def write(text: str, target: str) -> None:
@@ -56,12 +59,13 @@ def main(words: List[str]) -> int:
     parser.add_argument("input", metavar="FILE", help="a scenario, a feed or a journal; `-` is standard input")
     parser.add_argument("-o", "--output", default="-", metavar="PAGE", help="the page's file, else standard output")
     parser.add_argument("--kind", choices=KINDS, help="what the input is")
+    parser.add_argument("--lines", type=int, default=MOST_LINES, metavar="N", help="how many lines of answers are asked for at most")
     parser.add_argument("--data", action="store_true", help="write the data alone, as JSON")
     parser.add_argument("--open", action="store_true", help="open the page in the browser")
     given = parser.parse_args(words)
     try:
         ready()
-        data = data_of(subject_of(given.input, given.kind))
+        data = data_of(subject_of(given.input, given.kind), given.lines)
         if given.data:
             write(json_of(data) + "\n", given.output)
         else:

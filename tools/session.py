@@ -187,6 +187,7 @@ class Session:
         self.process.kill()
         self.process.wait()
         self.release()
+        self.said.close()
 
     def release(self) -> None:
         self.is_over = True

@@ -78,10 +78,12 @@ def told(data: bytes) -> Tuple[int, List[bytes], str]:
         given.seek(0)
         process = subprocess.Popen([program(), "replay"], stdin=given, stdout=subprocess.PIPE, stderr=said)
         assert process.stdout
-        lines, last = [], b""
+        lines: List[bytes] = []
+        last, same = b"", {}  # type: bytes, Dict[bytes, bytes]
         for last in process.stdout:
             if last.startswith(ARRIVALS):
-                lines.append(last.rstrip(b"\n"))
+                line = last.rstrip(b"\n")
+                lines.append(same.setdefault(line, line))
         status = process.wait()
         said.seek(0)
         if status not in TELLING:
@@ -199,7 +201,7 @@ def subject_of(path: Path, kind: Optional[str] = None) -> Subject:
     is_input = os.fspath(path) == "-"
     data = sys.stdin.buffer.read() if is_input else pathlib.Path(path).read_bytes()
     kind = kind or kind_of(data)
-    name = f"a {kind}" if is_input else pathlib.Path(path).name
+    name = f"a {kind}" if is_input else os.fsencode(pathlib.Path(path).name).decode("utf-8", "replace")
     if kind == "journal" and is_input:
         raise Misfit("a journal is a file")
     if kind == "journal":

@@ -477,7 +477,7 @@ class Command(Case):
 
     def test_errors(self) -> None:
         self.assertEqual(self.run_on("report"), (1, [{"error": "NoGenesis", "what": f"{self.file} holds no journal, so a genesis block has to be named"}]))
-        lines = "offer 00\nhello\ntx 12\nvote zz zz\noffer zz\nreport\n"
+        lines = "offer 01\nhello\ntx 12\nvote zz zz\noffer zz\nreport\n"
         status, found = self.run_on("--genesis", "empty", given=lines)
         self.assertEqual((status, [each.get("error") for each in found]), (1, ["BlockShort"] + ["NoRequest"] * 4 + [None]))
         status, found = self.run_on("--bits", "9", "report")

@@ -29,11 +29,12 @@ sys.path.append(str(EXAMPLES))
 
 from devtools import NoBrowser, Page
 from explore import main as explore
-from formats import Cursor, block, frame, frames_of, head, lock_of, read_block, read_head, sha256, spelled, transaction
+from formats import Cursor, block, frame, frames_of, head, read_head, sha256, spelled, transaction
 from session import program
 
 SCENARIOS = ("double_spend.txt", "overturned.txt", "late.txt", "cycle.txt", "payment.txt")
-QUICK = 0.6  # seconds that a click or a step may take with 511 blocks
+QUICK = 1.0  # seconds that a click or a step may take with 511 blocks, on a busy machine
+LINES = 2_000_000  # of answers that are asked for on 511 blocks
 TEXTS = [
     "<script>alert(1)</script>",
     '"><img/src=x/onerror=alert(1)>',
@@ -100,7 +101,7 @@ class Shown:
     def open(self, name: str, data: bytes, kind: str = "scenario") -> float:
         source = os.path.join(self.folder, name)
         pathlib.Path(source).write_bytes(data)
-        see(f"{name}: a page is written", explore([source, "--kind", kind, "-o", self.path]), 0)
+        see(f"{name}: a page is written", explore([source, "--kind", kind, "--lines", str(LINES), "-o", self.path]), 0)
         self.name = name
         self.browser.troubles()
         took = self.browser.open(self.path)
@@ -243,6 +244,7 @@ def try_keys(page: Shown) -> None:
         if states:
             see(f"keys: states, {at}", list(page.states().values()), states)
         if at == "After arrival 3":
+            page.js("document.querySelector('aside').scrollTop = 0")
             page.picture("explorer")
             page.browser.media("dark")
             page.picture("explorer-dark")
@@ -375,8 +377,6 @@ def main(words: List[str]) -> int:
 def many(page: Shown) -> None:
     from timing import feeds, graphs
 
-    if os.environ.get("FEW"):
-        return
     try_many(page, "drawn-511", run("make", "511", "1", "4"), "scenario")
     try_many(page, "wide-511", run("make", "511", "3", "16"), "scenario")
     try_many(page, "star-511", feeds.unpaid(graphs.star(511)).text, "feed")

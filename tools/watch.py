@@ -7,7 +7,7 @@ too long, they stand behind every second arrival, every third, and so on: such a
 """
 
 import re
-from typing import Dict, Iterator, List, NamedTuple, Optional, Tuple
+from typing import Dict, Iterator, List, NamedTuple, Optional, Set, Tuple
 
 import answers
 from answers import pair_lines
@@ -16,7 +16,8 @@ from errors import Refused
 from session import Session
 from subject import Misfit, Subject
 
-MOST_LINES = 25_000_000  # of answers to all questions
+MOST_LINES = 5_000_000  # of answers to all questions, where no other number is named
+REPORTED = 4  # as so many lines of pairs counts what a report may have to say of a transaction or an output
 MOST_STOPS = 600
 MOST_UNKEPT = 2_000  # arrivals that are listed though nothing was kept
 
@@ -55,9 +56,9 @@ class Kept(NamedTuple):
 class Watch:
     """A run of the program over the blocks of a subject, and all that was heard."""
 
-    def __init__(self, subject: Subject) -> None:
+    def __init__(self, subject: Subject, most_lines: int = MOST_LINES) -> None:
         assert subject.head
-        self.subject = subject
+        self.subject, self.most_lines = subject, most_lines
         self.arrivals: List[Arrived] = []
         self.stops: List[Stop] = []
         self.unlisted: Dict[str, int] = {}  # arrivals beyond those that are listed, by the first word
@@ -71,8 +72,8 @@ class Watch:
         self.locks: Dict[bytes, int] = {}
         self.pairs: Dict[bytes, int] = {}
         self.words = bytearray()
-        self.states: Dict[bytes, str] = {}
-        self.balances: Dict[bytes, int] = {}
+        self.accepted: Set[bytes] = set()
+        self.left: Dict[bytes, int] = {}  # the balances that aren't 0
         self.new_txs: List[bytes] = []
         self.new_locks: List[bytes] = []
 
@@ -102,9 +103,9 @@ class Watch:
                 count, coins = counts_in(data)
                 txs, outputs = txs + count, outputs + coins
             if len(sizes) < 511 + MOST_UNKEPT:
-                sizes.append(len(seen) * (len(seen) - 1) // 2 + txs + outputs)
+                sizes.append(len(seen) * (len(seen) - 1) // 2 + REPORTED * (txs + outputs))
         every, stops = 1, len(sizes)
-        while sum(sizes[::every]) > MOST_LINES and every < len(sizes):
+        while sum(sizes[::every]) > self.most_lines and every < len(sizes):
             every += 1
         return every, stops > MOST_STOPS
 
@@ -220,28 +221,27 @@ class Watch:
         self.words = now
         return changed
 
-    def hear_states(self, session: Session, accepted: set) -> Dict[str, List[int]]:
-        turned = [tx for tx, state in self.states.items() if (state == "accepted") != (tx in accepted)]
-        asked, self.new_txs = self.new_txs + turned, []
+    def hear_states(self, session: Session, accepted: Set[bytes]) -> Dict[str, List[int]]:
+        asked = self.new_txs + sorted((accepted ^ self.accepted) - set(self.new_txs))
+        self.new_txs, self.accepted = [], accepted
         changed: Dict[str, List[int]] = {}
         for found in answers.tx_states(session, asked):
-            if (found.state == "accepted") != (found.tx in accepted):
+            if found.tx not in self.txs or (found.state == "accepted") != (found.tx in accepted):
                 raise Misfit(f"`{found.line}` doesn't fit the report")
-            self.states[found.tx] = found.state
             changed.setdefault(found.state, []).append(self.txs[found.tx][0])
         return changed
 
     def hear_balances(self, session: Session, left: Dict[bytes, int]) -> List[Tuple[int, int]]:
-        gone = [lock for lock, amount in self.balances.items() if amount and lock not in left]
-        asked, self.new_locks = [lock for lock in self.new_locks if lock not in left] + gone, []
-        found = dict(left)
+        changed = dict(left.items() - self.left.items())
+        asked = [lock for lock in self.new_locks if lock not in left] + sorted(self.left.keys() - left.keys())
+        self.new_locks, self.left = [], left
         for each in answers.balances(session, asked):
             if each.amount:
                 raise Misfit(f"`{each.line}` doesn't fit the report")
-            found[each.lock] = each.amount
-        changed = [(self.locks[lock], amount) for lock, amount in found.items() if self.balances.get(lock) != amount]
-        self.balances.update(found)
-        return sorted(changed)
+            changed[each.lock] = each.amount
+        if not changed.keys() <= self.locks.keys():
+            raise Misfit("the report has a lock that no output has")
+        return sorted((self.locks[lock], amount) for lock, amount in changed.items())
 
 
 def counts_in(data: bytes) -> Tuple[int, int]:

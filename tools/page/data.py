@@ -6,7 +6,7 @@ from typing import Any, Dict, List, Optional, Union
 from drawing.layers import quick_layout_of
 from formats import ReadTx
 from subject import Subject
-from watch import Arrived, Stop, Watch
+from watch import MOST_LINES, Arrived, Stop, Watch
 
 FORM = 1
 WIDTH = 78  # of a block, in the layout
@@ -19,10 +19,10 @@ class Placed:
     parents: List[int]
 
 
-def data_of(subject: Subject) -> Dict[str, Any]:
+def data_of(subject: Subject, most_lines: int = MOST_LINES) -> Dict[str, Any]:
     head, watch = subject.head, None
     if head is not None:
-        watch = Watch(subject).run()
+        watch = Watch(subject, most_lines).run()
     data = {
         "form": FORM,
         "kind": subject.kind,

@@ -382,7 +382,7 @@ function paintChosen() {
 
 const keyOfTx = n => txs[n].key ??= [txs[n].name, txs[n].id, ...txs[n].outputs.map(each => `${locks[each[1]].name} ${locks[each[1]].id}`), ...txs[n].inputs.map(each => preimage(each[2])), ...carriers[n].map(each => `${blocks[each].name} ${blocks[each].id}`)].join(" ").toLowerCase();
 const keyOfLock = n => `${locks[n].name ?? ""} ${locks[n].id}`.toLowerCase();
-const fits = (key, word) => state.query.toLowerCase().split(/\s+/).every(each => key.includes(each) || each === word);
+const fits = (key, word) => state.query.trim().toLowerCase().split(/\s+/).every(each => key.includes(each) || each === word);
 
 function lockRow(n) {
   const amount = amountOf(n) ?? "not asked", row = make("div", { class: amount === "0" || amount === "not asked" ? "row zero" : "row", "data-lock": n });
@@ -405,8 +405,8 @@ const LISTS = {
 };
 
 function paintList(list) {
-  const found = [];
-  for (let n = 0; n < list.count(); n++) if (list.fits(n)) found.push(n);
+  const found = [], asks = state.query.trim() !== "";
+  for (let n = 0; n < list.count(); n++) if (!asks || list.fits(n)) found.push(n);
   const rows = found.slice(0, state.shown).map(list.row);
   const parts = [make("p", { class: "soft", id: "found" }, `${found.length} of ${list.count()} ${list.name}`), ...rows];
   if (found.length > state.shown) parts.push(button(`${Math.min(PAGE, found.length - state.shown)} more`, () => { state.shown += PAGE; paintSide(); }));
