@@ -16,7 +16,7 @@ from formats import frame
 Path = Union[str, "os.PathLike[str]"]
 
 LAUNCHER = pathlib.Path(__file__).resolve().parent.parent / "bin" / "spectre"
-PIECE = 1 << 16
+PIECE = 1 << 18
 MOST_SAID = 10_000  # bytes of standard error that an error tells
 TO_END = 60.0  # seconds that a program has to end once its output has ended
 
@@ -98,7 +98,11 @@ class Session:
     def take(self, count: int) -> List[bytes]:
         """The next so many lines."""
         self.wait_for(count)
-        return [self.lines.popleft() for _ in range(count)]
+        if count < len(self.lines):
+            return [self.lines.popleft() for _ in range(count)]
+        taken = list(self.lines)
+        self.lines.clear()
+        return taken
 
     def wait_for(self, count: int) -> None:
         until = None if self.timeout is None else time.monotonic() + self.timeout

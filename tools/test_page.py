@@ -381,6 +381,8 @@ def many(page: Shown) -> None:
     try_many(page, "wide-511", run("make", "511", "3", "16"), "scenario")
     try_many(page, "star-511", feeds.unpaid(graphs.star(511)).text, "feed")
     try_many(page, "parents-511", feeds.unpaid(graphs.crowd(511)).text, "feed")
+    rivals = feeds.contested(graphs.in_step(511), lambda number: number, 256, 1)
+    try_many(page, "payments-511", rivals.text, "feed")
 
 
 if __name__ == "__main__":

@@ -6,13 +6,13 @@ word, state and balance that is kept here stands in a line of the program. Where
 too long, they stand behind every second arrival, every third, and so on: such a moment is a stop.
 """
 
-import re
-from typing import Dict, Iterator, List, NamedTuple, Optional, Set, Tuple
+from typing import Dict, List, NamedTuple, Optional, Set, Tuple
 
 import answers
 from answers import pair_lines
 from formats import NotThisForm, ReadBlock, ReadTx, frame, head, read_block, sha256
 from errors import Refused
+from pairs import Pairs
 from session import Session
 from subject import Misfit, Subject
 
@@ -20,10 +20,6 @@ MOST_LINES = 5_000_000  # of answers to all questions, where no other number is 
 REPORTED = 4  # as so many lines of pairs counts what a report may have to say of a transaction or an output
 MOST_STOPS = 600
 MOST_UNKEPT = 2_000  # arrivals that are listed though nothing was kept
-
-LETTERS = {b"before": ord("b"), b"after": ord("a"), b"tie": ord("t")}
-TURNED = {b"before": ord("a"), b"after": ord("b"), b"tie": ord("t")}
-
 
 class Arrived(NamedTuple):
     """A block that was sent: the program's line, the kept block's number or None, and the numbers of those
@@ -70,8 +66,7 @@ class Watch:
         self.txs: Dict[bytes, Tuple[int, ReadTx]] = {}
         self.carriers: List[List[int]] = []
         self.locks: Dict[bytes, int] = {}
-        self.pairs: Dict[bytes, int] = {}
-        self.words = bytearray()
+        self.pairs = Pairs()
         self.accepted: Set[bytes] = set()
         self.left: Dict[bytes, int] = {}  # the balances that aren't 0
         self.new_txs: List[bytes] = []
@@ -171,14 +166,8 @@ class Watch:
     def become_present(self, numbers: List[int]) -> None:
         for number in numbers:
             block = self.kept[number].block
-            for rank, other in enumerate(self.ranks):
-                mine, its = block.id.hex().encode(), self.kept[other].block.id.hex().encode()
-                pair = len(self.ranks) * (len(self.ranks) - 1) // 2 + rank
-                # The program names the block of the smaller id first; a pair here is that of the smaller rank.
-                line = b"vote %s %s " % ((its, mine) if its < mine else (mine, its))
-                self.pairs[line] = pair if its < mine else ~pair
+            self.pairs.add(block.id, len(self.ranks))
             self.ranks.append(number)
-            self.words.extend(b"?" * (len(self.ranks) - 1))
             for tx in block.txs:
                 self.see(tx)
 
@@ -197,29 +186,11 @@ class Watch:
         report = answers.report(session)
         if (report.present, report.waiting) != (len(self.ranks), len(self.waiting)):
             raise Misfit(f"{report.present} blocks are present and {report.waiting} wait by the report")
-        words = self.hear_words(pair_lines(session))
+        words = self.pairs.hear(pair_lines(session))
         states = self.hear_states(session, set(report.accepted))
         balances = self.hear_balances(session, report.balances)
         counted = (report.present, report.waiting, len(report.accepted), len(report.balances))
         self.stops.append(Stop(arrivals, *counted, words, states, balances))
-
-    def hear_words(self, lines: List[bytes]) -> str:
-        """Takes the words of all pairs, and answers which have changed."""
-        if len(lines) != len(self.words):
-            raise Misfit(f"the program lists {len(lines)} pairs, and there are {len(self.words)}")
-        now, pairs = bytearray(self.words), self.pairs
-        try:
-            for line in lines:
-                pair = pairs[line[:135]]
-                if pair >= 0:
-                    now[pair] = LETTERS[line[135:]]
-                else:
-                    now[~pair] = TURNED[line[135:]]
-        except KeyError:
-            raise Misfit(f"the program lists `{line.decode('ascii', 'replace')}`, and no such pair is known") from None
-        changed = changes(self.words, now)
-        self.words = now
-        return changed
 
     def hear_states(self, session: Session, accepted: Set[bytes]) -> Dict[str, List[int]]:
         asked = self.new_txs + sorted((accepted ^ self.accepted) - set(self.new_txs))
@@ -251,25 +222,3 @@ def counts_in(data: bytes) -> Tuple[int, int]:
     except NotThisForm:
         return 0, 0
     return len(block.txs), sum(len(tx.outputs) for tx in block.txs)
-
-
-def changes(before: bytearray, now: bytearray) -> str:
-    """What has changed between two lists of letters that are equally long: runs of a letter, or of `=` where
-    nothing has, each behind its length, where that isn't 1. What is the same at the end is left out."""
-    size = len(now)
-    differ = (int.from_bytes(before, "big") ^ int.from_bytes(now, "big")).to_bytes(size, "big")
-    text, at = [], 0
-    for found in re.finditer(rb"[^\0]+", differ):
-        text.append(run_of("=", found.start() - at))
-        text += runs(now[found.start() : found.end()])
-        at = found.end()
-    return "".join(text)
-
-
-def runs(letters: bytearray) -> Iterator[str]:
-    for found in re.finditer(rb"(.)\1*", bytes(letters)):
-        yield run_of(chr(found[1][0]), found.end() - found.start())
-
-
-def run_of(letter: str, length: int) -> str:
-    return "" if not length else letter if length == 1 else f"{length}{letter}"
