@@ -40,7 +40,7 @@ sys.dont_write_bytecode = True
 
 import answers
 from answers import Arrival, Balance, Report, State, Vote
-from errors import Closed, Ended, LedgerError, NoGenesis
+from errors import Closed, Ended, LedgerError, NoAnswer, NoGenesis, Unexpected
 from formats import (
     PROFILES,
     Cursor,
@@ -278,7 +278,7 @@ def show(value: Any) -> None:
 
 def show_error(error: LedgerError) -> int:
     show({"error": type(error).__name__, "what": str(error)})
-    return 2 if isinstance(error, (Ended, Closed)) else 1
+    return 2 if isinstance(error, (Ended, Closed, Unexpected, NoAnswer)) else 1
 
 
 def requests(words: List[str]) -> Iterable[List[str]]:
@@ -312,6 +312,7 @@ def main(words: List[str]) -> int:
     parser.add_argument("--timeout", type=float, metavar="S", help="how many seconds an answer may take")
     parser.add_argument("request", nargs="*", metavar="REQUEST")
     given = parser.parse_intermixed_args(words)
+    sys.stdin.reconfigure(errors="surrogateescape")  # type: ignore[union-attr]
     try:
         first = EMPTY if given.genesis == "empty" else given.genesis and hexadecimal(given.genesis)
         with Ledger(given.file, first, given.bits, given.profile, given.fresh, given.timeout) as ledger:

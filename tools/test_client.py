@@ -480,6 +480,9 @@ class Command(Case):
         lines = "offer 01\nhello\ntx 12\nvote zz zz\noffer zz\nreport\n"
         status, found = self.run_on("--genesis", "empty", given=lines)
         self.assertEqual((status, [each.get("error") for each in found]), (1, ["BlockShort"] + ["NoRequest"] * 4 + [None]))
+        done = subprocess.run([sys.executable, str(HERE / "client.py"), self.file], input=b"\xff\xfe\nbalance of \xff\n", capture_output=True, check=False)
+        self.assertEqual([json.loads(line).get("error") for line in done.stdout.splitlines()], ["NoRequest", None])
+        self.assertEqual(json.loads(done.stdout.splitlines()[1])["lock"], lock_of(b"\xff").hex())
         status, found = self.run_on("--bits", "9", "report")
         self.assertEqual((status, found[0]["error"]), (2, "OtherChain"))
 

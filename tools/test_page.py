@@ -13,6 +13,7 @@ one that bin/spectre has built, or the one that the environment names as SPECTRE
 something is wrong.
 """
 
+import fcntl
 import os
 import pathlib
 import re
@@ -316,6 +317,10 @@ def try_faults(page: Shown) -> None:
     journal = os.path.join(page.folder, "kept.journal")
     run("node", journal, given=feed)
     data = pathlib.Path(journal).read_bytes()
+    with open(journal, "rb") as held:
+        fcntl.flock(held, fcntl.LOCK_EX)
+        see("a journal in use isn't read", explore([journal, "-o", page.path]), 2)
+    see("a journal is known by its first bytes", explore([journal, "-o", page.path]), 0)
     page.open("whole.journal", data, "journal")
     see("whole.journal: its blocks", page.counts(), ["4", "0", "0", "0"])
     page.open("cut.journal", data[:-1], "journal")

@@ -476,7 +476,8 @@ function pick(n, isFirst) {
 function nextTurn() {
   const found = state.two !== null ? pairHistory(state.one, state.two).map(each => each[0]) : [...turns].sort((a, b) => a - b);
   const next = found.find(stop => stop > state.at);
-  if (next !== undefined) go(next); else $("when").append(" · no later turn");
+  if (next !== undefined) go(next);
+  else { paintWhen(); $("when").append(" · no later turn"); }
 }
 
 function setTab(tab) { state.tab = tab; state.shown = PAGE; paintSide(); }
