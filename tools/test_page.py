@@ -34,7 +34,7 @@ from formats import Cursor, block, frame, frames_of, head, read_head, sha256, sp
 from session import program
 
 SCENARIOS = ("double_spend.txt", "overturned.txt", "late.txt", "cycle.txt", "payment.txt")
-QUICK = 1.0  # seconds that a click or a step may take with 511 blocks, on a busy machine
+QUICK = 2.0  # seconds that a click or a step may take with 511 blocks, on a busy machine
 LINES = 2_000_000  # of answers that are asked for on 511 blocks
 TEXTS = [
     "<script>alert(1)</script>",
@@ -335,7 +335,7 @@ def try_many(page: Shown, name: str, text: bytes, kind: str) -> None:
     took = page.open(name, text, kind)
     print(f"{name}: a page of {os.path.getsize(page.path):,} bytes in {time.monotonic() - begin - took:.1f} s, open after {took:.2f} s", flush=True)
     truth = Truth(run("build", given=text) if kind == "scenario" else text)
-    see(f"{name}: opened quickly", took < 8 * QUICK)
+    see(f"{name}: opened quickly", took < 4 * QUICK)
     stops = page.data(".stops.map(each => each.arrivals)")
     slowest = 0.0
     for at in (len(stops) - 1, len(stops) // 2, 3, len(stops) - 2):
