@@ -5,7 +5,7 @@ from typing import Dict, List, NamedTuple, Tuple
 
 from errors import REFUSALS, Full
 from formats import frame, sha256
-from session import Session
+from talk import Talk
 
 ID = "[0-9a-f]{64}"
 ARRIVAL = re.compile(f"(kept|known) ({ID})(?: (present) ([1-9][0-9]*)| (waiting))?")
@@ -60,12 +60,12 @@ class Report(NamedTuple):
     balances: Dict[bytes, int]
 
 
-def offer(session: Session, block: bytes) -> Arrival:
+def offer(talk: Talk, block: bytes) -> Arrival:
     """Sends a block. Where it isn't kept, that is its refusal's error."""
     if len(block) > 65_537:  # a frame has no room for it; so many bytes are refused for the same reason
         block = block[:65_537]
-    session.send(frame(b"B", block))
-    line = session.line()
+    talk.send(frame(b"B", block))
+    line = talk.line()
     if line == "full":
         raise Full("there is no room for the block")
     if line.startswith("refused "):
@@ -74,84 +74,84 @@ def offer(session: Session, block: bytes) -> Arrival:
             raise REFUSALS[why](line)
     found = ARRIVAL.fullmatch(line)
     if not found or bytes.fromhex(found[2]) != sha256(block) or (found[1] == "known") != (found.end(2) == len(line)):
-        raise session.unexpected(line, "a block")
+        raise talk.unexpected(line, "a block")
     return Arrival(sha256(block), found[3] or found[5] or found[1], int(found[4] or 0), line)
 
 
-def vote(session: Session, x: bytes, y: bytes) -> Vote:
-    session.send(frame(b"V", x + y))
-    return read_vote(session, session.line(), x, y)
+def vote(talk: Talk, x: bytes, y: bytes) -> Vote:
+    talk.send(frame(b"V", x + y))
+    return read_vote(talk, talk.line(), x, y)
 
 
-def read_vote(session: Session, line: str, x: bytes, y: bytes) -> Vote:
+def read_vote(talk: Talk, line: str, x: bytes, y: bytes) -> Vote:
     found = VOTE.fullmatch(line)
     if not found or bytes.fromhex(found[1] + found[2]) != x + y:
-        raise session.unexpected(line, "a question on two blocks")
+        raise talk.unexpected(line, "a question on two blocks")
     return Vote(x, y, found[3], line)
 
 
-def tx_states(session: Session, ids: List[bytes]) -> List[State]:
+def tx_states(talk: Talk, ids: List[bytes]) -> List[State]:
     """The states of transactions."""
-    session.send(b"".join(frame(b"T", each) for each in ids))
-    return [read_state(session, session.line(), each) for each in ids]
+    talk.send(b"".join(frame(b"T", each) for each in ids))
+    return [read_state(talk, talk.line(), each) for each in ids]
 
 
-def read_state(session: Session, line: str, tx: bytes) -> State:
+def read_state(talk: Talk, line: str, tx: bytes) -> State:
     found = STATE.fullmatch(line)
     if not found or bytes.fromhex(found[1]) != tx:
-        raise session.unexpected(line, "a question on a transaction")
+        raise talk.unexpected(line, "a question on a transaction")
     return State(tx, found[2], line)
 
 
-def balances(session: Session, locks: List[bytes]) -> List[Balance]:
+def balances(talk: Talk, locks: List[bytes]) -> List[Balance]:
     """What is left under locks."""
-    session.send(b"".join(frame(b"U", each) for each in locks))
-    return [read_balance(session, session.line(), each) for each in locks]
+    talk.send(b"".join(frame(b"U", each) for each in locks))
+    return [read_balance(talk, talk.line(), each) for each in locks]
 
 
-def read_balance(session: Session, line: str, lock: bytes) -> Balance:
+def read_balance(talk: Talk, line: str, lock: bytes) -> Balance:
     found = BALANCE.fullmatch(line)
     if not found or bytes.fromhex(found[1]) != lock:
-        raise session.unexpected(line, "a question on a balance")
+        raise talk.unexpected(line, "a question on a balance")
     return Balance(lock, int(found[2]), line)
 
 
-def counts(session: Session, *words: str) -> List[int]:
+def counts(talk: Talk, *words: str) -> List[int]:
     """The numbers of a line that has these words, each with a number behind it."""
-    line = session.line()
+    line = talk.line()
     found = re.fullmatch(" ".join(f"{word} {COUNT}" for word in words), line)
     if not found:
-        raise session.unexpected(line, f"a question that `{words[0]}` answers")
+        raise talk.unexpected(line, f"a question that `{words[0]}` answers")
     return [int(number) for number in found.groups()]
 
 
-def pair_lines(session: Session) -> List[bytes]:
+def pair_lines(talk: Talk) -> List[bytes]:
     """The lines of all pairs, as they were written."""
-    session.send(frame(b"P"))
-    (count,) = counts(session, "pairs")
-    return session.take(count)
+    talk.send(frame(b"P"))
+    (count,) = counts(talk, "pairs")
+    return talk.take(count)
 
 
-def pairs(session: Session) -> List[Vote]:
+def pairs(talk: Talk) -> List[Vote]:
     found = []
-    for line in map(bytes.decode, pair_lines(session)):
+    for line in map(bytes.decode, pair_lines(talk)):
         words = VOTE.fullmatch(line)
         if not words:
-            raise session.unexpected(line, "a question on all pairs")
+            raise talk.unexpected(line, "a question on all pairs")
         found.append(Vote(bytes.fromhex(words[1]), bytes.fromhex(words[2]), words[3], line))
     return found
 
 
-def report(session: Session) -> Report:
-    session.send(frame(b"R"))
-    present, waiting = counts(session, "blocks", "waiting")
-    (count,) = counts(session, "accepted")
-    accepted = [STATE.fullmatch(line.decode()) or line for line in session.take(count)]
-    (count,) = counts(session, "balances")
-    left = [BALANCE.fullmatch(line.decode()) or line for line in session.take(count)]
+def report(talk: Talk) -> Report:
+    talk.send(frame(b"R"))
+    present, waiting = counts(talk, "blocks", "waiting")
+    (count,) = counts(talk, "accepted")
+    accepted = [STATE.fullmatch(line.decode()) or line for line in talk.take(count)]
+    (count,) = counts(talk, "balances")
+    left = [BALANCE.fullmatch(line.decode()) or line for line in talk.take(count)]
     for each in accepted + left:
         if isinstance(each, bytes) or each[2] in ("0", "rejected", "absent"):
-            raise session.unexpected(str(each), "a report")
+            raise talk.unexpected(str(each), "a report")
     return Report(
         present,
         waiting,

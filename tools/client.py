@@ -57,7 +57,7 @@ from formats import (
     spelled,
     transaction,
 )
-from session import Path, Session, hold, is_launcher, ready
+from talk import Path, Talk, hold, is_launcher, ready
 
 __all__ = ["Ledger", "genesis", "block", "mined", "transaction", "locked", "lock_of"]
 
@@ -123,11 +123,11 @@ class Ledger:
                 pass
         try:
             words = ["node", *(["--fresh"] if fresh else []), os.fspath(file)]
-            self.session = Session(words, timeout, held, name)
+            self.talk = Talk(words, timeout, held, name)
         finally:
             for each in held:  # the program has it now
                 os.close(each)
-        self.session.send(head(self.head.genesis, self.head.bits, self.head.profile))
+        self.talk.send(head(self.head.genesis, self.head.bits, self.head.profile))
         self.vote(self.genesis_id, self.genesis_id)  # the start is over once this is answered
 
     @staticmethod
@@ -155,32 +155,32 @@ class Ledger:
 
     @property
     def is_open(self) -> bool:
-        return not self.session.is_over
+        return not self.talk.is_over
 
     def offer(self, data: bytes) -> Arrival:
         """Sends a block's bytes. Once this answers, the block is in the journal. A block that isn't kept is a
         `Refused`, each reason a class of its own."""
-        return answers.offer(self.session, data)
+        return answers.offer(self.talk, data)
 
     def vote(self, x: bytes, y: bytes) -> Vote:
         """What is said of the order of two blocks."""
-        return answers.vote(self.session, known(x), known(y))
+        return answers.vote(self.talk, known(x), known(y))
 
     def tx(self, tx_id: bytes) -> State:
         """The state of a transaction."""
-        return answers.tx_states(self.session, [known(tx_id)])[0]
+        return answers.tx_states(self.talk, [known(tx_id)])[0]
 
     def balance(self, lock: bytes) -> Balance:
         """What is left under a lock (`lock_of(word)` is that of a word)."""
-        return answers.balances(self.session, [known(lock)])[0]
+        return answers.balances(self.talk, [known(lock)])[0]
 
     def pairs(self) -> List[Vote]:
         """All pairs of different present blocks."""
-        return answers.pairs(self.session)
+        return answers.pairs(self.talk)
 
     def report(self) -> Report:
         """How many blocks are present and wait, what is accepted, and what is left."""
-        return answers.report(self.session)
+        return answers.report(self.talk)
 
     def mine(self, parents: Iterable[bytes], txs: Iterable[Tx] = (), salt: Optional[int] = None) -> bytes:
         """The bytes of a block on these ones that meets the work, with a random salt where none is given. It
@@ -194,9 +194,9 @@ class Ledger:
         """Ends the program. Where it doesn't end well, that is the error. A ledger that is closed already
         stays so."""
         if self.is_open:
-            left = self.session.finish()
+            left = self.talk.finish()
             if left:
-                raise self.session.unexpected(left[0], "the end")
+                raise self.talk.unexpected(left[0], "the end")
 
     def __enter__(self) -> "Ledger":
         return self

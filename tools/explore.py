@@ -31,7 +31,7 @@ sys.path.append(str(pathlib.Path(__file__).resolve().parent.parent / "examples")
 from errors import LedgerError
 from page.data import data_of
 from page.whole import json_of, page_of
-from session import ready
+from talk import ready
 from subject import KINDS, subject_of
 from watch import MOST_LINES
 

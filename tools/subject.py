@@ -22,7 +22,7 @@ from formats import (
     records_of,
     sha256,
 )
-from session import Path, hold, program
+from talk import Path, hold, program
 
 KINDS = ("scenario", "feed", "journal")
 # The statuses of inputs that are at fault, of which a page can tell.

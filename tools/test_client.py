@@ -27,7 +27,7 @@ sys.path.append(str(HERE.parent / "examples"))
 import errors
 from client import EMPTY, Ledger, block, genesis, lock_of, locked, mined, transaction
 from formats import frame, head, meets, sha256, spelled
-from session import LAUNCHER, program
+from talk import LAUNCHER, program
 
 BUILT = LAUNCHER.parent.parent / "crates" / "spectre" / "out" / "spectre"
 TX_MOST = 2_210
@@ -125,7 +125,7 @@ class Case(unittest.TestCase):
 
     def opened(self, first: bytes = START, bits: int = 0, **more) -> Ledger:
         ledger = Ledger(self.file, first, bits, **more)
-        self.addCleanup(lambda: ledger.is_open and ledger.session.kill())
+        self.addCleanup(lambda: ledger.is_open and ledger.talk.kill())
         return ledger
 
 
@@ -322,7 +322,7 @@ class Files(Case):
 class Ends(Case):
     def test_malformed(self) -> None:
         ledger = self.opened()
-        ledger.session.send(b"Z")
+        ledger.talk.send(b"Z")
         with self.assertRaises(errors.Malformed) as caught:
             ledger.report()
         self.assertEqual(caught.exception.place, len(head(START)) + len(frame(b"V", bytes(64))))
@@ -333,17 +333,17 @@ class Ends(Case):
     def test_truncated(self) -> None:
         ledger = self.opened()
         ledger.offer(A)
-        ledger.session.send(b"R\0")
-        while ledger.session.unsent:
-            ledger.session.push()
-        ledger.session.to.close()
+        ledger.talk.send(b"R\0")
+        while ledger.talk.unsent:
+            ledger.talk.push()
+        ledger.talk.to.close()
         with self.assertRaises(errors.Truncated):
-            ledger.session.fail()
+            ledger.talk.fail()
 
     def test_killed(self) -> None:
         ledger = self.opened()
         ledger.offer(A)
-        os.kill(ledger.session.process.pid, signal.SIGKILL)
+        os.kill(ledger.talk.process.pid, signal.SIGKILL)
         with self.assertRaises(errors.Killed) as caught:
             ledger.offer(B)
         self.assertEqual(caught.exception.code, -signal.SIGKILL)
@@ -353,7 +353,7 @@ class Ends(Case):
 
     def test_stopped(self) -> None:
         ledger = self.opened(timeout=0.3)
-        os.kill(ledger.session.process.pid, signal.SIGSTOP)
+        os.kill(ledger.talk.process.pid, signal.SIGSTOP)
         with self.assertRaises(errors.NoAnswer):
             ledger.report()
 

@@ -31,7 +31,7 @@ sys.path.append(str(EXAMPLES))
 from devtools import NoBrowser, Page
 from explore import main as explore
 from formats import Cursor, block, frame, frames_of, head, read_head, sha256, spelled, transaction
-from session import program
+from talk import program
 
 SCENARIOS = ("double_spend.txt", "overturned.txt", "late.txt", "cycle.txt", "payment.txt")
 QUICK = 2.0  # seconds that a click or a step may take with 511 blocks, on a busy machine

@@ -13,7 +13,7 @@ from answers import pair_lines
 from formats import NotThisForm, ReadBlock, ReadTx, frame, head, read_block, sha256
 from errors import Refused
 from pairs import Pairs
-from session import Session
+from talk import Talk
 from subject import Misfit, Subject
 
 MOST_LINES = 5_000_000  # of answers to all questions, where no other number is named
@@ -75,18 +75,18 @@ class Watch:
     def run(self) -> "Watch":
         head_of = self.subject.head
         assert head_of
-        session = Session(["replay"])
-        session.send(head(head_of.genesis, head_of.bits, head_of.profile))
-        answers.vote(session, self.kept[0].block.id, self.kept[0].block.id)
+        talk = Talk(["replay"])
+        talk.send(head(head_of.genesis, head_of.bits, head_of.profile))
+        answers.vote(talk, self.kept[0].block.id, self.kept[0].block.id)
         self.become_present([0])
-        self.stop(session, 0)
+        self.stop(talk, 0)
         every, only_kept = self.plan()
         for number, data in enumerate(self.subject.arrivals, start=1):
-            arrived = self.arrive(session, data, number)
+            arrived = self.arrive(talk, data, number)
             is_last = number == len(self.subject.arrivals)
             if is_last or arrived and (arrived.block is not None or not only_kept) and len(self.arrivals) % every == 0:
-                self.stop(session, len(self.arrivals))
-        session.finish()
+                self.stop(talk, len(self.arrivals))
+        talk.finish()
         return self
 
     def plan(self) -> Tuple[int, bool]:
@@ -106,9 +106,9 @@ class Watch:
 
     # One arrival
 
-    def arrive(self, session: Session, data: bytes, number: int) -> Optional[Arrived]:
+    def arrive(self, talk: Talk, data: bytes, number: int) -> Optional[Arrived]:
         try:
-            found = answers.offer(session, data)
+            found = answers.offer(talk, data)
             line, is_kept, became = found.line, found.standing != "known", found.became
         except Refused as why:
             line, is_kept, became = str(why) if why.why != "full" else "full", False, 0
@@ -122,7 +122,7 @@ class Watch:
         block, present = None, []
         if is_kept:
             block = self.keep(data)
-            present = self.presence(session, block, became)
+            present = self.presence(talk, block, became)
         self.arrivals.append(Arrived(line, len(data), block, present))
         return self.arrivals[-1]
 
@@ -135,14 +135,14 @@ class Watch:
         self.numbers[self.kept[-1].block.id] = number
         return number
 
-    def presence(self, session: Session, block: int, became: int) -> List[int]:
+    def presence(self, talk: Talk, block: int, became: int) -> List[int]:
         """Which blocks became present with this one: those on which the program says `same`."""
         self.waiting.append(block)
         if not became:
             return []
         asked = [self.kept[number].block.id for number in self.waiting]
-        session.send(b"".join(frame(b"V", each + each) for each in asked))
-        words = [answers.read_vote(session, session.line(), each, each).word for each in asked]
+        talk.send(b"".join(frame(b"V", each + each) for each in asked))
+        words = [answers.read_vote(talk, talk.line(), each, each).word for each in asked]
         there = [number for number, word in zip(self.waiting, words) if word == "same"]
         if len(there) != became:
             raise Misfit(f"{len(there)} blocks are present anew, and {became} became so")
@@ -182,31 +182,31 @@ class Watch:
 
     # One stop
 
-    def stop(self, session: Session, arrivals: int) -> None:
-        report = answers.report(session)
+    def stop(self, talk: Talk, arrivals: int) -> None:
+        report = answers.report(talk)
         if (report.present, report.waiting) != (len(self.ranks), len(self.waiting)):
             raise Misfit(f"{report.present} blocks are present and {report.waiting} wait by the report")
-        words = self.pairs.hear(pair_lines(session))
-        states = self.hear_states(session, set(report.accepted))
-        balances = self.hear_balances(session, report.balances)
+        words = self.pairs.hear(pair_lines(talk))
+        states = self.hear_states(talk, set(report.accepted))
+        balances = self.hear_balances(talk, report.balances)
         counted = (report.present, report.waiting, len(report.accepted), len(report.balances))
         self.stops.append(Stop(arrivals, *counted, words, states, balances))
 
-    def hear_states(self, session: Session, accepted: Set[bytes]) -> Dict[str, List[int]]:
+    def hear_states(self, talk: Talk, accepted: Set[bytes]) -> Dict[str, List[int]]:
         asked = self.new_txs + sorted((accepted ^ self.accepted) - set(self.new_txs))
         self.new_txs, self.accepted = [], accepted
         changed: Dict[str, List[int]] = {}
-        for found in answers.tx_states(session, asked):
+        for found in answers.tx_states(talk, asked):
             if found.tx not in self.txs or (found.state == "accepted") != (found.tx in accepted):
                 raise Misfit(f"`{found.line}` doesn't fit the report")
             changed.setdefault(found.state, []).append(self.txs[found.tx][0])
         return changed
 
-    def hear_balances(self, session: Session, left: Dict[bytes, int]) -> List[Tuple[int, int]]:
+    def hear_balances(self, talk: Talk, left: Dict[bytes, int]) -> List[Tuple[int, int]]:
         changed = dict(left.items() - self.left.items())
         asked = [lock for lock in self.new_locks if lock not in left] + sorted(self.left.keys() - left.keys())
         self.new_locks, self.left = [], left
-        for each in answers.balances(session, asked):
+        for each in answers.balances(talk, asked):
             if each.amount:
                 raise Misfit(f"`{each.line}` doesn't fit the report")
             changed[each.lock] = each.amount

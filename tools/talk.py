@@ -57,7 +57,7 @@ def hold(file: Path, alone: bool = True) -> int:
     return opened
 
 
-class Session:
+class Talk:
     """A run of `spectre` with these words. What is sent is written while answers are waited for, so that
     neither side waits for the other for ever. It is for one thread at a time."""
 
