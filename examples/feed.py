@@ -7,66 +7,30 @@ The word is the feed's name, `first` where there is none. The formats are those 
 docs/FORMATS.md. examples/README.md has the lines that each feed is answered with.
 """
 
-import hashlib
 import itertools
+import pathlib
 import sys
+
+sys.dont_write_bytecode = True
+sys.path.append(str(pathlib.Path(__file__).resolve().parent.parent / "tools"))  # for the bytes of blocks
+
+from formats import Coin, frame, head, lock_of, meets, sha256, spelled, transaction
 
 BITS = 8  # the first bits of an id that have to be zero
 
 
-def block_id(block):
-    return hashlib.sha256(block).digest()
-
-
-def meets_work(block):
-    return int.from_bytes(block_id(block), "big") < 2 ** (256 - BITS)
-
-
-def spelled(salt, nonce, parents, txs=()):
-    """The bytes of a block with these transactions, its parents in the order given."""
-    version = b"\x01"
-    return (
-        version
-        + salt.to_bytes(8, "little")
-        + nonce.to_bytes(8, "little")
-        + bytes([len(parents)])
-        + b"".join(parents)
-        + len(txs).to_bytes(2, "little")
-        + b"".join(txs)
-    )
-
-
 def block(salt, *parents, txs=(), works=True):
     """A block on these blocks, with the least nonce that meets the work, or that misses it."""
-    ids = sorted(block_id(parent) for parent in parents)
+    ids = sorted(sha256(parent) for parent in parents)
     tries = (spelled(salt, nonce, ids, txs) for nonce in itertools.count())
-    return next(made for made in tries if meets_work(made) == works)
-
-
-def lock(word):
-    """The lock that a word opens."""
-    return hashlib.sha256(word).digest()
-
-
-def tx_id(tx):
-    return hashlib.sha256(tx).digest()
+    return next(made for made in tries if meets(sha256(made), BITS) == works)
 
 
 def pay(sources, amount, owner):
     """A transaction that spends the first output of each source, given with the word that opens
     it, and has one output, which the owner's word opens."""
-    spent = sorted((tx_id(source), word) for source, word in sources)
-    return (
-        bytes([len(spent)])
-        + b"".join(source + b"\x00" + bytes([len(word)]) + word for source, word in spent)
-        + b"\x01"
-        + amount.to_bytes(8, "little")
-        + lock(owner)
-    )
-
-
-def frame(kind, payload=b""):
-    return kind + len(payload).to_bytes(4, "little") + payload
+    spent = [Coin(sha256(source), 0, amount, word) for source, word in sources]
+    return transaction(spent, [(amount, owner)]).text
 
 
 def send(block):
@@ -74,22 +38,22 @@ def send(block):
 
 
 def vote(x, y):
-    return frame(b"V", block_id(x) + block_id(y))
+    return frame(b"V", sha256(x) + sha256(y))
 
 
 def ask(tx):
-    return frame(b"T", tx_id(tx))
+    return frame(b"T", sha256(tx))
 
 
 def balance(word):
-    return frame(b"U", lock(word))
+    return frame(b"U", lock_of(word))
 
 
 PAIRS = frame(b"P")
 REPORT = frame(b"R")
 
 G = spelled(0, 0, [])  # genesis, which isn't judged for work
-HEAD = b"SPCTRF01" + bytes([BITS]) + send(G)
+HEAD = head(G, BITS)
 END = frame(b"E")
 
 
@@ -110,7 +74,7 @@ def waiting():
 def refused():
     """Bytes that are no valid block, and a question on a block that was refused."""
     a, b = block(1, G), block(2, G)
-    turned = spelled(3, 0, sorted([block_id(a), block_id(b)], reverse=True))
+    turned = spelled(3, 0, sorted([sha256(a), sha256(b)], reverse=True))
     lazy = block(4, G, works=False)
     return (
         HEAD
@@ -138,9 +102,7 @@ def spends():
     d, e = block(4, b), block(5, b)
     all_of_them = b"".join(map(ask, [grant, to_bob, to_carol, to_dave]))
     return (
-        b"SPCTRF01"
-        + bytes([BITS])
-        + send(genesis)
+        head(genesis, BITS)
         + all_of_them
         + send(a)
         + send(b)
@@ -165,9 +127,7 @@ def balances():
     c, d = block(3, a), block(4, block(5, b))
     all_of_them = b"".join(map(balance, [b"alice", b"bob", b"carol"]))
     return (
-        b"SPCTRF01"
-        + bytes([BITS])
-        + send(genesis)
+        head(genesis, BITS)
         + all_of_them
         + send(a)
         + send(b)

@@ -26,6 +26,7 @@ import pathlib
 import sys
 
 sys.dont_write_bytecode = True
+sys.path.append(str(pathlib.Path(__file__).resolve().parent.parent / "tools"))  # for the bytes of blocks
 
 from timing import feeds, graphs
 from timing.answers import check

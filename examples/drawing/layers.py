@@ -93,6 +93,24 @@ def layout_of(blocks, widths):
     return layout
 
 
+def quick_layout_of(blocks, widths):
+    """The same for hundreds of blocks with thousands of arrows, which have no places of their own in the rows
+    that they pass. Crossings aren't counted, and the last order of the rows is kept."""
+    names, depths = rows_of(blocks, widths)
+    items = {
+        name: Item(blocks[name], widths[name], row) for row, those in enumerate(names) for name in those
+    }
+    layout = Layout([[items[name] for name in those] for those in names], depths, [])
+    for name, block in blocks.items():
+        for parent in block.parents:
+            link(items[name], items[parent], layout.edges)
+    number_places(layout.rows)
+    for sweep in range(SWEEPS):
+        sort_rows(layout.rows, sweep)
+    space_rows(layout)
+    return layout
+
+
 def number_places(rows):
     for row in rows:
         for place, item in enumerate(row):
@@ -115,6 +133,13 @@ def sort_row(row, side, rows):
     wanted = {id(item): wanted_place(item, getattr(item, side), rows) for item in row}
     row.sort(key=lambda item: wanted[id(item)])
     number_places([row])
+
+
+def sort_rows(rows, sweep):
+    """Sorts each row by its neighbours on one side, downwards and upwards in turn."""
+    downwards = sweep % 2 == 0
+    for row in rows if downwards else reversed(rows):
+        sort_row(row, "above" if downwards else "below", rows)
 
 
 def crossings(layout):
@@ -146,9 +171,7 @@ def order_rows(layout):
     number_places(rows)
     best, kept = cost(layout), [list(row) for row in rows]
     for sweep in range(SWEEPS):
-        downwards = sweep % 2 == 0
-        for row in rows if downwards else reversed(rows):
-            sort_row(row, "above" if downwards else "below", rows)
+        sort_rows(rows, sweep)
         now = cost(layout)
         if now < best:
             best, kept = now, [list(row) for row in rows]

@@ -2,7 +2,7 @@
 
 from collections import Counter
 
-from .texts import sha256
+from formats import sha256
 
 
 class Misfit(Exception):

@@ -2,9 +2,10 @@
 
 from dataclasses import dataclass, field
 
+from formats import block, frame, head, sha256, transaction
+
 from .graphs import in_step, pasts, taken_in
 from .payer import CARRIED, GRANTED, GRANTS, Payer, payee, spending
-from .texts import block, frame, head, sha256, transaction
 
 
 @dataclass

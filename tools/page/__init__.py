@@ -1,0 +1,1 @@
+"""What the page of tools/explore.py is made of: its data, its text, its style and its script."""

@@ -1,0 +1,50 @@
+"""The page as one text: the data, the style and the script put into the frame, so that nothing is fetched and
+no text of the data is anything but text."""
+
+import base64
+import html
+import json
+import pathlib
+from typing import Any, Dict
+
+from formats import sha256
+
+HERE = pathlib.Path(__file__).resolve().parent
+
+
+def json_of(data: Dict[str, Any]) -> str:
+    return json.dumps(data, separators=(",", ":"), ensure_ascii=True)
+
+
+def harmless(text: str) -> str:
+    """JSON that ends no element and begins none, and is the same JSON."""
+    return text.replace("<", "\\u003c").replace(">", "\\u003e").replace("&", "\\u0026")
+
+
+def digest(text: str) -> str:
+    return base64.b64encode(sha256(text.encode("utf-8"))).decode()
+
+
+def part(name: str) -> str:
+    return (HERE / name).read_text(encoding="utf-8")
+
+
+def page_of(data: Dict[str, Any]) -> str:
+    """The whole page. Its policy lets no script run but its own, and nothing be fetched."""
+    style, script = part("page.css"), part("page.js")
+    policy = f"default-src 'none'; style-src 'sha256-{digest(style)}'; script-src 'sha256-{digest(script)}'"
+    pieces = {
+        "TITLE": html.escape(data["name"]),
+        "POLICY": html.escape(policy, quote=True),
+        "STYLE": style,
+        "SCRIPT": script,
+        "DATA": harmless(json_of(data)),
+    }
+    text = part("page.html")
+    first, *rest = text.split("{{")
+    return first + "".join(put(piece, pieces) for piece in rest)
+
+
+def put(piece: str, pieces: Dict[str, str]) -> str:
+    name, after = piece.split("}}", 1)
+    return pieces[name] + after
