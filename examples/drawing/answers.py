@@ -7,6 +7,7 @@ from .scenario import Line, Misfit
 
 # How many words each line has at least, if it has no fault.
 LEAST = {
+    "profile": 2,
     "bits": 2,
     "grant": 5,
     "tx": 8,

@@ -1,5 +1,5 @@
 -- What is written is read.
-use Rattle.std.proofs.Common.{◌≡◌, ℕ, ◌+◌, ◌-◌, ◌<◌, ◌≤◌, ◌^◌, List, [], ◌∷◌, ◌++◌, length, take, drop, Option, Some, None, refl, ap, ◌∙◌, true, leb, arith, append_assoc, length-append}
+use Rattle.std.proofs.Common.{◌≡◌, ℕ, ◌+◌, ◌-◌, ◌<◌, ◌≤◌, ◌^◌, List, [], ◌∷◌, ◌++◌, length, take, drop, Option, Some, None, refl, sym, ap, ◌∙◌, true, leb, arith, append_assoc, length-append}
 use Rattle.std.specs.Prelude.{is_some, unwrap_or}
 use Rattle.std.specs.Int.{w32, to_le_bytes, from_le_bytes}
 use Rattle.std.proofs.lemmas.Bool.{eq-eqb, le-leb}
@@ -16,7 +16,10 @@ use Rattle.sp_block.proofs.Judged.{block_spelled}
 use Rattle.sp_feed.specs.declared.kind.Kind.{Kind}
 use Rattle.sp_feed.specs.declared.kind.Kind.TheVariants.{Block, Vote, Tx, Balance, Pairs, Report, End}
 use Rattle.sp_feed.specs.Feed.{after_frame, feed, one_more, rest_of, Whole, with_head}
-use Rattle.sp_feed.specs.Format.{broken, cut, Flaw, frame_form, genesis_form, Head, head_form, head_of, length_form, name}
+use Rattle.sp_feed.specs.Format.{bits_form, block_letter_form, broken, cut, Flaw, frame_form, genesis_form, Head, head_form, head_of, length_form}
+use Rattle.sp_feed.specs.Versions.{name, profile_of}
+use Rattle.sp_model.specs.declared.profile.Profile.{Profile}
+use Rattle.sp_model.specs.declared.profile.Profile.TheVariants.{One, Two}
 use Rattle.sp_feed.specs.Kinds.{allows, kind_of, letter, Said, said, SaysBlock, SaysVote, SaysTx, SaysBalance, SaysPairs, SaysReport}
 use Rattle.sp_feed.specs.Spelling.{AllFit, Fits, framed, frames_of, spelled, written, WrittenIsRead}
 use Rattle.sp_feed.proofs.Reading.{judged-append, met}
@@ -130,34 +133,58 @@ frames_read limit taken (m ∷ ms) rest f h =
 
 -- the head behind the bits, its genesis block framed
 genesis_read : (head : Head) (at : ℕ) (more : List ℕ) → length head.genesis ≤ 65537 → is_block true head.genesis ≡ true
-    → placed (bind (length_form Block) (λ n. bind (genesis_form n) (λ genesis. whole (head_of head.bits genesis)))) (record { at = at; bytes = to_le_bytes w32 (length head.genesis) ++ (head.genesis ++ more) }) ≡ Got head (record { at = at + 4 + length head.genesis; bytes = more })
+    → placed (bind (length_form Block) (λ n. bind (genesis_form n) (λ genesis. whole (head_of head.profile head.bits genesis)))) (record { at = at; bytes = to_le_bytes w32 (length head.genesis) ++ (head.genesis ++ more) }) ≡ Got head (record { at = at + 4 + length head.genesis; bytes = more })
 unfolding bind placed
 genesis_read head at more l e =
     let four = to_le_bytes w32 (length head.genesis) in
     let small : length head.genesis < 2 ^ 32 = omega arith in
-    then 4 at (λ bytes. rule (allows Block (from_le_bytes w32 bytes)) broken ∷ []) (λ bytes. bind (genesis_form (from_le_bytes w32 bytes)) (λ genesis. whole (head_of head.bits genesis))) four (head.genesis ++ more) _ refl (length_back Block (length head.genesis) small (le-leb (length head.genesis) 65537 l))
-    (ap (λ n. placed (bind (genesis_form n) (λ genesis. whole (head_of head.bits genesis))) (record { at = at + 4; bytes = head.genesis ++ more })) (from_le_bytes-to_le_bytes_4 (length head.genesis) small)
-    ∙ then (length head.genesis) (at + 4) (λ bytes. rule (is_block true bytes) broken ∷ []) (λ bytes. whole (head_of head.bits bytes)) head.genesis more _ refl (met (is_block true head.genesis) e) refl)
+    then 4 at (λ bytes. rule (allows Block (from_le_bytes w32 bytes)) broken ∷ []) (λ bytes. bind (genesis_form (from_le_bytes w32 bytes)) (λ genesis. whole (head_of head.profile head.bits genesis))) four (head.genesis ++ more) _ refl (length_back Block (length head.genesis) small (le-leb (length head.genesis) 65537 l))
+    (ap (λ n. placed (bind (genesis_form n) (λ genesis. whole (head_of head.profile head.bits genesis))) (record { at = at + 4; bytes = head.genesis ++ more })) (from_le_bytes-to_le_bytes_4 (length head.genesis) small)
+    ∙ then (length head.genesis) (at + 4) (λ bytes. rule (is_block true bytes) broken ∷ []) (λ bytes. whole (head_of head.profile head.bits bytes)) head.genesis more _ refl (met (is_block true head.genesis) e) refl)
 
-head_read : (head : Head) (more : List ℕ) → head.bits ≤ 64 → length head.genesis ≤ 65537 → is_block true head.genesis ≡ true → placed head_form (record { at = 0; bytes = name ++ (head.bits ∷ (framed Block head.genesis ++ more)) }) ≡ Got head (record { at = 8 + 1 + 1 + 4 + length head.genesis; bytes = more })
-unfolding head_form bind
-head_read head more b l e =
+-- a name is that of its profile
+named : (profile : Profile) → profile_of (name profile) ≡ Some profile
+named One = refl
+named Two = refl
+
+-- and has eight bytes
+eight : (profile : Profile) → length (name profile) ≡ 8
+eight One = refl
+eight Two = refl
+
+-- the head behind its name
+abbrev head_behind : Profile → Form Flaw Head
+head_behind profile = bind bits_form (λ bits. bind block_letter_form (λ letter. bind (length_form Block) (λ n. bind (genesis_form n) (λ genesis. whole (head_of profile bits genesis)))))
+
+behind_read : (head : Head) (more : List ℕ) → head.bits ≤ 64 → length head.genesis ≤ 65537 → is_block true head.genesis ≡ true → placed (head_behind head.profile) (record { at = 8; bytes = head.bits ∷ (framed Block head.genesis ++ more) }) ≡ Got head (record { at = 8 + 1 + 1 + 4 + length head.genesis; bytes = more })
+unfolding bind
+behind_read head more b l e =
     let four = to_le_bytes w32 (length head.genesis) in
     let tail = four ++ (head.genesis ++ more) in
-    ap (λ t. placed head_form (record { at = 0; bytes = name ++ (head.bits ∷ 66 ∷ t) })) (append_assoc four head.genesis more)
-    ∙ then 8 0 _ _ name (head.bits ∷ 66 ∷ tail) _ refl refl
-    (then 1 8 _ _ (head.bits ∷ []) (66 ∷ tail) _ refl (met (leb head.bits 64) (le-leb head.bits 64 b))
+    ap (λ t. placed (head_behind head.profile) (record { at = 8; bytes = head.bits ∷ 66 ∷ t })) (append_assoc four head.genesis more)
+    ∙ then 1 8 _ _ (head.bits ∷ []) (66 ∷ tail) _ refl (met (leb head.bits 64) (le-leb head.bits 64 b))
     (then 1 (8 + 1) _ _ (66 ∷ []) tail _ refl refl
-    (genesis_read head (8 + 1 + 1) more l e)))
+    (genesis_read head (8 + 1 + 1) more l e))
+
+head_read : (head : Head) (more : List ℕ) → head.bits ≤ 64 → length head.genesis ≤ 65537 → is_block true head.genesis ≡ true → placed head_form (record { at = 0; bytes = (name head.profile ++ (head.bits ∷ framed Block head.genesis)) ++ more }) ≡ Got head (record { at = 8 + 1 + 1 + 4 + length head.genesis; bytes = more })
+unfolding head_form bind
+head_read head more b l e =
+    let rest = head.bits ∷ (framed Block head.genesis ++ more) in
+    ap (λ t. placed head_form (record { at = 0; bytes = t })) (append_assoc (name head.profile) (head.bits ∷ framed Block head.genesis) more)
+    ∙ then 8 0 _ _ (name head.profile) rest _ (eight head.profile) (met (is_some (profile_of (name head.profile))) (ap is_some (named head.profile)))
+    (ap (λ o. placed (head_behind (unwrap_or o One)) (record { at = 8; bytes = rest })) (named head.profile) ∙ behind_read head more b l e)
 
 pub written_is_read : WrittenIsRead
 written_is_read limit head ms rest b e f n =
     let l : length head.genesis ≤ 65537 = let s = (block_spelled true head.genesis e).1.short in omega arith in
-    let front = name ++ (head.bits ∷ framed Block head.genesis) in
+    let first = name head.profile in
+    let next = head.bits ∷ framed Block head.genesis in
+    let front = first ++ next in
     let now : ℕ = 8 + 1 + 1 + 4 + length head.genesis in
-    let long : now ≡ length front = omega arith in
-    let split : written head ms ++ rest ≡ front ++ (frames_of ms ++ rest) = ap (λ t. name ++ (head.bits ∷ 66 ∷ t)) (append_assoc (to_le_bytes w32 (length head.genesis) ++ head.genesis) (frames_of ms) rest) in
-    let all : length (written head ms) ≡ now + length (frames_of ms) = omega (arith, length-append (to_le_bytes w32 (length head.genesis) ++ head.genesis) (frames_of ms)) in
+    let long : now ≡ length front = omega (arith, length-append first next, eight head.profile) in
+    let behind : written head ms ≡ front ++ frames_of ms = sym (append_assoc first next (frames_of ms)) in
+    let split : written head ms ++ rest ≡ front ++ (frames_of ms ++ rest) = ap (λ t. t ++ rest) behind ∙ append_assoc front (frames_of ms) rest in
+    let all : length (written head ms) ≡ now + length (frames_of ms) = ap length behind ∙ omega (arith, length-append front (frames_of ms), long) in
     let within : now ≤ limit = omega (arith, n) in
     ap (feed limit) split
     ∙ feed_more limit now head front (frames_of ms ++ rest) long within

@@ -1,9 +1,11 @@
 -- What contracts see of a feed's head.
 use Rattle.std.specs.Prelude.{ℕ, ◌≤◌}
 use Rattle.sp_block.specs.Block.{IsGenesis, ReadBlock}
+use Rattle.sp_model.specs.declared.profile.Profile.{Profile}
 
--- the bits of work that are asked for, and the genesis block
+-- the profile, the bits of work that are asked for, and the genesis block
 pub record ReadHead : Type 0 where
+  pub profile : Profile
   pub bits : ℕ
   pub genesis : ReadBlock
 

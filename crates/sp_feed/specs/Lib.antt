@@ -1,5 +1,6 @@
 pub mod Kinds
 pub mod Genesis
+pub mod Versions
 pub mod Format
 pub mod Feed
 pub mod Reads

@@ -59,7 +59,7 @@ last_of Dead = None
 
 -- the head of the definition, which has the bytes of the genesis block alone
 abbrev pub head_in : ReadHead → Head
-head_in head = head_of head.bits head.genesis.bytes
+head_in head = head_of head.profile head.bits head.genesis.bytes
 
 -- nothing is taken before the head
 abbrev pub IsUntaken : Phase → ℕ → Type 0

@@ -6,8 +6,9 @@ use Rattle.sp_block.specs.Judged.{is_block}
 use Rattle.sp_feed.specs.declared.kind.Kind.{Kind}
 use Rattle.sp_feed.specs.declared.kind.Kind.TheVariants.{Block, Vote, Tx, Balance, Pairs, Report, End}
 use Rattle.sp_feed.specs.Feed.{feed, Whole}
-use Rattle.sp_feed.specs.Format.{Head, name}
+use Rattle.sp_feed.specs.Format.{Head}
 use Rattle.sp_feed.specs.Kinds.{letter, Said, SaysBlock, SaysVote, SaysTx, SaysBalance, SaysPairs, SaysReport}
+use Rattle.sp_feed.specs.Versions.{name}
 
 -- a kind, a length and a payload
 abbrev pub framed : Kind → List ℕ → List ℕ
@@ -37,7 +38,7 @@ frames_of (message ∷ messages) = spelled message ++ frames_of messages
 
 -- a whole feed
 abbrev pub written : Head → List Said → List ℕ
-written head messages = name ++ (head.bits ∷ (framed Block head.genesis ++ frames_of messages))
+written head messages = name head.profile ++ (head.bits ∷ (framed Block head.genesis ++ frames_of messages))
 
 abbrev pub AllFit : List Said → Type 0
 AllFit [] = Unit {0}

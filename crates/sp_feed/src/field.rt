@@ -9,19 +9,21 @@ ghost use Rattle.sp_feed.specs.Reads.{IsQuiet, moment, Reads};
 use crate::fault::FeedFault;
 use crate::fill::fill;
 use crate::kind::Kind;
+use crate::version::profile_of;
 use sp_io::Source;
+use sp_model::Profile;
 
-/// Reads the eight bytes at the start.
+/// Reads the eight bytes at the start, and answers the profile that they name.
 pub(crate) fn read_name<S: Source>(
     source: &mut S,
     limit: u32,
     taken: &mut u32,
-) -> Result<[u8; 8], FeedFault>
+) -> Result<Profile, FeedFault>
     requires { taken.old ≤ limit }
     ensures reads { Reads limit
         (moment (S.left source.old) (S.faults source.old) taken.old)
         (moment (S.left source.new) (S.faults source.new) taken.new)
-        (λ bytes. bytes) name_form result }
+        (λ profile. profile) name_form result }
     ensures quiet { IsQuiet (S.faults source.old) (S.faults source.new) result }
     ensures progress { IfOk result (λ _. taken.old < taken.new) }
     ensures unasked { taken.old ≡ limit → source.new ≡ source.old }
@@ -29,10 +31,9 @@ pub(crate) fn read_name<S: Source>(
     let start = *taken;
     let mut bytes = [0; 8];
     fill(source, &mut bytes, limit, taken)?;
-    if bytes == *b"SPCTRF01" {
-        Ok(bytes)
-    } else {
-        Err(FeedFault::Malformed { at: start })
+    match profile_of(bytes) {
+        Some(profile) => Ok(profile),
+        None => Err(FeedFault::Malformed { at: start }),
     }
 }
 

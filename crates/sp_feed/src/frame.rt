@@ -14,6 +14,7 @@ use crate::head::FeedHead;
 use crate::kind::Kind;
 use sp_block::{ReadBlockFault, read_block};
 use sp_io::Source;
+use sp_model::Profile;
 use std::alloc::Global;
 
 /// The bytes of the longest payload. A block has one byte less, so that one which is too long can
@@ -67,33 +68,35 @@ pub(crate) fn next_frame<S: Source>(
     read_frame(source, payload, limit, taken)
 }
 
-/// Reads what stands before the genesis block, and answers the bits and how many bytes the block has.
+/// Reads what stands before the genesis block, and answers the profile, the bits and how many bytes
+/// the block has.
 fn read_front<S: Source>(
     source: &mut S,
     limit: u32,
     taken: &mut u32,
-) -> Result<(u8, usize), FeedFault>
+) -> Result<(Profile, (u8, usize)), FeedFault>
     requires { taken.old ≤ limit }
     ensures reads { Reads limit
         (moment (S.left source.old) (S.faults source.old) taken.old)
         (moment (S.left source.new) (S.faults source.new) taken.new)
         (λ front. front) front_form result }
     ensures quiet { IsQuiet (S.faults source.old) (S.faults source.new) result }
-    ensures small { IfOk result (λ front. front.0 ≤ 64) }
-    ensures fits { IfOk result (λ front. front.1 ≤ LONGEST) }
+    ensures small { IfOk result (λ front. front.1.0 ≤ 64) }
+    ensures fits { IfOk result (λ front. front.1.1 ≤ LONGEST) }
     ensures progress { IfOk result (λ _. taken.old < taken.new) }
     ensures unasked { taken.old ≡ limit → source.new ≡ source.old }
 {
-    read_name(source, limit, taken)?;
+    let profile = read_name(source, limit, taken)?;
     let bits = read_bits(source, limit, taken)?;
     read_block_letter(source, limit, taken)?;
     let length = read_length(source, Kind::Block, limit, taken)? as usize;
-    Ok((bits, length))
+    Ok((profile, (bits, length)))
 }
 
 /// Reads the genesis block, whose bytes fill the buffer, and makes the head of it.
 fn read_genesis<S: Source>(
     alloc: Global,
+    profile: Profile,
     bits: u8,
     source: &mut S,
     payload: &mut [u8],
@@ -105,13 +108,17 @@ fn read_genesis<S: Source>(
     ensures reads { ReadsFront limit
         (moment (S.left source.old) (S.faults source.old) taken.old)
         (moment (S.left source.new) (S.faults source.new) taken.new)
-        head_in (back_form bits (length payload.old)) result }
+        head_in (back_form profile bits (length payload.old)) result }
     ensures quiet { IsQuietHead (S.faults source.old) (S.faults source.new) result }
 {
     let start = *taken;
     fill(source, payload, limit, taken)?;
     match read_block(alloc, payload, true) {
-        Ok(genesis) => Ok(FeedHead { bits, genesis }),
+        Ok(genesis) => Ok(FeedHead {
+            profile,
+            bits,
+            genesis,
+        }),
         Err(ReadBlockFault::Fault(_)) => Err(HeadFault::Feed(FeedFault::Malformed { at: start })),
         Err(ReadBlockFault::Memory) => Err(HeadFault::Memory),
     }
@@ -134,8 +141,16 @@ fn read_head<S: Source>(
     ensures quiet { IsQuietHead (S.faults source.old) (S.faults source.new) result }
     ensures unasked { taken.old ≡ limit → source.new ≡ source.old }
 {
-    let (bits, length) = read_front(source, limit, taken)?;
-    read_genesis(alloc, bits, source, &mut payload[..length], limit, taken)
+    let (profile, (bits, length)) = read_front(source, limit, taken)?;
+    read_genesis(
+        alloc,
+        profile,
+        bits,
+        source,
+        &mut payload[..length],
+        limit,
+        taken,
+    )
 }
 
 /// Reads the head at the start of a feed.

@@ -17,9 +17,11 @@ mod message;
 mod phase;
 mod reader;
 mod run;
+mod version;
 
 pub use fault::{FeedFault, HeadFault};
 pub use head::FeedHead;
 pub use message::Message;
 pub use reader::FeedReader;
 pub use run::{Visitor, read_all};
+pub use version::name_of;

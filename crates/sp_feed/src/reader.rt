@@ -85,7 +85,7 @@ impl FeedReader {
     ///
     /// # Errors
     ///
-    /// `Malformed` at place 0 where the feed doesn't begin with `SPCTRF01`; at 8 where the bits are
+    /// `Malformed` at place 0 where the feed begins with neither `SPCTRF01` nor `SPCTRF02`; at 8 where the bits are
     /// above 64; at 9 where the frame's kind isn't `B`; at 10 where its length is above 65,537; at
     /// 14 where its payload spells no genesis block. `Truncated`, `TooLong` and `ReadFault` as in
     /// `next`. `Memory` where there was none for the genesis block. After each of them the reader

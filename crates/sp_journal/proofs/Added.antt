@@ -26,7 +26,7 @@ carried_ids ids (b ∷ bs) = carried_ids (with_id ids b) bs ∙ append_assoc ids
 -- the front of the journal with the block
 pub front_added : (c : Contents) (bytes : List ℕ) → front (with_block c bytes) ≡ front c ++ record_text bytes
 front_added c bytes =
-    let head = head_text (head_of c.bits c.genesis) in
+    let head = head_text (head_of c.profile c.bits c.genesis) in
     let all : flat_map record_text (c.blocks ++ bytes ∷ []) ≡ flat_map record_text c.blocks ++ record_text bytes =
     flat_map-append record_text c.blocks (bytes ∷ []) ∙ ap (λ (t : List ℕ). flat_map record_text c.blocks ++ t) (append-nil (record_text bytes)) in
     ap (λ (t : List ℕ). head ++ t) all ∙ sym (append_assoc head (flat_map record_text c.blocks) (record_text bytes))

@@ -54,6 +54,7 @@ module _ (w : Writer) (c : Contents) (old : Moment) (law : IsMoment old) (stands
         record {
           told = subst IsSome (sym opened.settled.reads) refl;
           holds = λ image left. ap records (opened.settled.only image left) ∙ all;
+          profile = stands.profile;
           bits = stands.bits;
           count = omega (arith, stands.count, length-append c.blocks (bytes ∷ []));
           gate = omega (arith, stands.gate, ap length (front_added c bytes), length-append (front c) (record_text bytes));
@@ -87,8 +88,8 @@ by_test (Ok x) e h = h
 by_test (Err f) e h = absurd cc
 
 -- the journal's fields after a record
-pub as_written : (v w : Writer) (bytes slice : List ℕ) → v ≡ w → slice ≡ bytes → with_record w bytes ≡ writer v.bits (v.records + 1) (v.gate + (5 + length slice)) v.closed
+pub as_written : (v w : Writer) (bytes slice : List ℕ) → v ≡ w → slice ≡ bytes → with_record w bytes ≡ writer v.profile v.bits (v.records + 1) (v.gate + (5 + length slice)) v.closed
 as_written v w bytes slice same copied =
     let back = sym same in
     let gate : w.gate + length (record_text bytes) ≡ v.gate + (5 + length slice) = omega (arith, ap (λ (u : Writer). u.gate) same, ap length copied) in
-    λ i. writer (back i).bits ((back i).records + 1) (gate i) (back i).closed
+    λ i. writer (back i).profile (back i).bits ((back i).records + 1) (gate i) (back i).closed

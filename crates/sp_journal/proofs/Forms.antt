@@ -1,5 +1,6 @@
 -- What the format of a journal's head spells, and that of a record.
-use Rattle.std.proofs.Common.{◌≡◌, ℕ, ◌≤◌, true, eqb, leb, List, [], ◌∷◌, ◌++◌, length, None, refl, sym, ap, arith}
+use Rattle.std.proofs.Common.{◌≡◌, ℕ, ◌+◌, ◌≤◌, Bool, true, false, cond, eqb, leb, List, [], ◌∷◌, ◌++◌, length, Option, Some, None, Ok, refl, sym, ap, subst, ◌∙◌, arith, length-append}
+use Rattle.std.specs.Prelude.{is_some, unwrap_or}
 use Rattle.std.specs.Int.{w32, to_le_bytes, from_le_bytes}
 use Rattle.std.specs.Str.{bytes_eq}
 use Rattle.std.proofs.lemmas.Bool.{eqb-true, leb-true, le-leb}
@@ -7,10 +8,16 @@ use Rattle.std.proofs.lemmas.Nat.{le_bytes_4, from_le_bytes-to_le_bytes_4}
 use Rattle.std.proofs.lemmas.Slice.Eq.{bytes_eq-Decides}
 use Rattle.sp_form.specs.Form.{Form, bind, rule, whole}
 use Rattle.sp_form.specs.Values.{byte, bytes_form}
+use Rattle.sp_form.specs.Bytes.{IsBytes}
+use Rattle.sp_form.proofs.FormLaws.{again, took}
 use Rattle.sp_form.proofs.Simple.{bytes_spelled, one_byte, rule_met}
-use Rattle.sp_form.proofs.Taking.{bind_spelled, last_spelled, said_so, Spelled, value_spelled}
-use Rattle.sp_journal.specs.Format.{bits_form, broken, cut, Flaw, gate_form, genesis_form, Head, head_form, head_of, length_form, name, name_form, record_form, set, sized_form}
+use Rattle.sp_form.proofs.Taking.{bind_spelled, IsBytes-append_right, last_spelled, said_so, Spelled, value_spelled}
+use Rattle.sp_journal.specs.Format.{bits_form, broken, cut, Flaw, gate_form, genesis_form, Head, head_form, head_of, length_form, name_form, record_form, set, sized_form}
 use Rattle.sp_block.specs.Judged.{is_block}
+use Rattle.sp_model.specs.declared.profile.Profile.{Profile}
+use Rattle.sp_model.specs.declared.profile.Profile.TheVariants.{One, Two}
+use Rattle.sp_journal.specs.Journal.{head_text}
+use Rattle.sp_journal.specs.Versions.{name, profile_of}
 
 gate_spelled : Spelled gate_form (λ gate. gate ∷ []) (λ gate. gate ≡ set)
 gate_spelled = value_spelled 1 cut byte (λ gate. rule (eqb gate set) broken ∷ []) (λ gate. gate ∷ []) (λ gate. gate ≡ set) (record {
@@ -20,13 +27,34 @@ gate_spelled = value_spelled 1 cut byte (λ gate. rule (eqb gate set) broken ∷
   met = λ gate m. rw m refl;
 })
 
-name_spelled : Spelled name_form (λ bytes. bytes) (λ bytes. bytes ≡ name)
-name_spelled = value_spelled 8 cut (λ bytes. bytes) (λ bytes. rule (bytes_eq bytes name) broken ∷ []) (λ bytes. bytes) (λ bytes. bytes ≡ name) (record {
-  only = λ bytes size small met. (refl, (bytes_eq-Decides bytes name).0 (rule_met (bytes_eq bytes name) broken None met).0);
-  size = λ bytes m. ap length m;
-  back = λ bytes m. refl;
-  met = λ bytes m. rw m refl;
-})
+-- ---- the name of a version
+
+named : (profile : Profile) → profile_of (name profile) ≡ Some profile
+named One = refl
+named Two = refl
+
+eight : (profile : Profile) → length (name profile) ≡ 8
+eight One = refl
+eight Two = refl
+
+name_back : (bytes : List ℕ) → is_some (profile_of bytes) ≡ true → name (unwrap_or (profile_of bytes) One) ≡ bytes
+name_back bytes = at (bytes_eq bytes (name One)) (bytes_eq bytes (name Two)) (bytes_eq-Decides bytes (name One)).0 (bytes_eq-Decides bytes (name Two)).0
+  where
+    at : (a b : Bool) → (a ≡ true → bytes ≡ name One) → (b ≡ true → bytes ≡ name Two) → is_some (cond a (Some One) (cond b (Some Two) None)) ≡ true → name (unwrap_or (cond a (Some One) (cond b (Some Two) None)) One) ≡ bytes
+    at true b p q some = sym (p refl)
+    at false true p q some = sym (q refl)
+    at false false p q some = absurd cc
+
+name_spelled : Spelled name_form name (λ profile. Unit {0})
+name_spelled = record {
+  takes = λ list x rest bytes e.
+      let t = took 8 cut (λ b. rule (is_some (profile_of b)) broken ∷ []) (λ b. unwrap_or (profile_of b) One) list x rest e in
+      let of_all : IsBytes (t.bytes ++ rest) = subst IsBytes t.parts bytes in
+      let is : name x ≡ t.bytes = ap name (sym t.is) ∙ name_back t.bytes (rule_met (is_some (profile_of t.bytes)) broken None t.met).0 in
+      (record { parts = t.parts ∙ ap (λ (b : List ℕ). b ++ rest) (sym is); bytes = IsBytes-append_right t.bytes rest of_all }, tt);
+  again = λ x rest m.
+      again 8 cut (λ b. rule (is_some (profile_of b)) broken ∷ []) (λ b. unwrap_or (profile_of b) One) (name x) rest (eight x) (rw (named x) refl) ∙ ap (λ (o : Option Profile). Ok (unwrap_or o One, rest)) (named x);
+}
 
 bits_spelled : Spelled bits_form (λ bits. bits ∷ []) (λ bits. bits ≤ 64)
 bits_spelled = value_spelled 1 cut byte (λ bits. rule (leb bits 64) broken ∷ []) (λ bits. bits ∷ []) (λ bits. bits ≤ 64) (record {
@@ -54,54 +82,72 @@ genesis_spelled n = value_spelled n cut (λ bytes. bytes) (λ bytes. rule (is_bl
 
 -- ---- the head, from its end
 
-abbrev pub last_step : ℕ → ℕ → Form Flaw Head
-last_step bits n = bind (genesis_form n) (λ genesis. whole (head_of bits genesis))
+abbrev pub last_step : Profile → ℕ → ℕ → Form Flaw Head
+last_step profile bits n = bind (genesis_form n) (λ genesis. whole (head_of profile bits genesis))
 
-behind_length : (bits n : ℕ) → Spelled (last_step bits n) (λ (h : Head). h.genesis) (λ (h : Head). (length h.genesis ≡ n) × ((h.bits ≡ bits) × (is_block true h.genesis ≡ true)))
-behind_length bits n =
-    said_so (last_step bits n) (λ (h : Head). h.genesis) (λ (h : Head). (h.bits ≡ bits) × ((length h.genesis ≡ n) × (is_block true h.genesis ≡ true))) (λ (h : Head). (length h.genesis ≡ n) × ((h.bits ≡ bits) × (is_block true h.genesis ≡ true)))
+-- a head of this profile with these bits
+abbrev IsOf : Profile → ℕ → Head → Type 0
+IsOf profile bits h = (h.bits ≡ bits) × (h.profile ≡ profile)
+
+behind_length : (profile : Profile) (bits n : ℕ) → Spelled (last_step profile bits n) (λ (h : Head). h.genesis) (λ (h : Head). (length h.genesis ≡ n) × (IsOf profile bits h × (is_block true h.genesis ≡ true)))
+behind_length profile bits n =
+    said_so (last_step profile bits n) (λ (h : Head). h.genesis) (λ (h : Head). IsOf profile bits h × ((length h.genesis ≡ n) × (is_block true h.genesis ≡ true))) (λ (h : Head). (length h.genesis ≡ n) × (IsOf profile bits h × (is_block true h.genesis ≡ true)))
     (λ h m. (m.1.0, (m.0, m.1.1))) (λ h m. (m.1.0, (m.0, m.1.1)))
-    (last_spelled (genesis_form n) (head_of bits) (λ bytes. bytes) (λ bytes. (length bytes ≡ n) × (is_block true bytes ≡ true)) (λ (h : Head). h.bits ≡ bits) (λ (h : Head). h.genesis)
-    (λ genesis. (refl, refl)) (λ h m. ap (λ (b : ℕ). head_of b h.genesis) (sym m)) (genesis_spelled n))
+    (last_spelled (genesis_form n) (head_of profile bits) (λ bytes. bytes) (λ bytes. (length bytes ≡ n) × (is_block true bytes ≡ true)) (IsOf profile bits) (λ (h : Head). h.genesis)
+    (λ genesis. (refl, (refl, refl))) (λ h m. λ i. head_of (sym m.1 i) (sym m.0 i) h.genesis) (genesis_spelled n))
 
 abbrev sized_text : Head → List ℕ
 sized_text h = to_le_bytes w32 (length h.genesis) ++ h.genesis
 
-abbrev pub behind_bits : ℕ → Form Flaw Head
-behind_bits bits = bind length_form (last_step bits)
+abbrev pub behind_bits : Profile → ℕ → Form Flaw Head
+behind_bits profile bits = bind length_form (last_step profile bits)
 
-bits_known : (bits : ℕ) → Spelled (behind_bits bits) sized_text (λ (h : Head). (h.bits ≡ bits) × ((length h.genesis ≤ 65536) × (is_block true h.genesis ≡ true)))
-bits_known bits =
-    said_so (behind_bits bits) sized_text (λ (h : Head). (length h.genesis ≤ 65536) × ((h.bits ≡ bits) × (is_block true h.genesis ≡ true))) (λ (h : Head). (h.bits ≡ bits) × ((length h.genesis ≤ 65536) × (is_block true h.genesis ≡ true)))
-    (λ h m. (m.1.0, (m.0, m.1.1))) (λ h m. (m.1.0, (m.0, m.1.1)))
-    (bind_spelled length_form (last_step bits) (to_le_bytes w32) (λ (h : Head). h.genesis) (λ n. n ≤ 65536) (λ (h : Head). (h.bits ≡ bits) × (is_block true h.genesis ≡ true)) (λ (h : Head). length h.genesis) length_spelled (λ n m. behind_length bits n))
+-- its genesis block is one
+abbrev HasGenesis : Head → Type 0
+HasGenesis h = (length h.genesis ≤ 65536) × (is_block true h.genesis ≡ true)
+
+bits_known : (profile : Profile) (bits : ℕ) → Spelled (behind_bits profile bits) sized_text (λ (h : Head). (h.bits ≡ bits) × ((h.profile ≡ profile) × HasGenesis h))
+bits_known profile bits =
+    said_so (behind_bits profile bits) sized_text (λ (h : Head). (length h.genesis ≤ 65536) × (IsOf profile bits h × (is_block true h.genesis ≡ true))) (λ (h : Head). (h.bits ≡ bits) × ((h.profile ≡ profile) × HasGenesis h))
+    (λ h m. (m.1.0.0, (m.1.0.1, (m.0, m.1.1)))) (λ h m. (m.1.1.0, ((m.0, m.1.0), m.1.1.1)))
+    (bind_spelled length_form (last_step profile bits) (to_le_bytes w32) (λ (h : Head). h.genesis) (λ n. n ≤ 65536) (λ (h : Head). IsOf profile bits h × (is_block true h.genesis ≡ true)) (λ (h : Head). length h.genesis) length_spelled (λ n m. behind_length profile bits n))
 
 -- what a head meets
 abbrev pub IsHead : Head → Type 0
-IsHead h = (h.bits ≤ 64) × ((length h.genesis ≤ 65536) × (is_block true h.genesis ≡ true))
+IsHead h = (h.bits ≤ 64) × HasGenesis h
 
-abbrev pub behind_name : Form Flaw Head
-behind_name = bind bits_form behind_bits
+abbrev pub behind_name : Profile → Form Flaw Head
+behind_name profile = bind bits_form (behind_bits profile)
 
-name_known : Spelled behind_name (λ (h : Head). (h.bits ∷ []) ++ sized_text h) IsHead
-name_known = bind_spelled bits_form behind_bits (λ bits. bits ∷ []) sized_text (λ bits. bits ≤ 64) (λ (h : Head). (length h.genesis ≤ 65536) × (is_block true h.genesis ≡ true)) (λ (h : Head). h.bits) bits_spelled (λ bits m. bits_known bits)
+abbrev bits_text : Head → List ℕ
+bits_text h = (h.bits ∷ []) ++ sized_text h
+
+name_known : (profile : Profile) → Spelled (behind_name profile) bits_text (λ (h : Head). (h.profile ≡ profile) × IsHead h)
+name_known profile =
+    said_so (behind_name profile) bits_text (λ (h : Head). (h.bits ≤ 64) × ((h.profile ≡ profile) × HasGenesis h)) (λ (h : Head). (h.profile ≡ profile) × IsHead h)
+    (λ h m. (m.1.0, (m.0, m.1.1))) (λ h m. (m.1.0, (m.0, m.1.1)))
+    (bind_spelled bits_form (behind_bits profile) (λ bits. bits ∷ []) sized_text (λ bits. bits ≤ 64) (λ (h : Head). (h.profile ≡ profile) × HasGenesis h) (λ (h : Head). h.bits) bits_spelled (λ bits m. bits_known profile bits))
 
 abbrev pub behind_gate : Form Flaw Head
-behind_gate = bind name_form (λ _. behind_name)
+behind_gate = bind name_form behind_name
 
-named : (bytes : List ℕ) → bytes ≡ name → Spelled behind_name (λ (h : Head). (h.bits ∷ []) ++ sized_text h) (λ (h : Head). (name ≡ bytes) × IsHead h)
-named bytes is = said_so behind_name (λ (h : Head). (h.bits ∷ []) ++ sized_text h) IsHead (λ (h : Head). (name ≡ bytes) × IsHead h) (λ h m. (sym is, m)) (λ h m. m.1) name_known
-
-gate_known : (gate : ℕ) → gate ≡ set → Spelled behind_gate (λ (h : Head). name ++ ((h.bits ∷ []) ++ sized_text h)) (λ (h : Head). (set ≡ gate) × IsHead h)
+gate_known : (gate : ℕ) → gate ≡ set → Spelled behind_gate (λ (h : Head). name h.profile ++ bits_text h) (λ (h : Head). (set ≡ gate) × IsHead h)
 gate_known gate is =
-    said_so behind_gate (λ (h : Head). name ++ ((h.bits ∷ []) ++ sized_text h)) (λ (h : Head). (name ≡ name) × IsHead h) (λ (h : Head). (set ≡ gate) × IsHead h) (λ h m. (sym is, m.1)) (λ h m. (refl, m.1))
-    (bind_spelled name_form (λ _. behind_name) (λ bytes. bytes) (λ (h : Head). (h.bits ∷ []) ++ sized_text h) (λ bytes. bytes ≡ name) IsHead (λ (h : Head). name) name_spelled named)
+    said_so behind_gate (λ (h : Head). name h.profile ++ bits_text h) (λ (h : Head). Unit {0} × IsHead h) (λ (h : Head). (set ≡ gate) × IsHead h) (λ h m. (sym is, m.1)) (λ h m. (tt, m.1))
+    (bind_spelled name_form behind_name name bits_text (λ profile. Unit {0}) IsHead (λ (h : Head). h.profile) name_spelled (λ profile m. name_known profile))
 
-pub head_spelled : Spelled head_form (λ (h : Head). (set ∷ []) ++ (name ++ ((h.bits ∷ []) ++ sized_text h))) IsHead
+pub head_spelled : Spelled head_form (λ (h : Head). (set ∷ []) ++ (name h.profile ++ bits_text h)) IsHead
 unfolding head_form
 head_spelled =
-    said_so (bind gate_form (λ _. behind_gate)) (λ (h : Head). (set ∷ []) ++ (name ++ ((h.bits ∷ []) ++ sized_text h))) (λ (h : Head). (set ≡ set) × IsHead h) IsHead (λ h m. m.1) (λ h m. (refl, m))
-    (bind_spelled gate_form (λ _. behind_gate) (λ gate. gate ∷ []) (λ (h : Head). name ++ ((h.bits ∷ []) ++ sized_text h)) (λ gate. gate ≡ set) IsHead (λ (h : Head). set) gate_spelled gate_known)
+    said_so (bind gate_form (λ _. behind_gate)) (λ (h : Head). (set ∷ []) ++ (name h.profile ++ bits_text h)) (λ (h : Head). (set ≡ set) × IsHead h) IsHead (λ h m. m.1) (λ h m. (refl, m))
+    (bind_spelled gate_form (λ _. behind_gate) (λ gate. gate ∷ []) (λ (h : Head). name h.profile ++ bits_text h) (λ gate. gate ≡ set) IsHead (λ (h : Head). set) gate_spelled gate_known)
+
+-- how many bytes it has
+pub head_size : (h : Head) → length (head_text h) ≡ 14 + length h.genesis
+head_size h = omega (arith, length-append (name h.profile) (bits_text h), eight h.profile)
+
+pub head_fits : (h : Head) → length h.genesis ≤ 65536 → length (head_text h) ≤ 65550
+head_fits h few = omega (arith, head_size h, few)
 
 -- ---- a record, from its end
 

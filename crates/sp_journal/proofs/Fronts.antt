@@ -7,6 +7,7 @@ use Rattle.sp_block.specs.Block.{IsBlock, ReadBlock}
 use Rattle.sp_disk.specs.Images.{Among}
 use Rattle.sp_disk.specs.Moments.{IsMoment, Leaves, Moment}
 use Rattle.sp_disk.proofs.Runs.{joined, started}
+use Rattle.sp_model.specs.declared.profile.Profile.{Profile}
 use Rattle.sp_journal.specs.Journal.{Contents, contents, ids_of, with_block}
 use Rattle.sp_journal.specs.Prefixes.{front_of, HoldsFront, journal_of}
 use Rattle.sp_journal.specs.Records.{Found}
@@ -16,10 +17,10 @@ use Rattle.sp_journal.specs.Writer.{HoldsOrAdded, Stands, Writer}
 module _ (c : Contents) (bytes : List ℕ) where
   -- all of the journal is a front of it with one block more
   front_before : (count : ℕ) → count ≤ length c.blocks → front_of c count ≡ front_of (with_block c bytes) count
-  front_before count few = ap (contents c.bits c.genesis) (sym (take-append-le count c.blocks (bytes ∷ []) few))
+  front_before count few = ap (contents c.profile c.bits c.genesis) (sym (take-append-le count c.blocks (bytes ∷ []) few))
 
   whole : (d : Contents) → d ≡ front_of d (length d.blocks)
-  whole d = ap (contents d.bits d.genesis) (sym (take_all (length d.blocks) d.blocks (omega arith)))
+  whole d = ap (contents d.profile d.bits d.genesis) (sym (take_all (length d.blocks) d.blocks (omega arith)))
 
   still_front : (least : ℕ) → Among (HoldsFront least (with_block c bytes)) (HoldsFront least c)
   still_front least image h = record {
@@ -54,7 +55,7 @@ run_starts w c m law stands = started m (HoldsFront (length c.blocks) c) law (λ
   count = length c.blocks;
   low = omega arith;
   high = omega arith;
-  holds = stands.holds image left ∙ ap Found (ap (contents c.bits c.genesis) (sym (take_all (length c.blocks) c.blocks (omega arith))));
+  holds = stands.holds image left ∙ ap Found (ap (contents c.profile c.bits c.genesis) (sym (take_all (length c.blocks) c.blocks (omega arith))));
 })
 
 -- ---- the ids that no further record may have
@@ -64,9 +65,9 @@ shas [] all = refl
 shas (b ∷ blocks) all = λ i. sym all.0.id i ∷ shas blocks all.1 i
 
 -- the ids of the journal are those of the kept blocks
-pub ids_are : (bits : ℕ) (genesis : ReadBlock) (others : List ReadBlock) → AllByRecursion IsBlock (genesis ∷ others) → ids_of (journal_of bits genesis others) ≡ map (λ (b : ReadBlock). b.id) (genesis ∷ others)
-ids_are bits genesis others all = λ i. sym all.0.id i ∷ shas others all.1 i
+pub ids_are : (profile : Profile) (bits : ℕ) (genesis : ReadBlock) (others : List ReadBlock) → AllByRecursion IsBlock (genesis ∷ others) → ids_of (journal_of profile bits genesis others) ≡ map (λ (b : ReadBlock). b.id) (genesis ∷ others)
+ids_are profile bits genesis others all = λ i. sym all.0.id i ∷ shas others all.1 i
 
 -- one block more is kept, and so is the journal
-pub journal_added : (bits : ℕ) (genesis block : ReadBlock) (others : List ReadBlock) → with_block (journal_of bits genesis others) block.bytes ≡ journal_of bits genesis (others ++ block ∷ [])
-journal_added bits genesis block others = ap (contents bits genesis.bytes) (sym (map-append bytes_in others (block ∷ [])))
+pub journal_added : (profile : Profile) (bits : ℕ) (genesis block : ReadBlock) (others : List ReadBlock) → with_block (journal_of profile bits genesis others) block.bytes ≡ journal_of profile bits genesis (others ++ block ∷ [])
+journal_added profile bits genesis block others = ap (contents profile bits genesis.bytes) (sym (map-append bytes_in others (block ∷ [])))

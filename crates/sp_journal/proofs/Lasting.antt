@@ -8,6 +8,7 @@ use Rattle.sp_journal.specs.Creation.{HoldsJournal, HoldsNone, IsVacant}
 use Rattle.sp_journal.specs.Format.{set}
 use Rattle.sp_journal.specs.Gates.{IsOpened, IsShut, IsShutOrOpened}
 use Rattle.sp_journal.specs.Journal.{head_body}
+use Rattle.sp_model.specs.declared.profile.Profile.{Profile}
 use Rattle.sp_block.specs.Judged.{is_block}
 use Rattle.sp_journal.specs.Settled.{HasGate, IsTold, Puts}
 use Rattle.sp_journal.specs.declared.gate_kind.Gate.{Gate}
@@ -51,14 +52,14 @@ module _ (front body : List ℕ) (gate : ℕ) (size : length front ≡ gate) (ol
       (moves_last mid new (IsOpened front body) (front ++ s.closed ∷ (body ++ s.rest)) mid_law new_law s.settled.reads (shut_opened front body _ shut) second)
 
 -- a journal is created: its gate is closed, and then opened over the head
-module _ (bits : ℕ) (genesis body : List ℕ) (small : bits ≤ 64) (block : is_block true genesis ≡ true) (filled : body ≡ head_body bits genesis ++ 0 ∷ []) where
-  opened_holds : (image : List ℕ) → IsShutOrOpened [] (head_body bits genesis ++ 0 ∷ []) image → (IsOpened [] (head_body bits genesis ++ 0 ∷ []) image → HoldsJournal image) × (HoldsJournal image → IsOpened [] (head_body bits genesis ++ 0 ∷ []) image)
+module _ (profile : Profile) (bits : ℕ) (genesis body : List ℕ) (small : bits ≤ 64) (block : is_block true genesis ≡ true) (filled : body ≡ head_body profile bits genesis ++ 0 ∷ []) where
+  opened_holds : (image : List ℕ) → IsShutOrOpened [] (head_body profile bits genesis ++ 0 ∷ []) image → (IsOpened [] (head_body profile bits genesis ++ 0 ∷ []) image → HoldsJournal image) × (HoldsJournal image → IsOpened [] (head_body profile bits genesis ++ 0 ∷ []) image)
   opened_holds image (inl shut) = (λ opened. absurd (shut_opened [] _ image shut opened), λ held. absurd (none_held image (none_shut image shut) held))
-  opened_holds image (inr opened) = (λ o. (new_contents bits genesis small block, found_front (new_contents bits genesis small block) image (new_are bits genesis small block) (opened_new (new_contents bits genesis small block) image refl opened)), λ held. opened)
+  opened_holds image (inr opened) = (λ o. (new_contents profile bits genesis small block, found_front (new_contents profile bits genesis small block) image (new_are profile bits genesis small block) (opened_new (new_contents profile bits genesis small block) image refl opened)), λ held. opened)
 
   pub create_lasts : (old mid new : Moment) → IsMoment mid → IsMoment new → Lasts old mid HoldsJournal → Leaves mid new (IsShutOrOpened [] body) → Lasts mid new (IsOpened [] body) → Lasts old new HoldsJournal
   create_lasts old mid new mid_law new_law first run second =
       joined_last old mid new HoldsJournal mid_law new_law first
-      (alike_last mid new (IsOpened [] (head_body bits genesis ++ 0 ∷ [])) HoldsJournal (IsShutOrOpened [] (head_body bits genesis ++ 0 ∷ [])) new_law
+      (alike_last mid new (IsOpened [] (head_body profile bits genesis ++ 0 ∷ [])) HoldsJournal (IsShutOrOpened [] (head_body profile bits genesis ++ 0 ∷ [])) new_law
       (subst (λ (b : List ℕ). Leaves mid new (IsShutOrOpened [] b)) filled run) opened_holds
       (subst (λ (b : List ℕ). Lasts mid new (IsOpened [] b)) filled second))

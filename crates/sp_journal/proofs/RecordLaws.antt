@@ -138,7 +138,7 @@ rows_back (suc room) bits ids at list blocks bytes e =
 pub found_front : (c : Contents) (list : List ℕ) → AreContents c → IsShut (front c) list → records list ≡ Found c
 unfolding records
 found_front c list are shut =
-    let head = head_of c.bits c.genesis in
+    let head = head_of c.profile c.bits c.genesis in
     let behind = flat_map record_text c.blocks ++ shut.gate ∷ shut.rest in
     let regrouped : list ≡ head_text head ++ behind = shut.parts ∙ append_assoc (head_text head) (flat_map record_text c.blocks) (shut.gate ∷ shut.rest) in
     let is_head : IsHead head = (are.bits, (short_block true c.genesis are.genesis, are.genesis)) in
@@ -152,10 +152,10 @@ same_Found a b e = cc
 record IsBy (head : Head) (r : Rows) (c : Contents) : Type 0 where
   pub blocks : List (List ℕ)
   pub is : r ≡ Sound blocks
-  pub all : contents head.bits head.genesis blocks ≡ c
+  pub all : contents head.profile head.bits head.genesis blocks ≡ c
 
 by_of : (head : Head) (r : Rows) (c : Contents) → records_by head r ≡ Found c → IsBy head r c
-by_of head (Sound blocks) c e = record { blocks = blocks; is = refl; all = same_Found (contents head.bits head.genesis blocks) c e }
+by_of head (Sound blocks) c e = record { blocks = blocks; is = refl; all = same_Found (contents head.profile head.bits head.genesis blocks) c e }
 by_of head (Faulty at) c e = absurd cc
 
 -- bytes that hold a journal are its front with a closed gate behind it
@@ -169,7 +169,7 @@ front_found c list bytes e = of (read head_form list) refl e
         let by = by_of found.0 (rows 511 found.0.bits (first_ids found.0.genesis) (length (head_text found.0)) found.1) c e in
         let head = head_spelled.takes list found.0 found.1 bytes is in
         let back = rows_back 511 found.0.bits (first_ids found.0.genesis) (length (head_text found.0)) found.1 by.blocks head.0.bytes by.is in
-        let these = contents found.0.bits found.0.genesis by.blocks in
+        let these = contents found.0.profile found.0.bits found.0.genesis by.blocks in
         let parts : list ≡ front these ++ back.gate ∷ back.rest =
         head.0.parts ∙ ap (λ (t : List ℕ). head_text found.0 ++ t) back.parts ∙ sym (append_assoc (head_text found.0) (flat_map record_text by.blocks) (back.gate ∷ back.rest)) in
         let all : Holds these list = record {

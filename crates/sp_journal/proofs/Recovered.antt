@@ -13,6 +13,7 @@ use Rattle.sp_ids.specs.Digest.{sha256_number}
 use Rattle.sp_block.specs.Block.{block_of, parts_of, ReadBlock}
 use Rattle.sp_block.specs.Spelling.{HasBlockFault, SpellsBlock}
 use Rattle.sp_block.specs.declared.fault.BlockFault.{BlockFault}
+use Rattle.sp_model.specs.declared.profile.Profile.{Profile}
 use Rattle.sp_journal.specs.Format.{broken, genesis_form, head_form, head_of, record_form}
 use Rattle.sp_journal.specs.Journal.{head_text, record_text}
 use Rattle.sp_block.specs.Judged.{is_block, meets}
@@ -20,6 +21,7 @@ use Rattle.sp_journal.specs.Judged.{has, is_record, IsRecord, with_id}
 use Rattle.sp_journal.specs.Records.{Faulty, is_shut, NoJournal, records, records_by, records_of, row_first, row_then, Rows, rows, Sound}
 use Rattle.sp_journal.specs.Recovery.{bytes_in, Finds, FindsRecord, IsFlawed, IsSpelled, IsSpelledBlock, SaysRows, with_rows}
 use Rattle.sp_block.proofs.Judged.{faulty_block, meets_zeros, spelled_block, zeros_met}
+use Rattle.sp_journal.proofs.Forms.{head_size}
 use Rattle.sp_journal.proofs.RecordLaws.{is_recorded, short_record}
 
 module _ (n : ℕ) (list bytes rest : List ℕ) (field : bytes ≡ take n list) (size : length bytes ≡ n) (left : rest ≡ drop n list) where
@@ -186,12 +188,12 @@ pub none_by : (list : List ℕ) → IsFlawed (read head_form list) → records l
 unfolding records
 none_by list flawed = ap records_of flawed.1
 
-module _ (list rest : List ℕ) (bits : ℕ) (genesis : List ℕ) (id start : ℕ) (head : read head_form list ≡ Ok (head_of bits genesis, rest)) (same : id ≡ sha256_number genesis) (at : start ≡ 14 + length genesis) where
-  pub found_by : (r : Rows) → rows 511 bits (id ∷ []) start rest ≡ r → records list ≡ records_by (head_of bits genesis) r
+module _ (list rest : List ℕ) (profile : Profile) (bits : ℕ) (genesis : List ℕ) (id start : ℕ) (head : read head_form list ≡ Ok (head_of profile bits genesis, rest)) (same : id ≡ sha256_number genesis) (at : start ≡ 14 + length genesis) where
+  pub found_by : (r : Rows) → rows 511 bits (id ∷ []) start rest ≡ r → records list ≡ records_by (head_of profile bits genesis) r
   unfolding records
   found_by r is =
-      let place : length (head_text (head_of bits genesis)) ≡ start = omega (arith, at) in
-      ap records_of head ∙ (λ i. records_by (head_of bits genesis) (rows 511 bits (sym same i ∷ []) (place i) rest)) ∙ ap (records_by (head_of bits genesis)) is
+      let place : length (head_text (head_of profile bits genesis)) ≡ start = head_size (head_of profile bits genesis) ∙ sym at in
+      ap records_of head ∙ (λ i. records_by (head_of profile bits genesis) (rows 511 bits (sym same i ∷ []) (place i) rest)) ∙ ap (records_by (head_of profile bits genesis)) is
 
 -- what the loop answered
 abbrev pub blocks_of : Vec ReadBlock Global × ℕ → List (List ℕ)

@@ -10,15 +10,17 @@ use Rattle.sp_disk.specs.Moments.{IsMoment, Leaves, Moment, PartlyWrittenFrom}
 use Rattle.sp_disk.proofs.Runs.{joined}
 use Rattle.sp_disk.proofs.Partly.{same_back}
 use Rattle.sp_journal.specs.Creation.{gate_of, HoldsNone, HoldsNoneOrNew, IsSynced, IsVacant}
-use Rattle.sp_journal.specs.Format.{head_form, set}
+use Rattle.sp_model.specs.declared.profile.Profile.{Profile}
+use Rattle.sp_journal.specs.Format.{head_form, head_of, set}
 use Rattle.sp_journal.specs.Gates.{IsOpened, IsShut, IsShutOrOpened}
-use Rattle.sp_journal.specs.Journal.{AreContents, Contents, contents, front, head_body}
+use Rattle.sp_journal.specs.Journal.{AreContents, Contents, contents, front, head_body, head_text}
 use Rattle.sp_block.specs.Judged.{is_block}
 use Rattle.sp_journal.specs.Records.{Found, records}
 use Rattle.sp_journal.specs.Settled.{HasGate, HasOpened, IsTold, Puts}
 use Rattle.sp_journal.specs.Writer.{Stands, writer}
 use Rattle.sp_journal.specs.declared.gate_kind.Gate.{Gate}
 use Rattle.sp_journal.specs.declared.gate_kind.Gate.TheVariants.{Set, Shut}
+use Rattle.sp_journal.proofs.Forms.{head_size}
 use Rattle.sp_journal.proofs.Openings.{read_of, settles}
 use Rattle.sp_journal.proofs.RecordLaws.{found_front}
 
@@ -102,50 +104,51 @@ gate_written old new law told puts =
     }
 
 -- the new journal stands where its head was opened
-pub opened_new : (c : Contents) (list : List ℕ) → c.blocks ≡ [] → IsOpened [] (head_body c.bits c.genesis ++ 0 ∷ []) list → IsShut (front c) list
+pub opened_new : (c : Contents) (list : List ℕ) → c.blocks ≡ [] → IsOpened [] (head_body c.profile c.bits c.genesis ++ 0 ∷ []) list → IsShut (front c) list
 opened_new c list none opened =
-    let whole : front c ≡ set ∷ head_body c.bits c.genesis = ap (λ (b : List (List ℕ)). front (contents c.bits c.genesis b)) none ∙ append-nil (set ∷ head_body c.bits c.genesis) in
+    let whole : front c ≡ set ∷ head_body c.profile c.bits c.genesis = ap (λ (b : List (List ℕ)). front (contents c.profile c.bits c.genesis b)) none ∙ append-nil (set ∷ head_body c.profile c.bits c.genesis) in
     record {
       gate = 0;
       rest = opened.rest;
       closed = λ is. absurd (omega (arith, is));
-      parts = opened.parts ∙ ap (λ (t : List ℕ). set ∷ t) (append_assoc (head_body c.bits c.genesis) (0 ∷ []) opened.rest) ∙ ap (λ (t : List ℕ). t ++ 0 ∷ opened.rest) (sym whole);
+      parts = opened.parts ∙ ap (λ (t : List ℕ). set ∷ t) (append_assoc (head_body c.profile c.bits c.genesis) (0 ∷ []) opened.rest) ∙ ap (λ (t : List ℕ). t ++ 0 ∷ opened.rest) (sym whole);
     }
 
-module _ (bits : ℕ) (genesis : List ℕ) (small : bits ≤ 64) (block : is_block true genesis ≡ true) where
+module _ (profile : Profile) (bits : ℕ) (genesis : List ℕ) (small : bits ≤ 64) (block : is_block true genesis ≡ true) where
   abbrev pub new_contents : Contents
-  new_contents = contents bits genesis []
+  new_contents = contents profile bits genesis []
 
   pub new_are : AreContents new_contents
   new_are = record { bits = small; genesis = block; few = omega arith; records = tt }
 
-  pub none_or_new : (list : List ℕ) → IsShutOrOpened [] (head_body bits genesis ++ 0 ∷ []) list → HoldsNoneOrNew new_contents list
+  pub none_or_new : (list : List ℕ) → IsShutOrOpened [] (head_body profile bits genesis ++ 0 ∷ []) list → HoldsNoneOrNew new_contents list
   none_or_new list (inl shut) = inl (none_shut list shut)
   none_or_new list (inr opened) = inr (found_front new_contents list new_are (opened_new new_contents list refl opened))
 
-  pub new_stands : (m : Moment) → HasOpened [] (head_body bits genesis ++ 0 ∷ []) m → Stands (writer bits 0 (length (front new_contents)) false) new_contents m
+  pub new_stands : (m : Moment) → HasOpened [] (head_body profile bits genesis ++ 0 ∷ []) m → Stands (writer profile bits 0 (length (front new_contents)) false) new_contents m
   new_stands m opened =
       let found : records opened.bytes ≡ Found new_contents = found_front new_contents opened.bytes new_are (opened_new new_contents opened.bytes refl opened.opened) in
       record {
         told = subst IsSome (sym opened.settled.reads) refl;
         holds = λ image left. ap records (opened.settled.only image left) ∙ found;
+        profile = refl;
         bits = refl;
         count = refl;
         gate = refl;
       }
 
-pub front_size : (bits : ℕ) (genesis : List ℕ) → length (front (contents bits genesis [])) ≡ length genesis + 14
-front_size bits genesis = omega (arith, length-append genesis [])
+pub front_size : (profile : Profile) (bits : ℕ) (genesis : List ℕ) → length (front (contents profile bits genesis [])) ≡ length genesis + 14
+front_size profile bits genesis = ap length (append-nil (head_text (head_of profile bits genesis))) ∙ head_size (head_of profile bits genesis) ∙ omega arith
 
 -- a journal is created: first its gate is closed, and then opened over the head
-module _ (bits : ℕ) (genesis body : List ℕ) (small : bits ≤ 64) (block : is_block true genesis ≡ true) (filled : body ≡ head_body bits genesis ++ 0 ∷ []) where
-  pub create_moments : (old mid new : Moment) → Leaves old mid HoldsNone → Leaves mid new (IsShutOrOpened [] body) → Leaves old new (HoldsNoneOrNew (contents bits genesis []))
+module _ (profile : Profile) (bits : ℕ) (genesis body : List ℕ) (small : bits ≤ 64) (block : is_block true genesis ≡ true) (filled : body ≡ head_body profile bits genesis ++ 0 ∷ []) where
+  pub create_moments : (old mid new : Moment) → Leaves old mid HoldsNone → Leaves mid new (IsShutOrOpened [] body) → Leaves old new (HoldsNoneOrNew (contents profile bits genesis []))
   create_moments old mid new first second =
-      joined old mid new HoldsNone (IsShutOrOpened [] (head_body bits genesis ++ 0 ∷ [])) (HoldsNoneOrNew (contents bits genesis [])) first
-      (subst (λ (b : List ℕ). Leaves mid new (IsShutOrOpened [] b)) filled second) (λ image none. inl none) (none_or_new bits genesis small block)
+      joined old mid new HoldsNone (IsShutOrOpened [] (head_body profile bits genesis ++ 0 ∷ [])) (HoldsNoneOrNew (contents profile bits genesis [])) first
+      (subst (λ (b : List ℕ). Leaves mid new (IsShutOrOpened [] b)) filled second) (λ image none. inl none) (none_or_new profile bits genesis small block)
 
-  pub create_stands : (slice : List ℕ) (new : Moment) → slice ≡ genesis → HasOpened [] body new → Stands (writer bits 0 (length slice + 14) false) (contents bits genesis []) new
+  pub create_stands : (slice : List ℕ) (new : Moment) → slice ≡ genesis → HasOpened [] body new → Stands (writer profile bits 0 (length slice + 14) false) (contents profile bits genesis []) new
   create_stands slice new copied opened =
-      let gate : length (front (contents bits genesis [])) ≡ length slice + 14 = omega (arith, front_size bits genesis, ap length copied) in
-      subst (λ (n : ℕ). Stands (writer bits 0 n false) (contents bits genesis []) new) gate
-      (new_stands bits genesis small block new (subst (λ (b : List ℕ). HasOpened [] b new) filled opened))
+      let gate : length (front (contents profile bits genesis [])) ≡ length slice + 14 = omega (arith, front_size profile bits genesis, ap length copied) in
+      subst (λ (n : ℕ). Stands (writer profile bits 0 n false) (contents profile bits genesis []) new) gate
+      (new_stands profile bits genesis small block new (subst (λ (b : List ℕ). HasOpened [] b new) filled opened))

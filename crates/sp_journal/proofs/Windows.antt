@@ -12,10 +12,10 @@ use Rattle.sp_form.proofs.Taking.{IsBytes-append_left, IsBytes-append_right, Spe
 use Rattle.sp_block.specs.Block.{ReadBlock}
 use Rattle.sp_journal.specs.Creation.{gate_of}
 use Rattle.sp_journal.specs.Format.{Head, head_form, record_form}
-use Rattle.sp_journal.specs.Journal.{head_text, record_text}
+use Rattle.sp_journal.specs.Journal.{record_text}
 use Rattle.sp_journal.specs.Records.{is_shut}
 use Rattle.sp_journal.specs.Recovery.{bytes_in, EndsAt, FindsRecord, IsFlawed}
-use Rattle.sp_journal.proofs.Forms.{head_spelled, record_spelled}
+use Rattle.sp_journal.proofs.Forms.{head_fits, head_size, head_spelled, record_spelled}
 
 pub bytes_take : (n : ℕ) (list : List ℕ) → IsBytes list → IsBytes (take n list)
 bytes_take n list bytes = IsBytes-append_left (take n list) (drop n list) (subst IsBytes (sym (take-append-drop n list)) bytes)
@@ -62,10 +62,10 @@ gate_seen (x ∷ list) = refl
 module _ (list : List ℕ) (bytes : IsBytes list) where
   pub head_seen : (h : Head) (rest : List ℕ) → read head_form (take 65550 list) ≡ Ok (h, rest) → read head_form list ≡ Ok (h, drop (14 + length h.genesis) list)
   head_seen h rest e =
-      seen head_form _ _ head_spelled 65550 (λ x m. omega (arith, m.1.0)) list bytes h rest e ∙ ap (λ (n : ℕ). Ok (h, drop n list)) (let size : length (head_text h) ≡ 14 + length h.genesis = omega arith in size)
+      seen head_form _ _ head_spelled 65550 (λ x m. head_fits x m.1.0) list bytes h rest e ∙ ap (λ (n : ℕ). Ok (h, drop n list)) (head_size h)
 
   pub head_flawed : IsFlawed (read head_form (take 65550 list)) → IsFlawed (read head_form list)
-  head_flawed e = flawed head_form _ _ head_spelled 65550 (λ x m. omega (arith, m.1.0)) list bytes e.0 e.1
+  head_flawed e = flawed head_form _ _ head_spelled 65550 (λ x m. head_fits x m.1.0) list bytes e.0 e.1
 
   pub record_seen : (b rest : List ℕ) → read record_form (take 65550 list) ≡ Ok (b, rest) → read record_form list ≡ Ok (b, drop (5 + length b) list)
   record_seen b rest e =

@@ -1,5 +1,6 @@
 -- Small journals, put together by hand. Their ids are SHA-256 by another program.
 use Rattle.std.specs.Prelude.{ℕ, List, [], ◌∷◌, ◌++◌, codes, replicate}
+use Rattle.sp_model.specs.declared.profile.Profile.{Profile}
 use Rattle.sp_journal.specs.Journal.{Contents, contents}
 
 -- the smallest genesis block
@@ -31,5 +32,5 @@ abbrev pub record_of_child : List ℕ
 record_of_child = 165 ∷ 52 ∷ 0 ∷ 0 ∷ 0 ∷ child
 
 -- no records
-abbrev pub empty_journal : Contents
-empty_journal = contents 0 genesis []
+abbrev pub empty_journal : Profile → Contents
+empty_journal profile = contents profile 0 genesis []

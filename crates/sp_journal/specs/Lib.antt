@@ -1,4 +1,5 @@
 pub mod Judged
+pub mod Versions
 pub mod Format
 pub mod Journal
 pub mod Records

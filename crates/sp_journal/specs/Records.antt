@@ -1,5 +1,5 @@
--- What a list of bytes holds as a journal: none, one that is damaged at a place, or a bit count, a genesis
--- block and the blocks before the first closed gate.
+-- What a list of bytes holds as a journal: none, one that is damaged at a place, or a profile, a bit count, a
+-- genesis block and the blocks before the first closed gate.
 use Rattle.std.specs.Prelude.{false, ℕ, zero, suc, ◌+◌, ◌==◌, not, Bool, List, [], ◌∷◌, length, if◌then◌else◌, Result, Ok, Err}
 use Rattle.sp_form.specs.Reading.{read}
 use Rattle.sp_journal.specs.Format.{Flaw, Head, head_form, record_form, set}
@@ -38,7 +38,7 @@ pub data Records : Type 0 where
   Found : Contents → Records
 
 abbrev pub records_by : Head → Rows → Records
-records_by head (Sound blocks) = Found (contents head.bits head.genesis blocks)
+records_by head (Sound blocks) = Found (contents head.profile head.bits head.genesis blocks)
 records_by head (Faulty at) = Damaged at
 
 abbrev pub records_of : Result (Head × List ℕ) Flaw → Records

@@ -6,6 +6,7 @@ use Rattle.sp_form.specs.Turns.{InTurn}
 use Rattle.sp_ids.specs.Bits.{BeginsWithZeros}
 use Rattle.sp_ids.specs.Digest.{sha256_number}
 use Rattle.sp_block.specs.Block.{IsOther, parts_of, ReadBlock}
+use Rattle.sp_model.specs.declared.profile.Profile.{Profile}
 use Rattle.sp_block.specs.Spelling.{SpellsBlock}
 use Rattle.sp_journal.specs.Creation.{gate_of}
 use Rattle.sp_journal.specs.Format.{Flaw, head_form, head_of, record_form}
@@ -63,8 +64,8 @@ pub record EndsAt (start : ℕ) (blocks : List ReadBlock) (at : ℕ) : Type 0 wh
   pub bound : at ≤ start + 65541 * length blocks
 
 -- the head that a list begins with; none, and the byte at place 0
-abbrev pub IsHeadOf : List ℕ → Result (ℕ × ReadBlock) Gate → Type 0
-IsHeadOf list (Ok head) = read head_form list ≡ Ok (head_of head.0 head.1.bytes, drop (14 + length head.1.bytes) list)
+abbrev pub IsHeadOf : List ℕ → Result (Profile × ℕ × ReadBlock) Gate → Type 0
+IsHeadOf list (Ok head) = read head_form list ≡ Ok (head_of head.0 head.1 head.2.bytes, drop (14 + length head.2.bytes) list)
 IsHeadOf list (Err gate) = IsFlawed (read head_form list) × (gate ≡ gate_of list)
 
 -- what a list begins with behind the head

@@ -2,20 +2,22 @@
 use Rattle.std.specs.Prelude.{◌≡◌, ◌⊎◌, ℕ, ◌+◌, ◌*◌, ◌≤◌, Bool, List, length}
 use Rattle.sp_disk.specs.Images.{Among}
 use Rattle.sp_disk.specs.Moments.{Moment}
+use Rattle.sp_model.specs.declared.profile.Profile.{Profile}
 use Rattle.sp_journal.specs.Journal.{Contents, front, record_text, with_block}
 use Rattle.sp_journal.specs.Records.{Found, records}
 use Rattle.sp_journal.specs.Settled.{IsTold}
 
--- the bits of work, the number of records, the place of the closed gate behind them, and whether a call of
+-- the profile, the bits of work, the number of records, the place of the closed gate behind them, and whether a call of
 -- the disk failed, so that nothing more may be written
 pub record Writer : Type 0 where
+  pub profile : Profile
   pub bits : ℕ
   pub records : ℕ
   pub gate : ℕ
   pub closed : Bool
 
-abbrev pub writer : ℕ → ℕ → ℕ → Bool → Writer
-writer bits records gate closed = record { bits = bits; records = records; gate = gate; closed = closed }
+abbrev pub writer : Profile → ℕ → ℕ → ℕ → Bool → Writer
+writer profile bits records gate closed = record { profile = profile; bits = bits; records = records; gate = gate; closed = closed }
 
 -- what is true of every journal
 pub record IsWriter (w : Writer) : Type 0 where
@@ -25,12 +27,13 @@ pub record IsWriter (w : Writer) : Type 0 where
 
 -- with a record of these bytes more
 abbrev pub with_record : Writer → List ℕ → Writer
-with_record w bytes = writer w.bits (w.records + 1) (w.gate + length (record_text bytes)) w.closed
+with_record w bytes = writer w.profile w.bits (w.records + 1) (w.gate + length (record_text bytes)) w.closed
 
 -- every crash of the disk leaves these contents, and they are the journal's
 pub record Stands (w : Writer) (c : Contents) (m : Moment) : Type 0 where
   pub told : IsTold m
   pub holds : Among (λ image. records image ≡ Found c) m.images
+  pub profile : w.profile ≡ c.profile
   pub bits : w.bits ≡ c.bits
   pub count : w.records ≡ length c.blocks
   pub gate : w.gate ≡ length (front c)

@@ -26,6 +26,7 @@ use crate::recovery::recover;
 use sp_block::{Block, Blocks};
 use sp_disk::Disk;
 use sp_ids::Memory;
+use sp_model::Profile;
 use std::alloc::Global;
 use std::marker::Model;
 
@@ -34,12 +35,13 @@ const ROOM: usize = 65_550;
 
 /// A journal that stands on a disk, with room for the bytes of the longest record.
 ///
-/// On the disk stand a head with the bits of work and the genesis block, a record for each further
+/// On the disk stand a head with the profile, the bits of work and the genesis block, a record for each further
 /// block, and a closed gate; what follows the first closed gate has no meaning. The table of the
 /// format stands in docs/FORMATS.md under "Journals". Each gate is one byte, 0xA5 where it is open, and
 /// it is opened only once what stands behind it is on the disk.
 #[derive(Drop)]
 pub struct Journal {
+    profile: Profile,
     bits: u8,
     records: u16,
     gate: u64,
@@ -53,10 +55,10 @@ impl Model for Journal {
 
     ghost Value = { Writer };
 
-    ghost view = { λ j. writer j.bits j.records j.gate j.closed };
+    ghost view = { λ j. writer j.profile j.bits j.records j.gate j.closed };
 
     // The room is there from the first, so that no append takes memory.
-    ghost invariant = { λ j. IsWriter (writer j.bits j.records j.gate j.closed) × (65541 ≤ vec_capacity j.buffer) };
+    ghost invariant = { λ j. IsWriter (writer j.profile j.bits j.records j.gate j.closed) × (65541 ≤ vec_capacity j.buffer) };
 }
 
 /// What was found on a disk: the journal, and what it holds.
@@ -64,6 +66,8 @@ impl Model for Journal {
 pub struct Opened {
     /// The journal, to which blocks are added.
     pub journal: Journal,
+    /// The profile.
+    pub profile: Profile,
     /// The bits of work, 0 to 64.
     pub bits: u8,
     /// The genesis block.
@@ -78,19 +82,26 @@ impl Model for Opened {
 
     ghost Value = { Opening };
 
-    ghost view = { λ o. opening o.journal o.bits o.genesis o.blocks };
+    ghost view = { λ o. opening o.journal o.profile o.bits o.genesis o.blocks };
 
-    ghost invariant = { λ o. IsOpening (opening o.journal o.bits o.genesis o.blocks) };
+    ghost invariant = { λ o. IsOpening (opening o.journal o.profile o.bits o.genesis o.blocks) };
 }
 
 impl Journal {
     // A journal with so many records and its closed gate at this place.
-    pub(crate) fn at(alloc: Global, bits: u8, records: u16, gate: u64) -> Result<Journal, Memory>
-        requires { IsWriter (writer bits records gate false) }
-        ensures { IfOk result (λ journal. journal ≡ writer bits records gate false) }
+    pub(crate) fn at(
+        alloc: Global,
+        profile: Profile,
+        bits: u8,
+        records: u16,
+        gate: u64,
+    ) -> Result<Journal, Memory>
+        requires { IsWriter (writer profile bits records gate false) }
+        ensures { IfOk result (λ journal. journal ≡ writer profile bits records gate false) }
     {
         let buffer = Vec::with_capacity(alloc, ROOM)?;
         Ok(Journal {
+            profile,
             bits,
             records,
             gate,
@@ -115,6 +126,7 @@ impl Journal {
         alloc: Global,
         disk: &mut D,
         gate: Gate,
+        profile: Profile,
         bits: u8,
         genesis: &Block,
     ) -> Result<Journal, CreateFault>
@@ -123,11 +135,11 @@ impl Journal {
         requires bits { bits ≤ 64 }
         requires genesis { IsGenesis genesis.now }
 
-        ensures ok { IfOk result (λ journal. journal ≡ writer bits 0 (length genesis.now.bytes + 14) false) }
+        ensures ok { IfOk result (λ journal. journal ≡ writer profile bits 0 (length genesis.now.bytes + 14) false) }
         ensures stands { IfOk result (λ journal. IsTold (D.now disk.old)
-            → Stands journal (contents bits genesis.now.bytes []) (D.now disk.new)) }
+            → Stands journal (contents profile bits genesis.now.bytes []) (D.now disk.new)) }
         ensures any_moment { IsTold (D.now disk.old) → IsSynced (D.now disk.old)
-            → Leaves (D.now disk.old) (D.now disk.new) (HoldsNoneOrNew (contents bits genesis.now.bytes [])) }
+            → Leaves (D.now disk.old) (D.now disk.new) (HoldsNoneOrNew (contents profile bits genesis.now.bytes [])) }
         // Once a crash leaves nothing but a journal, it leaves one at each later moment.
         ensures lasts { IsTold (D.now disk.old) → Lasts (D.now disk.old) (D.now disk.new) HoldsJournal }
         ensures told { SameTold (D.now disk.old) (D.now disk.new) }
@@ -138,10 +150,11 @@ impl Journal {
     {
         let mut buffer = Vec::with_capacity(alloc, ROOM)?;
         let bytes = genesis.bytes.as_slice();
-        fill_head(&mut buffer, bits, bytes);
+        fill_head(&mut buffer, profile, bits, bytes);
         close_gate(disk, gate)?;
         open_over(disk, 0, &buffer)?;
         Ok(Journal {
+            profile,
             bits,
             records: 0,
             gate: bytes.len() as u64 + 14,
@@ -160,7 +173,7 @@ impl Journal {
     /// # Errors
     ///
     /// `NotJournal` where the first bytes are no head, with what stands at place 0: the disk ends
-    /// within the head, its gate is closed, the name isn't `SPCTRJ01`, the bits are above 64, the length
+    /// within the head, its gate is closed, the name is neither `SPCTRJ01` nor `SPCTRJ02`, the bits are above 64, the length
     /// is above 65,536, or the bytes spell no genesis block. `Damaged` at the place of the first gate
     /// with a fault: the disk ends before it; or it is open, and its length is above 65,536, the disk
     /// ends within the record, its bytes spell no block or that of genesis, its id misses the bits of

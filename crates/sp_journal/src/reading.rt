@@ -14,13 +14,14 @@ ghost use Rattle.sp_journal.specs.declared.fault.JournalFault.TheVariants.{DiskF
 ghost use Rattle.sp_journal.specs.Recovery.{bytes_in, Finds, FindsRecord, IsHeadOf, IsGood, IsGoodRow, IsRowOf, IsSpelled};
 
 use crate::fault::JournalFault;
-use crate::fields::{bits, block_length, journal_name, open_gate, open_record};
+use crate::fields::{bits, block_length, journal_profile, open_gate, open_record};
 use crate::gate::OPEN;
 use crate::gate_kind::Gate;
 use crate::row::Row;
 use sp_block::{Block, ReadBlockFault, check_work, read_block};
 use sp_form::Fields;
 use sp_ids::{BlockId, Memory};
+use sp_model::Profile;
 use std::alloc::Global;
 
 /// The block that the bytes spell, as a genesis block or as another one.
@@ -47,17 +48,17 @@ fn genesis(alloc: Global, fields: &mut Fields, length: u32) -> Result<Option<Blo
     Ok(found)
 }
 
-/// The head of a journal: the bits of work, and the genesis block.
-fn head(alloc: Global, fields: &mut Fields) -> Result<Option<(u8, Block)>, Memory>
+/// The head of a journal: the profile, the bits of work, and the genesis block.
+fn head(alloc: Global, fields: &mut Fields) -> Result<Option<(Profile, u8, Block)>, Memory>
     ensures found { IfOk result (λ found.
-        Finds (λ head. head_of head.0 head.1.bytes) found fields.new (read head_form fields.old)) }
-    ensures small { IfOk result (λ found. IfSome found (λ head. head.0 ≤ 64)) }
-    ensures genesis { IfOk result (λ found. IfSome found (λ head. IsGenesis head.1)) }
+        Finds (λ head. head_of head.0 head.1 head.2.bytes) found fields.new (read head_form fields.old)) }
+    ensures small { IfOk result (λ found. IfSome found (λ head. head.1 ≤ 64)) }
+    ensures genesis { IfOk result (λ found. IfSome found (λ head. IsGenesis head.2)) }
 {
     let Some(_gate) = open_gate(fields) else {
         return Ok(None);
     };
-    let Some(_name) = journal_name(fields) else {
+    let Some(profile) = journal_profile(fields) else {
         return Ok(None);
     };
     let Some(bits) = bits(fields) else {
@@ -70,7 +71,7 @@ fn head(alloc: Global, fields: &mut Fields) -> Result<Option<(u8, Block)>, Memor
     let Some(block) = found else {
         return Ok(None);
     };
-    Ok(Some((bits, block)))
+    Ok(Some((profile, bits, block)))
 }
 
 /// Whether a closed gate stands at the front.
@@ -122,11 +123,11 @@ fn record(
 pub(crate) fn head_in(
     alloc: Global,
     bytes: &[u8],
-) -> Result<Result<(u8, Block), Gate>, JournalFault>
+) -> Result<Result<(Profile, u8, Block), Gate>, JournalFault>
     ensures found { IfOk result (λ found. (list : List ℕ) → IsBytes list → bytes.now ≡ take 65550 list
         → IsHeadOf list found) }
-    ensures small { IfOk result (λ found. IfOk found (λ head. head.0 ≤ 64)) }
-    ensures genesis { IfOk result (λ found. IfOk found (λ head. IsGenesis head.1)) }
+    ensures small { IfOk result (λ found. IfOk found (λ head. head.1 ≤ 64)) }
+    ensures genesis { IfOk result (λ found. IfOk found (λ head. IsGenesis head.2)) }
     ensures plain { IfErr result IsPlain }
     ensures fault { IsErrOf result DiskFault → ⊥ }
 {

@@ -16,6 +16,7 @@ use crate::step::read_all;
 use sp_block::{Block, Blocks};
 use sp_disk::Disk;
 use sp_ids::{BlockId, Memory};
+use sp_model::Profile;
 use std::alloc::Global;
 
 /// The head of a disk's journal; where there is none, the byte at place 0.
@@ -23,12 +24,12 @@ fn head_on<D: Disk>(
     alloc: Global,
     disk: &mut D,
     buffer: &mut [u8],
-) -> Result<Result<(u8, Block), Gate>, JournalFault>
+) -> Result<Result<(Profile, u8, Block), Gate>, JournalFault>
     requires room { length buffer.old ≡ 65550 }
     ensures room { length buffer.new ≡ 65550 }
     ensures found { IfOk result (λ found. IfSome (D.now disk.old).reads (λ bytes. IsHeadOf bytes found)) }
-    ensures small { IfOk result (λ found. IfOk found (λ head. head.0 ≤ 64)) }
-    ensures genesis { IfOk result (λ found. IfOk found (λ head. IsGenesis head.1)) }
+    ensures small { IfOk result (λ found. IfOk found (λ head. head.1 ≤ 64)) }
+    ensures genesis { IfOk result (λ found. IfOk found (λ head. IsGenesis head.2)) }
     ensures plain { IfErr result IsPlain }
     ensures looked { HasLooked (D.now disk.old) (D.now disk.new) result }
 {
@@ -76,6 +77,7 @@ fn records<D: Disk>(
 /// The journal of a head, and of what stands behind it.
 fn opened_by(
     alloc: Global,
+    profile: Profile,
     bits: u8,
     genesis: Block,
     found: Result<(Vec<Block>, u64), u64>,
@@ -84,7 +86,7 @@ fn opened_by(
     requires genesis { IsGenesis genesis }
     requires ends { IfOk found (λ found. EndsAt (14 + length genesis.bytes) found.0.items found.1) }
     requires good { IfOk found (λ found. AreGood bits genesis.id found.0.items) }
-    ensures judged { (list : List ℕ) → IsHeadOf list (Ok (bits, genesis))
+    ensures judged { (list : List ℕ) → IsHeadOf list (Ok (profile, bits, genesis))
         → SaysRows (λ found. map bytes_in found.0.items) found
         (rows 511 bits (genesis.id ∷ []) (14 + length genesis.bytes) (drop (14 + length genesis.bytes) list))
         → Judges list result }
@@ -94,9 +96,10 @@ fn opened_by(
     let _id = genesis.id;
     match found {
         Ok((blocks, gate)) => {
-            let journal = Journal::at(alloc, bits, blocks.len() as u16, gate)?;
+            let journal = Journal::at(alloc, profile, bits, blocks.len() as u16, gate)?;
             Ok(Opened {
                 journal,
+                profile,
                 bits,
                 genesis,
                 blocks: Blocks::of(blocks),
@@ -111,18 +114,19 @@ fn behind<D: Disk>(
     alloc: Global,
     disk: &mut D,
     buffer: &mut [u8],
+    profile: Profile,
     bits: u8,
     genesis: Block,
 ) -> Result<Opened, JournalFault>
     requires room { length buffer.old ≡ 65550 }
     requires bits { bits ≤ 64 }
     requires genesis { IsGenesis genesis }
-    ensures judged { IfSome (D.now disk.old).reads (λ bytes. IsHeadOf bytes (Ok (bits, genesis)) → Judges bytes result) }
+    ensures judged { IfSome (D.now disk.old).reads (λ bytes. IsHeadOf bytes (Ok (profile, bits, genesis)) → Judges bytes result) }
     ensures looked { HasLooked (D.now disk.old) (D.now disk.new) result }
 {
     let start = 14 + genesis.bytes.as_slice().len() as u64;
     match records(alloc, disk, buffer, bits, genesis.id, start) {
-        Ok(found) => opened_by(alloc, bits, genesis, found),
+        Ok(found) => opened_by(alloc, profile, bits, genesis, found),
         Err(fault) => Err(fault),
     }
 }
@@ -142,7 +146,7 @@ fn read_into<D: Disk>(
         Err(fault) => return Err(fault),
     };
     match head {
-        Ok((bits, genesis)) => behind(alloc, disk, buffer, bits, genesis),
+        Ok((profile, bits, genesis)) => behind(alloc, disk, buffer, profile, bits, genesis),
         Err(gate) => Err(JournalFault::NotJournal { gate }),
     }
 }

@@ -23,8 +23,7 @@ use Rattle.sp_model.specs.Graph.{complete, Graph, has, keys, parents_of, rounds}
 use Rattle.sp_model.specs.Votes.{word}
 use Rattle.sp_model.specs.declared.word.Word.{Word}
 use Rattle.sp_model.specs.declared.word.Word.TheVariants as word_is
-use Rattle.sp_model.specs.declared.profile.Profile.TheVariants.{One}
-use Rattle.sp_pool.specs.Kept.{graph_of, present, standing_of}
+use Rattle.sp_pool.specs.Kept.{graph_in, graph_of, present, standing_of}
 use Rattle.sp_pool.specs.declared.answers.Standing.{Standing}
 use Rattle.sp_pool.specs.declared.answers.Standing.TheVariants as standing
 use Rattle.sp_pool.proofs.Parents.{keys-graph_of}
@@ -225,11 +224,11 @@ module _ (labels : AllLabels) (are : AreAllLabels labels) (kept : List ReadBlock
 
 pub answers_are_lines : AnswersAreLines
 unfolding reply_of answer_of
-answers_are_lines labels bits kept (SaysBlock bytes) are one = judged_is_line labels are kept (valid_in bits bytes)
-answers_are_lines labels bits kept (SaysVote x y) are one =
-    vote_is_line (label_of labels.blocks x) (label_of labels.blocks y) (word (graph_of kept) (present kept) x y) (named_fits labels.blocks are.blocks.short x) (named_fits labels.blocks are.blocks.short y)
-answers_are_lines labels bits kept (SaysTx id) are one = tx_is_line (label_of labels.txs id) (state_of One kept id) (named_fits labels.txs are.txs.short id)
-answers_are_lines labels bits kept (SaysBalance lock) are one =
-    balance_is_line (label_of labels.locks lock) (balance_by_id One kept lock) (named_fits labels.locks are.locks.short lock) (small_balance One kept one lock)
-answers_are_lines labels bits kept SaysPairs are one = absurd one
-answers_are_lines labels bits kept SaysReport are one = absurd one
+answers_are_lines labels terms kept (SaysBlock bytes) are one = judged_is_line labels are kept (valid_in terms.bits bytes)
+answers_are_lines labels terms kept (SaysVote x y) are one =
+    vote_is_line (label_of labels.blocks x) (label_of labels.blocks y) (word (graph_in terms.profile kept) (present kept) x y) (named_fits labels.blocks are.blocks.short x) (named_fits labels.blocks are.blocks.short y)
+answers_are_lines labels terms kept (SaysTx id) are one = tx_is_line (label_of labels.txs id) (state_of terms.profile kept id) (named_fits labels.txs are.txs.short id)
+answers_are_lines labels terms kept (SaysBalance lock) are one =
+    balance_is_line (label_of labels.locks lock) (balance_by_id terms.profile kept lock) (named_fits labels.locks are.locks.short lock) (small_balance terms.profile kept one lock)
+answers_are_lines labels terms kept SaysPairs are one = absurd one
+answers_are_lines labels terms kept SaysReport are one = absurd one

@@ -9,6 +9,7 @@ use Rattle.sp_feed.specs.Kinds.{Said, SaysBlock, SaysVote, SaysTx, SaysBalance, 
 use Rattle.sp_names.specs.Labels.{AllLabels}
 use Rattle.sp_node.specs.Answers.{answers, arrivals_of, kept_then, reply}
 use Rattle.sp_node.specs.Messages.{AnswersInTurn, KeptByMessages}
+use Rattle.sp_node.specs.Terms.{Terms}
 
 -- one arrival more
 pub kept_by_all-push : (bits : ℕ) (genesis : ReadBlock) (arrivals : List (List ℕ)) (bytes : List ℕ) → kept_by_all bits genesis (arrivals ++ bytes ∷ []) ≡ kept_after bits (kept_by_all bits genesis arrivals) bytes
@@ -35,22 +36,22 @@ pub kept_from_genesis : KeptByMessages
 kept_from_genesis bits genesis messages = kept_by_messages bits genesis [] messages
 
 -- the answers to a front of the messages, and then those to the rest
-pub answers-append : (labels : AllLabels) (genesis : ReadBlock) (bits : ℕ) (arrivals : List (List ℕ)) (front rest : List Said) → answers labels genesis bits arrivals (front ++ rest) ≡ answers labels genesis bits arrivals front ++ answers labels genesis bits (arrivals ++ flat_map arrivals_of front) rest
+pub answers-append : (labels : AllLabels) (genesis : ReadBlock) (terms : Terms) (arrivals : List (List ℕ)) (front rest : List Said) → answers labels genesis terms arrivals (front ++ rest) ≡ answers labels genesis terms arrivals front ++ answers labels genesis terms (arrivals ++ flat_map arrivals_of front) rest
 unfolding answers
-answers-append labels genesis bits arrivals [] rest = ap (λ (a : List (List ℕ)). answers labels genesis bits a rest) (sym (append-nil arrivals))
-answers-append labels genesis bits arrivals (m ∷ front) rest =
+answers-append labels genesis terms arrivals [] rest = ap (λ (a : List (List ℕ)). answers labels genesis terms a rest) (sym (append-nil arrivals))
+answers-append labels genesis terms arrivals (m ∷ front) rest =
     let after : List (List ℕ) = arrivals ++ arrivals_of m in
-    let here : List ℕ = reply labels genesis bits arrivals m in
-    ap (λ (l : List ℕ). here ++ l) (answers-append labels genesis bits after front rest)
-    ∙ ap (λ (a : List (List ℕ)). here ++ (answers labels genesis bits after front ++ answers labels genesis bits a rest)) (append_assoc arrivals (arrivals_of m) (flat_map arrivals_of front))
-    ∙ sym (append_assoc here (answers labels genesis bits after front) (answers labels genesis bits (arrivals ++ (arrivals_of m ++ flat_map arrivals_of front)) rest))
+    let here : List ℕ = reply labels genesis terms arrivals m in
+    ap (λ (l : List ℕ). here ++ l) (answers-append labels genesis terms after front rest)
+    ∙ ap (λ (a : List (List ℕ)). here ++ (answers labels genesis terms after front ++ answers labels genesis terms a rest)) (append_assoc arrivals (arrivals_of m) (flat_map arrivals_of front))
+    ∙ sym (append_assoc here (answers labels genesis terms after front) (answers labels genesis terms (arrivals ++ (arrivals_of m ++ flat_map arrivals_of front)) rest))
 
 pub answers_in_turn : AnswersInTurn
 answers_in_turn = answers-append
 
 -- the answers to one message more
-pub answers-push : (labels : AllLabels) (genesis : ReadBlock) (bits : ℕ) (arrivals : List (List ℕ)) (messages : List Said) (m : Said) → answers labels genesis bits arrivals (messages ++ m ∷ []) ≡ answers labels genesis bits arrivals messages ++ reply labels genesis bits (arrivals ++ flat_map arrivals_of messages) m
+pub answers-push : (labels : AllLabels) (genesis : ReadBlock) (terms : Terms) (arrivals : List (List ℕ)) (messages : List Said) (m : Said) → answers labels genesis terms arrivals (messages ++ m ∷ []) ≡ answers labels genesis terms arrivals messages ++ reply labels genesis terms (arrivals ++ flat_map arrivals_of messages) m
 unfolding answers
-answers-push labels genesis bits arrivals messages m =
-    answers-append labels genesis bits arrivals messages (m ∷ [])
-    ∙ ap (λ (l : List ℕ). answers labels genesis bits arrivals messages ++ l) (append-nil (reply labels genesis bits (arrivals ++ flat_map arrivals_of messages) m))
+answers-push labels genesis terms arrivals messages m =
+    answers-append labels genesis terms arrivals messages (m ∷ [])
+    ∙ ap (λ (l : List ℕ). answers labels genesis terms arrivals messages ++ l) (append-nil (reply labels genesis terms (arrivals ++ flat_map arrivals_of messages) m))

@@ -28,6 +28,8 @@ use Rattle.sp_journal.specs.Records.{Found}
 use Rattle.sp_journal.specs.Writer.{Stands, with_record, Writer}
 use Rattle.sp_journal.proofs.Fronts.{ids_are, journal_added}
 use Rattle.sp_node.specs.Journalled.{FitsKept, journal_in, kept_id}
+use Rattle.sp_node.specs.Terms.{Terms, terms_of}
+use Rattle.sp_model.specs.declared.profile.Profile.{Profile}
 
 -- the block that joins the kept ones
 pub record Joins (bits : ℕ) (kept : List ReadBlock) (bytes : List ℕ) (id : ℕ) : Type 0 where
@@ -126,15 +128,15 @@ module _ (bits : ℕ) (kept : List ReadBlock) (bytes : List ℕ) (id : ℕ) (are
   pub found_now : (now : List ReadBlock) (r : Option (Bor ReadBlock)) → option_copied r ≡ find (λ (b : ReadBlock). eqb b.id id) now → now ≡ kept_after bits kept bytes → option_copied r ≡ Some j.block
   found_now now r copied is = copied ∙ ap (find (λ (b : ReadBlock). eqb b.id id)) is ∙ found
 
-  pub ids_known : journal_ids (journal_in bits kept) ≡ ids_of kept
-  ids_known =
+  pub ids_known : (profile : Profile) → journal_ids (journal_in (terms_of profile bits) kept) ≡ ids_of kept
+  ids_known profile =
       let all : AllByRecursion IsBlock (are.genesis ∷ are.others) = recursion_from_All IsBlock (are.genesis ∷ are.others) (subst (All IsBlock) are.first are.are_blocks) in
-      ap (λ (k : List ReadBlock). journal_ids (journal_in bits k)) are.first ∙ ids_are bits are.genesis are.others all ∙ ap ids_of (sym are.first)
+      ap (λ (k : List ReadBlock). journal_ids (journal_in (terms_of profile bits) k)) are.first ∙ ids_are profile bits are.genesis are.others all ∙ ap ids_of (sym are.first)
 
-  pub now_holds : journal_in bits (kept_after bits kept bytes) ≡ with_block (journal_in bits kept) j.block.bytes
-  now_holds =
-      ap (journal_in bits) j.now ∙ ap (λ (k : List ReadBlock). journal_in bits (k ++ j.block ∷ [])) are.first ∙ sym (journal_added bits are.genesis j.block are.others)
-      ∙ ap (λ (k : List ReadBlock). with_block (journal_in bits k) j.block.bytes) (sym are.first)
+  pub now_holds : (profile : Profile) → journal_in (terms_of profile bits) (kept_after bits kept bytes) ≡ with_block (journal_in (terms_of profile bits) kept) j.block.bytes
+  now_holds profile =
+      ap (journal_in (terms_of profile bits)) j.now ∙ ap (λ (k : List ReadBlock). journal_in (terms_of profile bits) (k ++ j.block ∷ [])) are.first ∙ sym (journal_added profile bits are.genesis j.block are.others)
+      ∙ ap (λ (k : List ReadBlock). with_block (journal_in (terms_of profile bits) k) j.block.bytes) (sym are.first)
 
 -- a disk stands for one journal's contents
 read_image : (r : Option (List ℕ)) (images : List ℕ → Type 0) → IsSome r → IfSome r images → (image : List ℕ) × images image
@@ -162,12 +164,13 @@ not_missing r x is copied =
     let here : (let o : Option ReadBlock = None in o) ≡ Some x = ap option_copied (sym is) ∙ copied in absurd (cc here)
 
 -- one record more, and one block more
-pub fits_more : (bits : ℕ) (kept : List ReadBlock) (bytes bytes' : List ℕ) (id : ℕ) (w w' : Writer) → FitsKept bits kept w → Joins bits kept bytes id → w' ≡ with_record w bytes' → FitsKept bits (kept_after bits kept bytes) w'
-fits_more bits kept bytes bytes' id w w' fits joins is = record {
+pub fits_more : (terms : Terms) (kept : List ReadBlock) (bytes bytes' : List ℕ) (id : ℕ) (w w' : Writer) → FitsKept terms kept w → Joins terms.bits kept bytes id → w' ≡ with_record w bytes' → FitsKept terms (kept_after terms.bits kept bytes) w'
+fits_more terms kept bytes bytes' id w w' fits joins is = record {
   live = ap (λ (x : Writer). x.closed) is ∙ fits.live;
+  profile = ap (λ (x : Writer). x.profile) is ∙ fits.profile;
   work = ap (λ (x : Writer). x.bits) is ∙ fits.work;
   count = omega (arith, fits.count, ap (λ (x : Writer). x.records) is, ap length joins.now, length-append kept (joins.block ∷ []));
 }
 
-pub fits_same : (bits bits' : ℕ) (kept kept' : List ReadBlock) (w : Writer) → bits' ≡ bits → kept' ≡ kept → FitsKept bits kept w → FitsKept bits' kept' w
-fits_same bits bits' kept kept' w b k fits = record { live = fits.live; work = fits.work ∙ sym b; count = fits.count ∙ ap length (sym k) }
+pub fits_same : (terms terms' : Terms) (kept kept' : List ReadBlock) (w : Writer) → terms' ≡ terms → kept' ≡ kept → FitsKept terms kept w → FitsKept terms' kept' w
+fits_same terms terms' kept kept' w b k fits = record { live = fits.live; profile = fits.profile ∙ ap (λ (t : Terms). t.profile) (sym b); work = fits.work ∙ ap (λ (t : Terms). t.bits) (sym b); count = fits.count ∙ ap length (sym k) }

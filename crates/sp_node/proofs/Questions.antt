@@ -13,6 +13,7 @@ use Rattle.sp_journal.specs.Writer.{Writer}
 use Rattle.sp_node.specs.Answers.{IsQuestion, kept_then}
 use Rattle.sp_node.specs.Journalled.{HoldsThen, IsKeptOn, LeavesOn}
 use Rattle.sp_node.specs.Node.{HasNodeCause, State, stops}
+use Rattle.sp_node.specs.Terms.{Terms}
 use Rattle.sp_node.specs.declared.fault.NodeFault.{NodeFault}
 use Rattle.sp_node.specs.declared.fault.NodeFault.TheVariants.{WriteFault, DiskFault, Memory}
 
@@ -49,10 +50,10 @@ question_keeps bits kept now None question same = tt
 question_keeps bits kept now (Some said) question same = keeps bits kept now said question same
 
 -- what a crash leaves
-pub question_leaves : (bits : ℕ) (kept : List ReadBlock) (journal : Option Writer) (m : Moment) (s : Option Said) → IsMoment m → IsKeptOn bits kept journal m → IfSome s (λ said. LeavesOn journal m m (HoldsThen bits kept said))
-question_leaves bits kept journal m None law stands = tt
-question_leaves bits kept None m (Some said) law stands = tt
-question_leaves bits kept (Some w) m (Some said) law stands = λ told. started m (HoldsThen bits kept said) law (λ image left. inl ((stands told).holds image left))
+pub question_leaves : (terms : Terms) (kept : List ReadBlock) (journal : Option Writer) (m : Moment) (s : Option Said) → IsMoment m → IsKeptOn terms kept journal m → IfSome s (λ said. LeavesOn journal m m (HoldsThen terms kept said))
+question_leaves terms kept journal m None law stands = tt
+question_leaves terms kept None m (Some said) law stands = tt
+question_leaves terms kept (Some w) m (Some said) law stands = λ told. started m (HoldsThen terms kept said) law (λ image left. inl ((stands told).holds image left))
 
 -- why it isn't answered
 pub question_cause : {X : Type 0} (r : Result X NodeFault) (before now disk_before disk_now : ℕ) → r ≢ Err DiskFault → (r ≡ Err WriteFault → Rose before now) → IfErr r (HasNodeCause before now disk_before disk_now)

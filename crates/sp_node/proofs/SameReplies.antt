@@ -9,7 +9,6 @@ use Rattle.sp_block.proofs.Ascent.{ascending_permuted}
 use Rattle.sp_model.specs.Graph.{AreDistinct, has}
 use Rattle.sp_model.proofs.Sets.{has-filter, has-filter_from}
 use Rattle.sp_model.specs.declared.profile.Profile.{Profile}
-use Rattle.sp_model.specs.declared.profile.Profile.TheVariants.{One}
 use Rattle.sp_pool.specs.Kept.{AreApart, present}
 use Rattle.sp_carry.specs.Ledger.{is_accepted, IsPlain}
 use Rattle.sp_engine.specs.Arrivals.{kept_by_all}
@@ -125,14 +124,14 @@ module _ (profile : Profile) (labels : AllLabels) (kept others : List ReadBlock)
 
 pub order_is_no_matter : OrderIsNoMatter
 unfolding reply_of
-order_is_no_matter labels bits genesis arrivals others (SaysBlock bytes) question same plain = absurd question
-order_is_no_matter labels bits genesis arrivals others (SaysVote x y) question same plain =
-    ap (vote_text (label_of labels.blocks x) (label_of labels.blocks y)) (sym (same_word (kept_by_all bits genesis arrivals) (kept_by_all bits genesis others) (same_kept bits genesis arrivals others same) One x y))
-order_is_no_matter labels bits genesis arrivals others (SaysTx id) question same plain =
-    ap (tx_text (label_of labels.txs id)) (sym (same_state (kept_by_all bits genesis arrivals) (kept_by_all bits genesis others) (same_kept bits genesis arrivals others same) One id plain))
-order_is_no_matter labels bits genesis arrivals others (SaysBalance lock) question same plain =
-    ap (balance_text (label_of labels.locks lock)) (same_left One labels (kept_by_all bits genesis arrivals) (kept_by_all bits genesis others) (same_kept bits genesis arrivals others same) plain lock)
-order_is_no_matter labels bits genesis arrivals others SaysPairs question same plain =
-    same_pairs One labels (kept_by_all bits genesis arrivals) (kept_by_all bits genesis others) (same_kept bits genesis arrivals others same)
-order_is_no_matter labels bits genesis arrivals others SaysReport question same plain =
-    same_report One labels (kept_by_all bits genesis arrivals) (kept_by_all bits genesis others) (same_kept bits genesis arrivals others same) plain
+order_is_no_matter labels terms genesis arrivals others (SaysBlock bytes) question same plain = absurd question
+order_is_no_matter labels terms genesis arrivals others (SaysVote x y) question same plain =
+    ap (vote_text (label_of labels.blocks x) (label_of labels.blocks y)) (sym (same_word (kept_by_all terms.bits genesis arrivals) (kept_by_all terms.bits genesis others) (same_kept terms.bits genesis arrivals others same) terms.profile x y))
+order_is_no_matter labels terms genesis arrivals others (SaysTx id) question same plain =
+    ap (tx_text (label_of labels.txs id)) (sym (same_state (kept_by_all terms.bits genesis arrivals) (kept_by_all terms.bits genesis others) (same_kept terms.bits genesis arrivals others same) terms.profile id plain))
+order_is_no_matter labels terms genesis arrivals others (SaysBalance lock) question same plain =
+    ap (balance_text (label_of labels.locks lock)) (same_left terms.profile labels (kept_by_all terms.bits genesis arrivals) (kept_by_all terms.bits genesis others) (same_kept terms.bits genesis arrivals others same) plain lock)
+order_is_no_matter labels terms genesis arrivals others SaysPairs question same plain =
+    same_pairs terms.profile labels (kept_by_all terms.bits genesis arrivals) (kept_by_all terms.bits genesis others) (same_kept terms.bits genesis arrivals others same)
+order_is_no_matter labels terms genesis arrivals others SaysReport question same plain =
+    same_report terms.profile labels (kept_by_all terms.bits genesis arrivals) (kept_by_all terms.bits genesis others) (same_kept terms.bits genesis arrivals others same) plain

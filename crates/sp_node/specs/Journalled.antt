@@ -13,11 +13,12 @@ use Rattle.sp_journal.specs.Records.{Found, records}
 use Rattle.sp_journal.specs.Settled.{IsTold}
 use Rattle.sp_journal.specs.Writer.{Stands, Writer}
 use Rattle.sp_node.specs.Answers.{kept_then}
+use Rattle.sp_node.specs.Terms.{Terms}
 
 -- the journal of the kept blocks, of which genesis is the first
-abbrev pub journal_in : ℕ → List ReadBlock → Contents
-journal_in bits [] = contents bits [] []
-journal_in bits (genesis ∷ others) = journal_of bits genesis others
+abbrev pub journal_in : Terms → List ReadBlock → Contents
+journal_in terms [] = contents terms.profile terms.bits [] []
+journal_in terms (genesis ∷ others) = journal_of terms.profile terms.bits genesis others
 
 -- the id of the block that is kept now, where one is
 abbrev pub kept_id : Answer → Option ℕ
@@ -28,34 +29,35 @@ kept_id (Refused refusal) = None
 kept_id Full = None
 
 -- the journal may take a further record, and has one for each kept block but genesis
-pub record FitsKept (bits : ℕ) (kept : List ReadBlock) (w : Writer) : Type 0 where
+pub record FitsKept (terms : Terms) (kept : List ReadBlock) (w : Writer) : Type 0 where
   pub live : w.closed ≡ false
-  pub work : w.bits ≡ bits
+  pub profile : w.profile ≡ terms.profile
+  pub work : w.bits ≡ terms.bits
   pub count : w.records + 1 ≡ length kept
 
 -- every crash of the disk leaves the journal of the kept blocks
-abbrev pub StandsForKept : ℕ → List ReadBlock → Writer → Moment → Type 0
-StandsForKept bits kept w m = Stands w (journal_in bits kept) m
+abbrev pub StandsForKept : Terms → List ReadBlock → Writer → Moment → Type 0
+StandsForKept terms kept w m = Stands w (journal_in terms kept) m
 
 -- the bytes hold the journal of the blocks that were kept before these bytes arrived, or of those after
-abbrev pub HoldsBeforeOrAfter : ℕ → List ReadBlock → List ℕ → List ℕ → Type 0
-HoldsBeforeOrAfter bits kept bytes list =
-    (records list ≡ Found (journal_in bits kept)) ⊎ (records list ≡ Found (journal_in bits (kept_after bits kept bytes)))
+abbrev pub HoldsBeforeOrAfter : Terms → List ReadBlock → List ℕ → List ℕ → Type 0
+HoldsBeforeOrAfter terms kept bytes list =
+    (records list ≡ Found (journal_in terms kept)) ⊎ (records list ≡ Found (journal_in terms (kept_after terms.bits kept bytes)))
 
 -- the same before a message and after it
-abbrev pub HoldsThen : ℕ → List ReadBlock → Said → List ℕ → Type 0
-HoldsThen bits kept said list =
-    (records list ≡ Found (journal_in bits kept)) ⊎ (records list ≡ Found (journal_in bits (kept_then bits kept said)))
+abbrev pub HoldsThen : Terms → List ReadBlock → Said → List ℕ → Type 0
+HoldsThen terms kept said list =
+    (records list ≡ Found (journal_in terms kept)) ⊎ (records list ≡ Found (journal_in terms (kept_then terms.bits kept said)))
 
 -- What is said of a node's disk is said where the node has a journal.
 
-abbrev pub FitsOn : ℕ → List ReadBlock → Option Writer → Type 0
-FitsOn bits kept None = Unit {0}
-FitsOn bits kept (Some w) = FitsKept bits kept w
+abbrev pub FitsOn : Terms → List ReadBlock → Option Writer → Type 0
+FitsOn terms kept None = Unit {0}
+FitsOn terms kept (Some w) = FitsKept terms kept w
 
-abbrev pub IsKeptOn : ℕ → List ReadBlock → Option Writer → Moment → Type 0
-IsKeptOn bits kept None m = Unit {0}
-IsKeptOn bits kept (Some w) m = IsTold m → StandsForKept bits kept w m
+abbrev pub IsKeptOn : Terms → List ReadBlock → Option Writer → Moment → Type 0
+IsKeptOn terms kept None m = Unit {0}
+IsKeptOn terms kept (Some w) m = IsTold m → StandsForKept terms kept w m
 
 -- a crash at any moment since the old one leaves what has P
 abbrev pub LeavesOn : Option Writer → Moment → Moment → (List ℕ → Type 0) → Type 0

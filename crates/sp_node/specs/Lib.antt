@@ -1,3 +1,4 @@
+pub mod Terms
 pub mod Answers
 pub mod Journalled
 pub mod Messages

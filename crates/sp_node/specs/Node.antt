@@ -3,18 +3,19 @@ use Rattle.std.specs.Prelude.{ℕ, Bool, false, true, List, Option, None, Result
 use Rattle.sp_io.specs.Causes.{Rose}
 use Rattle.sp_block.specs.Block.{ReadBlock}
 use Rattle.sp_journal.specs.Writer.{Writer}
+use Rattle.sp_node.specs.Terms.{Terms}
 use Rattle.sp_node.specs.declared.fault.NodeFault.{NodeFault}
 use Rattle.sp_node.specs.declared.fault.NodeFault.TheVariants.{WriteFault, DiskFault, Memory}
 
--- the bits of work, the kept blocks, whether the sink or the disk failed, and the journal, where there is one
+-- the profile and the bits of work, the kept blocks, whether the sink or the disk failed, and the journal, where there is one
 pub record State : Type 0 where
-  pub bits : ℕ
+  pub terms : Terms
   pub kept : List ReadBlock
   pub stopped : Bool
   pub journal : Option Writer
 
-abbrev pub state : ℕ → List ReadBlock → State
-state bits kept = record { bits = bits; kept = kept; stopped = false; journal = None }
+abbrev pub state : Terms → List ReadBlock → State
+state terms kept = record { terms = terms; kept = kept; stopped = false; journal = None }
 
 -- the sink's count of faults rose, or that of the disk, or memory was refused
 abbrev pub HasNodeCause : ℕ → ℕ → ℕ → ℕ → NodeFault → Type 0

@@ -44,8 +44,9 @@ abbrev pub stored_blocks : Stored → List ReadBlock
 stored_blocks (Empty gate) = []
 stored_blocks (Found opened) = opened.blocks
 
--- a feed's head asks for the bits and the genesis block of an opened journal
+-- a feed's head asks for the profile, the bits and the genesis block of an opened journal
 pub record IsSameChain (o : Opening) (head : ReadHead) : Type 0 where
+  pub profile : o.profile ≡ head.profile
   pub bits : o.bits ≡ head.bits
   pub genesis : o.genesis.bytes ≡ head.genesis.bytes
 
@@ -54,16 +55,16 @@ abbrev pub IsOfSame : Stored → ReadHead → Type 0
 IsOfSame (Empty gate) head = Unit {0}
 IsOfSame (Found opened) head = IsSameChain opened head
 
--- the bits and the ids of both, which are the digests of their genesis blocks
+-- the bits, the ids, which are the digests of the genesis blocks, and the profiles of both
 abbrev pub NamesBoth : Stored → ReadHead → StartFault → Type 0
 NamesBoth (Empty gate) head fault = ⊥
-NamesBoth (Found o) head fault = fault ≡ starts.OtherChain o.bits (sha256_number o.genesis.bytes) head.bits (sha256_number head.genesis.bytes)
+NamesBoth (Found o) head fault = fault ≡ starts.OtherChain o.bits (sha256_number o.genesis.bytes) o.profile head.bits (sha256_number head.genesis.bytes) head.profile
 
 -- What a start leaves of a disk at each moment: no journal or the new one, where there was none and nothing was
 -- pending; and once it leaves nothing but a journal, that lasts. A found journal's disk isn't called.
 abbrev pub LeavesStarted : Stored → ReadHead → Moment → Moment → Type 0
 LeavesStarted (Empty gate) head old new =
-    IsTold old → (IsSynced old → Leaves old new (HoldsNoneOrNew (contents head.bits head.genesis.bytes []))) × Lasts old new HoldsJournal
+    IsTold old → (IsSynced old → Leaves old new (HoldsNoneOrNew (contents head.profile head.bits head.genesis.bytes []))) × Lasts old new HoldsJournal
 LeavesStarted (Found opened) head old new = Unit {0}
 
 abbrev pub IsFound : Stored → Type 0

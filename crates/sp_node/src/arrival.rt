@@ -8,6 +8,7 @@ ghost use Rattle.sp_engine.specs.Engine.{IsRefused};
 ghost use Rattle.sp_journal.specs.Settled.{IsTold, SameTold};
 ghost use Rattle.sp_node.specs.Journalled.{FitsKept, FitsOn, HoldsBeforeOrAfter, IsKeptOn, LeavesOn, StandsForKept};
 ghost use Rattle.sp_node.specs.Journalled as meant;
+ghost use Rattle.sp_node.specs.Terms.{terms_in};
 ghost use Rattle.sp_node.specs.declared.fault.KeepFault.TheVariants.{DiskFault, Memory};
 
 use crate::fault::KeepFault;
@@ -34,21 +35,20 @@ fn keep<D: Disk>(
     disk: &mut D,
     bytes: &[u8],
 ) -> Result<Answer, KeepFault>
-    requires fits { FitsKept engine.old.bits engine.old.kept journal.old }
-    requires stands { IsTold (D.now disk.old) → StandsForKept engine.old.bits engine.old.kept journal.old (D.now disk.old) }
+    requires fits { FitsKept (terms_in engine.old) engine.old.kept journal.old }
+    requires stands { IsTold (D.now disk.old) → StandsForKept (terms_in engine.old) engine.old.kept journal.old (D.now disk.old) }
 
     ensures answer { IfOk result (λ answer. answer ≡ answer_of engine.old.bits engine.old.kept bytes.now) }
     ensures kept { OnOk result (engine.new.kept ≡ kept_after engine.old.bits engine.old.kept bytes.now) }
     ensures kept_unsure { result ≡ Err KeepFault.DiskFault
         → engine.new.kept ≡ kept_after engine.old.bits engine.old.kept bytes.now }
-    ensures profile { OnOk result (engine.new.profile ≡ engine.old.profile) }
-    ensures bits { engine.new.bits ≡ engine.old.bits }
-    ensures fits { OnOk result (FitsKept engine.new.bits engine.new.kept journal.new) }
+    ensures terms { terms_in engine.new ≡ terms_in engine.old }
+    ensures fits { OnOk result (FitsKept (terms_in engine.new) engine.new.kept journal.new) }
 
     ensures acknowledged { OnOk result (IsTold (D.now disk.old)
-        → StandsForKept engine.new.bits engine.new.kept journal.new (D.now disk.new)) }
+        → StandsForKept (terms_in engine.new) engine.new.kept journal.new (D.now disk.new)) }
     ensures any_moment { IsTold (D.now disk.old) → Leaves (D.now disk.old) (D.now disk.new)
-        (HoldsBeforeOrAfter engine.old.bits engine.old.kept bytes.now) }
+        (HoldsBeforeOrAfter (terms_in engine.old) engine.old.kept bytes.now) }
     ensures told { SameTold (D.now disk.old) (D.now disk.new) }
     ensures fault { IsErrOf result DiskFault → Rose (D.now disk.old).faults (D.now disk.new).faults }
     ensures memory { IsErrOf result Memory → (disk.new ≡ disk.old) × (journal.new ≡ journal.old) }
@@ -78,21 +78,20 @@ pub(crate) fn keep_on<D: Disk>(
     disk: &mut D,
     bytes: &[u8],
 ) -> Result<Answer, KeepFault>
-    requires fits { FitsOn engine.old.bits engine.old.kept journal.old }
-    requires stands { IsKeptOn engine.old.bits engine.old.kept journal.old (D.now disk.old) }
+    requires fits { FitsOn (terms_in engine.old) engine.old.kept journal.old }
+    requires stands { IsKeptOn (terms_in engine.old) engine.old.kept journal.old (D.now disk.old) }
 
     ensures answer { IfOk result (λ answer. answer ≡ answer_of engine.old.bits engine.old.kept bytes.now) }
     ensures kept { OnOk result (engine.new.kept ≡ kept_after engine.old.bits engine.old.kept bytes.now) }
     ensures kept_unsure { result ≡ Err KeepFault.DiskFault
         → engine.new.kept ≡ kept_after engine.old.bits engine.old.kept bytes.now }
-    ensures profile { OnOk result (engine.new.profile ≡ engine.old.profile) }
-    ensures bits { engine.new.bits ≡ engine.old.bits }
-    ensures fits { OnOk result (FitsOn engine.new.bits engine.new.kept journal.new) }
+    ensures terms { terms_in engine.new ≡ terms_in engine.old }
+    ensures fits { OnOk result (FitsOn (terms_in engine.new) engine.new.kept journal.new) }
     ensures has { is_some journal.new ≡ is_some journal.old }
 
-    ensures acknowledged { OnOk result (IsKeptOn engine.new.bits engine.new.kept journal.new (D.now disk.new)) }
+    ensures acknowledged { OnOk result (IsKeptOn (terms_in engine.new) engine.new.kept journal.new (D.now disk.new)) }
     ensures any_moment { LeavesOn journal.old (D.now disk.old) (D.now disk.new)
-        (HoldsBeforeOrAfter engine.old.bits engine.old.kept bytes.now) }
+        (HoldsBeforeOrAfter (terms_in engine.old) engine.old.kept bytes.now) }
     ensures uncalled { journal.old ≡ None → (disk.new ≡ disk.old) × (result ≢ Err KeepFault.DiskFault) }
     ensures told { SameTold (D.now disk.old) (D.now disk.new) }
     ensures fault { IsErrOf result DiskFault → Rose (D.now disk.old).faults (D.now disk.new).faults }

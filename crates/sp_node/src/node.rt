@@ -27,13 +27,12 @@ use sp_feed::{FeedHead, Message};
 use sp_ids::Memory;
 use sp_io::Sink;
 use sp_journal::Journal;
-use sp_model::Profile;
 use sp_report::Naming;
 use std::alloc::Global;
 use std::marker::Model;
 
-/// A node that keeps its blocks in memory, and in a journal where it has one. Contracts see the bits
-/// of work, the kept blocks, whether it is stopped, and the journal.
+/// A node that keeps its blocks in memory, and in a journal where it has one. Contracts see the
+/// profile and the bits of work, the kept blocks, whether it is stopped, and the journal.
 pub struct Node {
     alloc: Global,
     engine: Engine,
@@ -43,16 +42,16 @@ pub struct Node {
 
 impl Model for Node {
     ghost use Rattle.std.specs.Prelude.{◌≡◌, false};
-    ghost use Rattle.sp_model.specs.declared.profile.Profile.TheVariants.{One};
     ghost use Rattle.sp_node.specs.Journalled.{FitsOn};
     ghost use Rattle.sp_node.specs.Node.{State};
+    ghost use Rattle.sp_node.specs.Terms.{terms_in};
 
     ghost Value = { State };
 
-    ghost view = { λ n. record { bits = n.engine.bits; kept = n.engine.kept; stopped = n.stopped; journal = n.journal } };
+    ghost view = { λ n. record { terms = terms_in n.engine; kept = n.engine.kept; stopped = n.stopped; journal = n.journal } };
 
     ghost invariant = { λ n. n.stopped ≡ false
-        → (n.engine.profile ≡ One) × FitsOn n.engine.bits n.engine.kept n.journal };
+        → FitsOn (terms_in n.engine) n.engine.kept n.journal };
 }
 
 // Written out, so that where a node is let go there is one call, and not one for each thing that it
@@ -69,8 +68,8 @@ impl Drop for Node {
 }
 
 impl Node {
-    ghost use Rattle.sp_model.specs.declared.profile.Profile.TheVariants.{One};
     ghost use Rattle.sp_node.specs.Node.{state};
+    ghost use Rattle.sp_node.specs.Terms.{terms_in, terms_of};
 
     /// A node without a journal, which keeps the genesis block of the feed.
     ///
@@ -78,10 +77,14 @@ impl Node {
     ///
     /// `Memory` where there was none for the engine.
     pub fn plain(alloc: Global, head: FeedHead) -> Result<Node, Memory>
-        ensures { IfOk result (λ node. node ≡ state head.bits (head.genesis ∷ [])) }
+        ensures { IfOk result (λ node. node ≡ state (terms_of head.profile head.bits) (head.genesis ∷ [])) }
     {
-        let FeedHead { bits, genesis } = head;
-        let engine = Engine::new(alloc, genesis, bits, Profile::One)?;
+        let FeedHead {
+            profile,
+            bits,
+            genesis,
+        } = head;
+        let engine = Engine::new(alloc, genesis, bits, profile)?;
         Ok(Node {
             alloc,
             engine,
@@ -96,8 +99,9 @@ impl Node {
     ///
     /// # Errors
     ///
-    /// `OtherChain` exactly where a journal was found and its bits of work or the bytes of its genesis
-    /// block differ from those of the head, with the bits and the genesis ids of both. `DiskFault`
+    /// `OtherChain` exactly where a journal was found and its profile, its bits of work or the bytes of
+    /// its genesis block differ from those of the head, with the bits, the genesis ids and the profiles
+    /// of both. `DiskFault`
     /// where the disk refused a call: it holds no journal, or the new one. `Memory` where there was
     /// none for the engine or the journal; the disk wasn't called.
     pub fn start<D: Disk>(
@@ -111,10 +115,10 @@ impl Node {
         ensures kept { IfOk result (λ node. node.kept ≡ head.genesis ∷ stored_blocks stored) }
         ensures sent { IfOk result (λ node. node.kept
             ≡ kept_by_all head.bits head.genesis (map bytes_in (stored_blocks stored))) }
-        ensures bits { IfOk result (λ node. node.bits ≡ head.bits) }
+        ensures terms { IfOk result (λ node. node.terms ≡ terms_of head.profile head.bits) }
         ensures live { IfOk result (λ node. node.stopped ≡ false) }
         ensures has { IfOk result (λ node. IsSome node.journal) }
-        ensures stands { IfOk result (λ node. IsKeptOn node.bits node.kept node.journal (D.now disk.new)) }
+        ensures stands { IfOk result (λ node. IsKeptOn node.terms node.kept node.journal (D.now disk.new)) }
 
         // A crash at any moment of the call leaves what was found, or no journal or the new one; and once it
         // leaves nothing but a journal, it leaves one at each later moment.
@@ -145,9 +149,8 @@ impl Node {
 
     // A node of an engine and the journal of its kept blocks.
     fn with_journal(alloc: Global, engine: Engine, journal: Journal) -> Node
-        requires profile { engine.profile ≡ One }
-        requires fits { FitsKept engine.bits engine.kept journal }
-        ensures { result ≡ record { bits = engine.bits; kept = engine.kept; stopped = false; journal = Some journal } }
+        requires { FitsKept (terms_in engine) engine.kept journal }
+        ensures { result ≡ record { terms = terms_in engine; kept = engine.kept; stopped = false; journal = Some journal } }
     {
         Node {
             alloc,
@@ -180,34 +183,34 @@ impl Node {
     ) -> Result<(), NodeFault>
         requires live { self.old.stopped ≡ false }
         requires before_end { IsSome (said_by message.now) }
-        requires stands { IsKeptOn self.old.bits self.old.kept self.old.journal (D.now disk.old) }
+        requires stands { IsKeptOn self.old.terms self.old.kept self.old.journal (D.now disk.old) }
 
         // What answers the message is written, and a block that was to be kept is.
         ensures ok { OnOk result (IfSome (said_by message.now) (λ said.
             Appends (K.taken sink.old) (K.taken sink.new)
-            (reply_of (labels_of naming.now) self.old.bits self.old.kept said))) }
+            (reply_of (labels_of naming.now) self.old.terms self.old.kept said))) }
         ensures kept { OnOk result (IfSome (said_by message.now) (λ said.
-            self.new.kept ≡ kept_then self.old.bits self.old.kept said)) }
-        ensures bits { self.new.bits ≡ self.old.bits }
+            self.new.kept ≡ kept_then self.old.terms.bits self.old.kept said)) }
+        ensures terms { self.new.terms ≡ self.old.terms }
 
         // So is one whose line wasn't written whole.
         ensures kept_unwritten { result ≡ Err NodeFault.WriteFault → IfSome (said_by message.now)
-            (λ said. self.new.kept ≡ kept_then self.old.bits self.old.kept said) }
+            (λ said. self.new.kept ≡ kept_then self.old.terms.bits self.old.kept said) }
 
         // So is one that the disk may hold or not.
         ensures kept_unsure { result ≡ Err NodeFault.DiskFault → IfSome (said_by message.now)
-            (λ said. self.new.kept ≡ kept_then self.old.bits self.old.kept said) }
+            (λ said. self.new.kept ≡ kept_then self.old.terms.bits self.old.kept said) }
 
         // Every crash leaves a block whose line is written, or was to be.
         ensures acknowledged { OnOk result
-            (IsKeptOn self.new.bits self.new.kept self.new.journal (D.now disk.new)) }
+            (IsKeptOn self.new.terms self.new.kept self.new.journal (D.now disk.new)) }
         ensures acknowledged_unwritten { result ≡ Err NodeFault.WriteFault
-            → IsKeptOn self.new.bits self.new.kept self.new.journal (D.now disk.new) }
+            → IsKeptOn self.new.terms self.new.kept self.new.journal (D.now disk.new) }
 
         // A crash at any moment of the call leaves the blocks from before it, or these and the new one.
         ensures any_moment { IfSome (said_by message.now) (λ said.
             LeavesOn self.old.journal (D.now disk.old) (D.now disk.new)
-            (HoldsThen self.old.bits self.old.kept said)) }
+            (HoldsThen self.old.terms self.old.kept said)) }
         ensures uncalled { self.old.journal ≡ None → (disk.new ≡ disk.old) × (result ≢ Err NodeFault.DiskFault) }
         ensures asked { IfSome (said_by message.now) (λ said. IsQuestion said
             → (disk.new ≡ disk.old) × (result ≢ Err NodeFault.DiskFault)) }
@@ -217,7 +220,7 @@ impl Node {
         // failed.
         ensures err { OnErr result (IfSome (said_by message.now) (λ said.
             AppendsFront (K.taken sink.old) (K.taken sink.new)
-            (reply_of (labels_of naming.now) self.old.bits self.old.kept said))) }
+            (reply_of (labels_of naming.now) self.old.terms self.old.kept said))) }
         ensures silent { result ≡ Err NodeFault.DiskFault → sink.new ≡ sink.old }
         ensures memory { result ≡ Err NodeFault.Memory → sink.new ≡ sink.old }
         ensures memory_disk { result ≡ Err NodeFault.Memory → disk.new ≡ disk.old }
@@ -255,9 +258,9 @@ impl Node {
 
     /// The engine.
     pub fn engine(&self) -> &Engine
-        ensures bits { result.now.bits ≡ self.now.bits }
+        ensures profile { result.now.profile ≡ self.now.terms.profile }
+        ensures bits { result.now.bits ≡ self.now.terms.bits }
         ensures kept { result.now.kept ≡ self.now.kept }
-        ensures profile { self.now.stopped ≡ false → result.now.profile ≡ One }
     {
         &self.engine
     }

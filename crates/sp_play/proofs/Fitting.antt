@@ -83,4 +83,4 @@ is_read known scene h bits genesis messages limit rest long =
     let spelled : is_block true scene.genesis ≡ true = ap (is_block true) genesis ∙ spelled_block true (genesis_text (grants_of known.entries)) parts (parts_spelled true parts h.genesis) in
     let work : scene.bits ≤ 64 = omega (arith, bits, h.work) in
     let fit : AllFit scene.messages = subst AllFit (sym messages) (all_fit known known.sayings h) in
-    written_is_read limit (head_of scene.bits scene.genesis) scene.messages rest work spelled fit long
+    written_is_read limit (head_of scene.profile scene.bits scene.genesis) scene.messages rest work spelled fit long

@@ -12,6 +12,7 @@ pub mod Sorting
 pub mod JudgedParts
 pub mod Spellable
 pub mod Fitting
+pub mod FeedFronts
 pub mod Twins
 mod MadeBlocks
 pub mod TextBytes

@@ -19,9 +19,9 @@ frame_text (Some said) = spelled said
 
 -- the head, a frame for each message in order, and the frame that ends them
 unfoldable pub feed_text : Scene → List ℕ
-feed_text scene = written (head_of scene.bits scene.genesis) scene.messages
+feed_text scene = written (head_of scene.profile scene.bits scene.genesis) scene.messages
 
--- so what reads it finds the scene's bits, its genesis block and its messages, and what stands behind the feed
+-- so what reads it finds the scene's profile, its bits, its genesis block and its messages, and what stands behind the feed
 abbrev pub FeedIsRead : Scene → Type 0
 FeedIsRead scene = (limit : ℕ) (rest : List ℕ) → length (feed_text scene) ≤ limit
-    → feed limit (feed_text scene ++ rest) ≡ record { head = Some (head_of scene.bits scene.genesis); messages = scene.messages; end = Whole rest }
+    → feed limit (feed_text scene ++ rest) ≡ record { head = Some (head_of scene.profile scene.bits scene.genesis); messages = scene.messages; end = Whole rest }

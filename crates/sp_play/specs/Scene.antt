@@ -1,6 +1,7 @@
 -- A whole scenario: its lines up to the first fault, and the feed and the names that they stand for.
 use Rattle.std.specs.Prelude.{◌≡◌, ℕ, ◌+◌, ◌++◌, if◌then◌else◌, List, [], ◌∷◌, fold, map, Option, Some, None, Result, Ok, Err}
 use Rattle.sp_ids.specs.Digest.{sha256_number}
+use Rattle.sp_model.specs.declared.profile.Profile.{Profile}
 use Rattle.sp_feed.specs.Kinds.{Said, SaysBlock, SaysVote, SaysTx, SaysBalance, SaysPairs, SaysReport}
 use Rattle.sp_names.specs.Labels.{AllLabels, no_labels, with_label}
 use Rattle.sp_play.specs.Kept.{IsKept}
@@ -74,6 +75,7 @@ made_in [] = []
 made_in (entry ∷ entries) = made_by entry ++ made_in entries
 
 pub record Scene : Type 0 where
+  pub profile : Profile
   -- the bits of work, and the bytes of the genesis block
   pub bits : ℕ
   pub genesis : List ℕ
@@ -88,6 +90,7 @@ names_in known = fold with_lock (fold (with_entry known.entries) no_labels known
 abbrev pub scene_of : Read → Scene
 scene_of r =
     record {
+      profile = r.known.profile;
       bits = r.known.bits;
       genesis = genesis_text (grants_of r.known.entries);
       names = names_in r.known;

@@ -4,20 +4,23 @@ ghost use Rattle.std.specs.Prelude.{◌≡◌, ◌++◌, ◌∷◌, [], OnErr, O
 ghost use Rattle.std.specs.Io.KnownBytes.{Appends};
 ghost use Rattle.sp_io.specs.Causes.{HasCause};
 ghost use Rattle.sp_io.specs.Whole.{AppendsFront, Wrote};
-ghost use Rattle.sp_feed.specs.Format.{name};
+ghost use Rattle.sp_feed.specs.Versions.{name};
 ghost use Rattle.sp_feed.specs.Spelling.{frames_of};
 ghost use Rattle.sp_play.specs.Feeds.{feed_text};
 
 use crate::frames::{push_frame, push_message};
 use crate::whole::Scene;
-use sp_feed::Message;
+use sp_feed::{Message, name_of};
 use sp_io::{Failed, Page, Sink};
+use sp_model::Profile;
 
-/// The front of a feed: the name of the format, and the bits of work.
-fn feed_front(bits: u8) -> [u8; 9]
-    ensures { result ≡ name ++ (bits ∷ []) }
+/// The front of a feed: the eight bytes of the profile, and the bits of work.
+fn feed_front(profile: Profile, bits: u8) -> [u8; 9]
+    ensures { result ≡ name profile ++ (bits ∷ []) }
 {
-    [b'S', b'P', b'C', b'T', b'R', b'F', b'0', b'1', bits]
+    let mut front = [bits; 9];
+    front[..8].copy_from_slice(&name_of(profile));
+    front
 }
 
 /// Writes the frames of a scene's messages, and the frame that ends them, behind the bytes that
@@ -49,7 +52,7 @@ pub(crate) fn write_feed<K: Sink>(scene: &Scene, sink: &mut K) -> Result<(), Fai
         (AppendsFront (K.taken sink.old) (K.taken sink.new) (feed_text scene.now)) }
     ensures cause { HasCause (K.faults sink.old) (K.faults sink.new) result }
 {
-    let front = feed_front(scene.bits());
+    let front = feed_front(scene.profile(), scene.bits());
     let genesis = scene.genesis();
     let mut page = Page::new();
     page.push(&front, sink)?;

@@ -24,6 +24,7 @@ use crate::stage::Stage;
 use sp_block::{ReadBlockFault, read_block};
 use sp_feed::{FeedHead, Message};
 use sp_ids::{BlockId, Lock, Memory, TxId};
+use sp_model::Profile;
 use sp_names::{Name, Names};
 use sp_tx::Tx;
 use std::alloc::Global;
@@ -34,6 +35,7 @@ use std::marker::Model;
 pub(crate) struct Known {
     alloc: Global,
     stage: Stage,
+    profile: Profile,
     bits: u8,
     entries: Entries,
     // The id of the genesis block of these entries, once it was asked for.
@@ -52,6 +54,7 @@ impl Model for Known {
 
     ghost view = { λ k. record {
       stage = k.stage;
+      profile = k.profile;
       bits = k.bits;
       entries = k.entries;
       words = k.words.items;
@@ -67,6 +70,7 @@ impl Drop for Known {
         let Known {
             alloc: _,
             stage: _,
+            profile: _,
             bits: _,
             entries,
             genesis: _,
@@ -90,6 +94,7 @@ impl Known {
         Ok(Known {
             alloc,
             stage: Stage::Start,
+            profile: Profile::One,
             bits: 0,
             entries,
             genesis: None,
@@ -132,11 +137,13 @@ impl Known {
     /// The head of the feed, given the bytes of genesis.
     pub(crate) fn head(&self, genesis: &[u8]) -> Result<FeedHead, Memory>
         requires { genesis.now ≡ meant.genesis_text (grants_of self.now.entries) }
+        ensures profile { IfOk result (λ head. head.profile ≡ self.now.profile) }
         ensures bits { IfOk result (λ head. head.bits ≡ self.now.bits) }
         ensures genesis { IfOk result (λ head. head.genesis.bytes ≡ genesis.now) }
     {
         match read_block(self.alloc, genesis, true) {
             Ok(block) => Ok(FeedHead {
+                profile: self.profile,
                 bits: self.bits,
                 genesis: block,
             }),
@@ -197,6 +204,13 @@ impl Known {
         ensures { result ≡ length self.now.sayings }
     {
         self.sayings.len()
+    }
+
+    /// The profile.
+    pub(crate) fn profile(&self) -> Profile
+        ensures { result ≡ self.now.profile }
+    {
+        self.profile
     }
 
     /// The bits of work.

@@ -29,6 +29,7 @@ fn line_by(command: Command, known: &mut Known, words: &Words) -> Result<(), Lin
     ensures { Steps known.old known.new result (line.line_by command known.old words.now) }
 {
     match command {
+        Command::Profile => known.profile_line(words),
         Command::Bits => known.bits_line(words),
         Command::Grant => known.grant_line(words),
         Command::Tx => known.tx_line(words),

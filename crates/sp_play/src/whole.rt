@@ -15,11 +15,12 @@ use crate::why::LineFault;
 use sp_feed::{FeedHead, Message};
 use sp_ids::{BlockId, Memory};
 use sp_io::{Failed, Sink};
+use sp_model::Profile;
 use sp_names::{Name, Names};
 use std::alloc::Global;
 use std::marker::Model;
 
-/// The meaning of a scenario up to its first fault: the bits of work, the genesis block, the names,
+/// The meaning of a scenario up to its first fault: the profile, the bits of work, the genesis block, the names,
 /// the messages, and that fault.
 pub struct Scene {
     reading: Reading,
@@ -36,6 +37,7 @@ impl Model for Scene {
     ghost Value = { meant.Scene };
 
     ghost view = { λ s. record {
+      profile = s.reading.known.profile;
       bits = s.reading.known.bits;
       genesis = s.genesis.items;
       names = s.names;
@@ -88,12 +90,13 @@ impl Scene {
         })
     }
 
-    /// The head of its feed: the bits of work and the genesis block.
+    /// The head of its feed: the profile, the bits of work and the genesis block.
     ///
     /// # Errors
     ///
     /// `Memory` where the block found none.
     pub fn head(&self) -> Result<FeedHead, Memory>
+        ensures profile { IfOk result (λ head. head.profile ≡ self.now.profile) }
         ensures bits { IfOk result (λ head. head.bits ≡ self.now.bits) }
         ensures genesis { IfOk result (λ head. head.genesis.bytes ≡ self.now.genesis) }
     {
@@ -167,11 +170,18 @@ impl Scene {
         write_feed(self, sink)
     }
 
-    /// A reader of its feed finds its bits, its genesis block and its messages, whatever follows.
+    /// A reader of its feed finds its profile, its bits, its genesis block and its messages, whatever follows.
     pub fn feed_is_read(&self)
         ensures { FeedIsRead self.now }
     {
         let _ = &self.genesis;
+    }
+
+    // The profile.
+    pub(crate) fn profile(&self) -> Profile
+        ensures { result ≡ self.now.profile }
+    {
+        self.reading.known.profile()
     }
 
     // The bits of work.

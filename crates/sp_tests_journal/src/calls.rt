@@ -12,6 +12,7 @@ use sp_disk::Pick;
 use sp_fixtures::{GENESIS, flat, genesis_of};
 use sp_io::{Calls, Fails};
 use sp_journal::{AppendFault, CreateFault, Gate, Journal, JournalFault};
+use sp_model::Profile;
 use std::alloc::Global;
 use std::test::Fail;
 
@@ -28,7 +29,7 @@ fn create(
     ensures few { IfOk result (λ made. IfOk made (λ journal. journal.records < 511)) }
 {
     let genesis = genesis_of(alloc, &GENESIS)?;
-    Ok(Journal::create(alloc, disk, gate, 0, &genesis))
+    Ok(Journal::create(alloc, disk, gate, Profile::One, 0, &genesis))
 }
 
 /// Adds a block to a journal without work.

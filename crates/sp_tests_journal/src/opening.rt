@@ -1,11 +1,12 @@
 //! What is found in bytes at their front: a journal, or none and the byte at place 0.
 
 use crate::rows::holds;
-use crate::texts::{Found, HEAD, MISSING, SET, SHUT, add_records, found};
+use crate::texts::{Found, HEAD, MISSING, SET, SHUT, add_records, found, open};
 use sp_disk::MemDisk;
 use sp_fixtures::flat;
 use sp_io::Fails;
 use sp_journal::{Journal, JournalFault};
+use sp_model::Profile;
 use std::alloc::Global;
 use std::test::Fail;
 
@@ -18,7 +19,10 @@ const CHANGED: &[(usize, u8, Found)] = &[
     (0, 0xFF, SHUT),
     (0, 0xA5, Ok((0, 0))),
     (1, b'T', SET),
-    (8, b'2', SET),
+    (7, b'1', SET),
+    (8, b'0', SET),
+    (8, b'2', Ok((0, 0))),
+    (8, b'3', SET),
     (9, 64, Ok((64, 0))),
     (9, 65, SET),
     // A shorter genesis block isn't whole, and a longer one has a byte behind it.
@@ -48,6 +52,25 @@ fn head(rt: HostRuntime) -> Result<(), Fail> {
     for (row, (place, byte, wanted)) in CHANGED.iter().enumerate() {
         holds(&rt, row, changed(rt.alloc(), *place, *byte)? == *wanted);
     }
+    Ok(())
+}
+
+/// The profile of the journal whose head has this byte at place 8.
+fn profile_with(alloc: Global, byte: u8) -> Result<Profile, Fail> {
+    let mut bytes = flat(alloc, &[HEAD, &[0]])?;
+    if let Some(there) = bytes.get_mut(8) {
+        *there = byte;
+    }
+    match open(alloc, bytes)? {
+        Ok(opened) => Ok(opened.profile),
+        Err(_) => Err("no journal".into()),
+    }
+}
+
+#[test]
+fn versions(rt: HostRuntime) -> Result<(), Fail> {
+    assert_eq!(rt; profile_with(rt.alloc(), b'1')?, Profile::One);
+    assert_eq!(rt; profile_with(rt.alloc(), b'2')?, Profile::Two);
     Ok(())
 }
 

@@ -12,6 +12,7 @@ use sp_feed::{FeedFault, FeedReader, HeadFault, Message, Visitor, read_all};
 use sp_fixtures::flat;
 use sp_ids::{BlockId, Memory};
 use sp_io::ReadySource;
+use sp_model::Profile;
 use std::alloc::{AllocError, Global};
 use std::test::Fail;
 
@@ -21,7 +22,10 @@ type Change = (usize, u8, u32);
 #[rattlefmt::skip]
 const CHANGES: &[(Change, Told)] = &[
     ((0, b'T', NO_LIMIT), (8, Some(FeedFault::Malformed { at: 0 }))),
-    ((7, b'2', NO_LIMIT), (8, Some(FeedFault::Malformed { at: 0 }))),
+    ((6, b'1', NO_LIMIT), (8, Some(FeedFault::Malformed { at: 0 }))),
+    ((7, b'0', NO_LIMIT), (8, Some(FeedFault::Malformed { at: 0 }))),
+    ((7, b'2', NO_LIMIT), (WHOLE, None)),
+    ((7, b'3', NO_LIMIT), (8, Some(FeedFault::Malformed { at: 0 }))),
     ((8, 64, NO_LIMIT), (WHOLE, None)),
     ((8, 65, NO_LIMIT), (9, Some(FeedFault::Malformed { at: 8 }))),
     ((9, b'V', NO_LIMIT), (10, Some(FeedFault::Malformed { at: 9 }))),
@@ -89,6 +93,23 @@ fn cut_otherwise(alloc: Global, rows: &[(Cut, Told)]) -> Result<Option<usize>, F
 fn faults(rt: HostRuntime) -> Result<(), Fail> {
     assert_eq!(rt; changed_otherwise(rt.alloc(), CHANGES)?, None);
     assert_eq!(rt; cut_otherwise(rt.alloc(), CUTS)?, None);
+    Ok(())
+}
+
+/// The profile of the feed with this byte at place 7.
+fn profile_with(alloc: Global, byte: u8) -> Result<Profile, Fail> {
+    let mut source = ReadySource::new(changed(alloc, 7, byte)?);
+    let mut reader = FeedReader::new(alloc)?;
+    match reader.head(&mut source) {
+        Ok(head) => Ok(head.profile),
+        Err(_) => Err("no head".into()),
+    }
+}
+
+#[test]
+fn versions(rt: HostRuntime) -> Result<(), Fail> {
+    assert_eq!(rt; profile_with(rt.alloc(), b'1')?, Profile::One);
+    assert_eq!(rt; profile_with(rt.alloc(), b'2')?, Profile::Two);
     Ok(())
 }
 

@@ -9,7 +9,7 @@ use sp_feed::{FeedHead, Message};
 use sp_fixtures::genesis_of;
 use sp_ids::{BlockId, Lock, TxId};
 use sp_io::{Fails, MemSink};
-use sp_model::Profile;
+use sp_model::{Profile, Profile};
 use sp_names::{Name, Names};
 use sp_report::{Ask, Naming, Text, answer_line, ask_line, present_ids, write_text};
 use std::alloc::Global;
@@ -376,7 +376,14 @@ fn is_answered(alloc: Global, node: &mut PlainNode) -> Result<bool, Fail> {
 
 fn is_answered_anew(alloc: Global) -> Result<bool, Fail> {
     let genesis = genesis_of(alloc, GRANTING)?;
-    let mut node = PlainNode::of(alloc, FeedHead { bits: 0, genesis })?;
+    let mut node = PlainNode::of(
+        alloc,
+        FeedHead {
+            profile: Profile::One,
+            bits: 0,
+            genesis,
+        },
+    )?;
     let is_so = is_answered(alloc, &mut node);
     drop(node);
     is_so

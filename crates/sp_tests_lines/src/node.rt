@@ -11,6 +11,7 @@ use sp_feed::{FeedHead, Message};
 use sp_fixtures::{GENESIS as GENESIS_BYTES, genesis_of};
 use sp_ids::TxId;
 use sp_io::MemSink;
+use sp_model::Profile;
 use sp_node::NodeFault;
 use sp_report::Naming;
 use std::alloc::Global;
@@ -115,7 +116,11 @@ fn head_of(alloc: Global, bits: u8) -> Result<FeedHead, Fail> {
         return Err("more than 64 bits".into());
     }
     let genesis = genesis_of(alloc, &GENESIS_BYTES)?;
-    Ok(FeedHead { bits, genesis })
+    Ok(FeedHead {
+        profile: Profile::One,
+        bits,
+        genesis,
+    })
 }
 
 fn node_of(alloc: Global, bits: u8) -> Result<PlainNode, Fail> {

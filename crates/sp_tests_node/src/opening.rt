@@ -63,6 +63,7 @@ const VACANT: &[(&[u8], (Found, Found))] = &[
     (&[0xA5], SET),
     (&[0xA5; 300], SET),
     (b"\xA5SPCTRJ01", SET),
+    (b"\xA5SPCTRJ02", SET),
 ];
 
 #[test]

@@ -33,7 +33,7 @@ impl Model for Served {
     ghost view = { λ s. s.node };
 
     ghost invariant = { λ s. s.node.stopped ≡ false
-        → IsKeptOn s.node.bits s.node.kept s.node.journal (moment_of s.disk) };
+        → IsKeptOn s.node.terms s.node.kept s.node.journal (moment_of s.disk) };
 }
 
 /// Why a run ended.

@@ -3,10 +3,11 @@
 use crate::messages::served_on;
 use crate::rows::holds;
 use crate::served::{Served, Started, Why, start};
-use crate::texts::{BLOCKS, disk_of, genesis_id, head_of, journal};
+use crate::texts::{BLOCKS, disk_of, genesis_id, head_in, head_of, journal};
 use sp_disk::Pick;
 use sp_fixtures::Numbered;
 use sp_io::Fails;
+use sp_model::Profile;
 use sp_node::StartFault;
 use std::test::Fail;
 
@@ -66,13 +67,15 @@ fn counts(
     Ok((engine.present(), engine.waiting()))
 }
 
-/// The fault of a start on this journal with this head.
+/// The fault of a start on this journal with this head, both of profile 1.
 fn other_chain(stored: Chain, fed: Chain) -> Result<StartFault, Fail> {
     Ok(StartFault::OtherChain {
         stored_bits: stored.0,
         stored: genesis_id(stored.1)?,
+        stored_profile: Profile::One,
         fed_bits: fed.0,
         fed: genesis_id(fed.1)?,
+        fed_profile: Profile::One,
     })
 }
 
@@ -112,6 +115,49 @@ fn on_a_journal(rt: HostRuntime) -> Result<(), Fail> {
     for (place, row) in STARTS.iter().enumerate() {
         holds(&rt, place, is_started(&blocks, row, false)?);
         holds(&rt, place, is_started(&blocks, row, true)?);
+    }
+    Ok(())
+}
+
+/// The two profiles, and the byte by which a journal names each.
+const NAMED: [(Profile, u8); 2] = [(Profile::One, b'1'), (Profile::Two, b'2')];
+
+/// Whether a journal of one profile serves a head of another one just where they are the same, and
+/// the fault names both.
+fn is_of_profile(blocks: &Numbered, stored: (Profile, u8), fed: Profile) -> Result<bool, Fail> {
+    let mut bytes = journal(0, 0, blocks, &[1])?;
+    if let Some(there) = bytes.get_mut(8) {
+        *there = stored.1;
+    }
+    let disk = disk_of(blocks.alloc, &bytes, 4096, Fails::Never)?;
+    let head = head_in(blocks.alloc, fed, 0, 0)?;
+    match start(blocks.alloc, disk, false, head) {
+        Started::Refused(_, why) => {
+            let fault = StartFault::OtherChain {
+                stored_bits: 0,
+                stored: genesis_id(0)?,
+                stored_profile: stored.0,
+                fed_bits: 0,
+                fed: genesis_id(0)?,
+                fed_profile: fed,
+            };
+            Ok(stored.0 != fed && why == Why::Starting(fault))
+        }
+        Started::Served(served) => {
+            let profile = served.engine().profile();
+            drop(served);
+            Ok(stored.0 == fed && profile == fed)
+        }
+    }
+}
+
+#[test]
+fn in_each_profile(rt: HostRuntime) -> Result<(), Fail> {
+    let blocks = Numbered::of(rt.alloc(), BLOCKS)?;
+    for (place, stored) in NAMED.iter().enumerate() {
+        for fed in NAMED {
+            holds(&rt, place, is_of_profile(&blocks, *stored, fed.0)?);
+        }
     }
     Ok(())
 }

@@ -5,6 +5,7 @@ use sp_feed::FeedHead;
 use sp_fixtures::{GENESIS, Numbered, genesis_of};
 use sp_ids::BlockId;
 use sp_io::Fails;
+use sp_model::Profile;
 use std::alloc::Global;
 use std::test::Fail;
 
@@ -34,13 +35,22 @@ pub fn genesis_id(salt: u8) -> Result<BlockId, Fail> {
     Ok(BlockId::from_hex(text.as_bytes()).ok().ok_or("no id")?)
 }
 
-/// The head of a feed with these bits of work and that block.
-pub fn head_of(alloc: Global, bits: u8, salt: u8) -> Result<FeedHead, Fail> {
+/// The head of a feed of this profile with these bits of work and that block.
+pub fn head_in(alloc: Global, profile: Profile, bits: u8, salt: u8) -> Result<FeedHead, Fail> {
     if bits > 64 {
         return Err("more than 64 bits".into());
     }
     let genesis = genesis_of(alloc, genesis_bytes(salt))?;
-    Ok(FeedHead { bits, genesis })
+    Ok(FeedHead {
+        profile,
+        bits,
+        genesis,
+    })
+}
+
+/// The same in profile 1.
+pub fn head_of(alloc: Global, bits: u8, salt: u8) -> Result<FeedHead, Fail> {
+    head_in(alloc, Profile::One, bits, salt)
 }
 
 /// Puts the record of a block behind a journal's bytes.

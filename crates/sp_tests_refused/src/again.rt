@@ -5,7 +5,6 @@
 
 use sp_engine::Engine;
 use sp_feed::{FeedHead, Message};
-use sp_model::Profile;
 use sp_play::Scene;
 use sp_rows::{RowId, RowPool};
 use std::alloc::Global;
@@ -111,10 +110,17 @@ fn told(alloc: Global) -> Result<Option<u64>, Fail> {
     let Ok(scene) = Scene::read(alloc, TALE) else {
         return Ok(None);
     };
-    let Ok(FeedHead { bits, genesis }) = scene.head() else {
+    let Ok(
+        FeedHead {
+            profile,
+            bits,
+            genesis,
+        },
+    ) = scene.head()
+    else {
         return Ok(None);
     };
-    let Ok(mut engine) = Engine::new(alloc, genesis, bits, Profile::One) else {
+    let Ok(mut engine) = Engine::new(alloc, genesis, bits, profile) else {
         return Ok(None);
     };
     for i in 0..scene.len() {

@@ -2,7 +2,7 @@
 
 use crate::judging::read;
 use crate::rows::holds;
-use sp_feed::Message;
+use sp_feed::{Message, name_of};
 use sp_fixtures::flat;
 use sp_ids::BlockId;
 use sp_io::{Calls, Failed, Fails, MemSink, TallySink};
@@ -64,6 +64,11 @@ const ROWS: &[Row] = &[
     (b"bits 8\ngrant g 5 to a\nblock A on G\nblock B on G\nblock C on B A\nvote A C\n", 4, 353, "f8c609e5110c7f3933e9e4f62c7b0da40e5bde3183cbfdeda5f27680e6b68dda"),
     // no line at all
     (b"", 0, 39, "45c5e4034be29b9c2ed6375fc4c9c9e4142d99cb5c197d7c537e161a423827a3"),
+    // the same in profile 2
+    (b"profile 2\nblock A on G\nblock B on G\nvote A B\n", 3, 222, "9d6e289225db0e436929ecc98d2167e652915907a9a1d33a3e2b6054eae4b106"),
+    // no line but the profile and the bits, in each profile
+    (b"profile 2\nbits 3\n", 0, 39, "b1026d252f9dfa6ba331056bee1c9e5a13ee8233824147b3e020c49cf959c648"),
+    (b"profile 1\nbits 3\n", 0, 39, "cf81c22cd63a0ce76a4576303d7695e5840fbce1db6a1e45e02f2a1ccacced0c"),
     // bits alone
     (b"bits 64", 0, 39, "6933453254e328ea93883b213234795bb46bf9e577e47dfb6186ef35dce2deea"),
 ];
@@ -113,7 +118,7 @@ fn put_message(feed: &mut Vec<u8>, message: &Message<'_>) -> Result<(), Fail> {
 /// The feed that a scene's head and messages spell.
 fn spelled(alloc: Global, scene: &Scene) -> Result<Vec<u8>, Fail> {
     let head = scene.head()?;
-    let mut feed = Vec::from_slice(alloc, b"SPCTRF01")?;
+    let mut feed = Vec::from_slice(alloc, &name_of(head.profile))?;
     feed.push(head.bits)?;
     put_frame(&mut feed, b'B', &[head.genesis.bytes.as_slice()])?;
     for place in 0..scene.len() {

@@ -36,6 +36,7 @@ const COMMANDS: &[&[u8]] = &[
 /// Behind a line of another kind.
 #[rattlefmt::skip]
 const LATE: &[&[u8]] = &[
+    b"profile 2",
     b"bits 0",
     b"grant h 1 to dave",
 ];

@@ -42,6 +42,7 @@ use Rattle.spectre.specs.declared.replay.ReplayFault.{ReplayFault}
 use Rattle.spectre.specs.declared.replay.ReplayFault.TheVariants as replays
 use Rattle.spectre.proofs.Replayed.{with_input}
 use Rattle.spectre.proofs.Replies.{head_answered, head_needed, rest_none}
+use Rattle.sp_node.specs.Terms.{Terms, terms_of}
 
 -- ---- what the head says
 
@@ -65,11 +66,11 @@ none_ends front rest e l = absurd (omega (arith, ap length e, length-append fron
 -- the same chain, as the definitions of the command have it
 pub chain_fits : (stored : Stored) (head : ReadHead) → IsOfSame stored head → FitsStored stored (Some (head_in head))
 chain_fits (Empty gate) head same = tt
-chain_fits (Found o) head same = record { bits = same.bits; genesis = same.genesis }
+chain_fits (Found o) head same = record { profile = same.profile; bits = same.bits; genesis = same.genesis }
 
 pub chain_other : (stored : Stored) (head : ReadHead) → (IsOfSame stored head → ⊥) → FitsStored stored (Some (head_in head)) → ⊥
 chain_other (Empty gate) head other fits = other tt
-chain_other (Found o) head other fits = other (record { bits = fits.bits; genesis = fits.genesis })
+chain_other (Found o) head other fits = other (record { profile = fits.profile; bits = fits.bits; genesis = fits.genesis })
 
 -- the blocks that were found, as bytes
 pub sent_bytes : (stored : Stored) → map bytes_in (stored_blocks stored) ≡ bytes_of stored
@@ -118,13 +119,13 @@ StartFails stored head fault = (fault ≡ starts.DiskFault) ⊎ ((fault ≡ star
 
 module _ (stored : Stored) {start now : Moment} (old : Option (List ℕ)) (first last : DiskMoment) (head : ReadHead) (g : GivesHead feed_limit start now head_in (Ok head)) (spelled : block_in true head.genesis.bytes ≡ Ok head.genesis) where
   amiss : (s : Stored) → (IsFound s → ⊥) → LeavesStarted s head first last → IsAmissOn s g.given first last
-  amiss (Empty gate) not_found leaves = record { bits = head.bits; genesis = head.genesis; spelled = spelled; whole = head_whole g; unread = none_read g; leaves = λ is. (leaves is).0; lasts = λ is. (leaves is).1 }
+  amiss (Empty gate) not_found leaves = record { terms = terms_of head.profile head.bits; genesis = head.genesis; spelled = spelled; whole = head_whole g; unread = none_read g; leaves = λ is. (leaves is).0; lasts = λ is. (leaves is).1 }
   amiss (Found o) not_found leaves = absurd (not_found tt)
 
   named : (s : Stored) (fault : StartFault) → (IsOfSame s head → ⊥) → NamesBoth s head fault → (IsFound s → Looks first last) → UntriedBy s start now g.given first last (Err (of_start fault))
   named (Empty gate) fault other names looks = absurd names
   named (Found o) fault other names looks =
-      let r : UntriedBy (Found o) start now g.given first last (Err (OtherChain o.bits (sha256_number o.genesis.bytes) head.bits (sha256_number head.genesis.bytes))) =
+      let r : UntriedBy (Found o) start now g.given first last (Err (OtherChain o.bits (sha256_number o.genesis.bytes) o.profile head.bits (sha256_number head.genesis.bytes) head.profile)) =
       (record { head = head_in head; whole = head_whole g; other = chain_other (Found o) head other; names = refl }, looks tt) in
       subst (λ (f : StartFault). UntriedBy (Found o) start now g.given first last (Err (of_start f))) (sym names) r
 
@@ -158,27 +159,27 @@ run_told : (w : Option Writer) (first last : DiskMoment) (P : List ℕ → Type 
 run_told None first last P some run told = absurd cc
 run_told (Some w) first last P some run told = run told
 
-module _ (stored : Stored) {start mid now : Moment} {old new : Option (List ℕ)} (first here last : DiskMoment) (head : ReadHead) (g : GivesHead feed_limit start mid head_in (Ok head)) (bits : ℕ) (kept : List ReadBlock) (w : Option Writer)
-    (same : IsOfSame stored head) (b : bits ≡ head.bits) (k : kept ≡ head.genesis ∷ stored_blocks stored) (has : IsSome w) (leaves : LeavesStarted stored head first here) (found_same : IsFound stored → first ≡ here) (told : SameTold first here) (told_then : SameTold here last) (here_law : IsMoment here) (law : IsMoment last)
-    {result : Result (Unit {0}) ReplayFault} (rest : RestReplies (bytes_of stored) start now old new bits kept w here last result) where
+module _ (stored : Stored) {start mid now : Moment} {old new : Option (List ℕ)} (first here last : DiskMoment) (head : ReadHead) (g : GivesHead feed_limit start mid head_in (Ok head)) (terms : Terms) (kept : List ReadBlock) (w : Option Writer)
+    (same : IsOfSame stored head) (b : terms ≡ terms_of head.profile head.bits) (k : kept ≡ head.genesis ∷ stored_blocks stored) (has : IsSome w) (leaves : LeavesStarted stored head first here) (found_same : IsFound stored → first ≡ here) (told : SameTold first here) (told_then : SameTold here last) (here_law : IsMoment here) (law : IsMoment last)
+    {result : Result (Unit {0}) ReplayFault} (rest : RestReplies (bytes_of stored) start now old new terms kept w here last result) where
   abbrev given : List ℕ
   given = rest.0.given
 
-  least_is : length (journal_in bits kept).blocks ≡ length (bytes_of stored)
-  least_is = ap (λ (l : List ReadBlock). length (journal_in bits l).blocks) k ∙ ap (λ (l : List (List ℕ)). length l) (sent_bytes stored)
+  least_is : length (journal_in terms kept).blocks ≡ length (bytes_of stored)
+  least_is = ap (λ (l : List ReadBlock). length (journal_in terms l).blocks) k ∙ ap (λ (l : List (List ℕ)). length l) (sent_bytes stored)
 
   run_here : IsTold here → Leaves here last (HoldsAtLeast (length (bytes_of stored)) (bytes_of stored) given)
   run_here is = subst (λ (n : ℕ). Leaves here last (HoldsAtLeast n (bytes_of stored) given)) least_is (run_told w here last _ has rest.1.any_moment is)
 
-  from_here : (image : List ℕ) → records image ≡ found (journal_in bits kept) → HoldsAtLeast (length (bytes_of stored)) (bytes_of stored) given image
+  from_here : (image : List ℕ) → records image ≡ found (journal_in terms kept) → HoldsAtLeast (length (bytes_of stored)) (bytes_of stored) given image
   from_here image is = subst (λ (n : ℕ). HoldsAtLeast n (bytes_of stored) given image) least_is (rest.1.from image is)
 
   any_by : (s : Stored) → LeavesStarted s head first here → (IsFound s → first ≡ here) → (IsTold here → Leaves here last (HoldsAtLeast (length (bytes_of s)) (bytes_of s) given))
-      → ((image : List ℕ) → records image ≡ found (journal_in bits kept) → HoldsAtLeast (length (bytes_of s)) (bytes_of s) given image) → kept ≡ head.genesis ∷ stored_blocks s
+      → ((image : List ℕ) → records image ≡ found (journal_in terms kept) → HoldsAtLeast (length (bytes_of s)) (bytes_of s) given image) → kept ≡ head.genesis ∷ stored_blocks s
       → IsTold first → IsSynced first → Leaves first last (HoldsFoundOrMore (records_in s) given)
   any_by (Empty gate) left same_disk run from k is synced =
-      let new : Contents = contents head.bits head.genesis.bytes [] in
-      let made : journal_in bits kept ≡ new = (λ i. journal_in (b i) (k i)) in
+      let new : Contents = contents head.profile head.bits head.genesis.bytes [] in
+      let made : journal_in terms kept ≡ new = (λ i. journal_in (b i) (k i)) in
       joined first here last (HoldsNoneOrNew new) (HoldsAtLeast 0 [] given) (HoldsFoundOrMore NoJournal given) ((left is).0 synced) (run (told.0 is))
       (λ image h. ⊎_elim (λ none. inl none) (λ one. inr (from image (one ∙ ap found (sym made)))) h) (λ image h. inr h)
   any_by (Found o) left same_disk run from k is synced =
@@ -194,12 +195,12 @@ module _ (stored : Stored) {start mid now : Moment} {old new : Option (List ℕ)
       start_lasts (Empty gate) left same_disk is = (left is).1
       start_lasts (Found o) left same_disk is = subst (λ (m : DiskMoment). Lasts m here HoldsJournal) (sym (same_disk tt)) (started_last here HoldsJournal here_law)
 
-  from_found : (s : Stored) → ((image : List ℕ) → records image ≡ found (journal_in bits kept) → HoldsAtLeast (length (bytes_of s)) (bytes_of s) given image) → kept ≡ head.genesis ∷ stored_blocks s → IsOfSame s head
+  from_found : (s : Stored) → ((image : List ℕ) → records image ≡ found (journal_in terms kept) → HoldsAtLeast (length (bytes_of s)) (bytes_of s) given image) → kept ≡ head.genesis ∷ stored_blocks s → IsOfSame s head
       → IsFound s → (image : List ℕ) → records image ≡ records_in s → HoldsAtLeast (length (bytes_of s)) (bytes_of s) given image
   from_found (Empty gate) from k same is image e = absurd is
   from_found (Found o) from k same is image e =
-      let made : journal_in bits kept ≡ contents head.bits head.genesis.bytes (bytes_of (Found o)) = (λ i. journal_in (b i) (k i)) in
-      let here : contents o.bits o.genesis.bytes (bytes_of (Found o)) ≡ contents head.bits head.genesis.bytes (bytes_of (Found o)) = (λ i. contents (same.bits i) (same.genesis i) (bytes_of (Found o))) in
+      let made : journal_in terms kept ≡ contents head.profile head.bits head.genesis.bytes (bytes_of (Found o)) = (λ i. journal_in (b i) (k i)) in
+      let here : contents o.profile o.bits o.genesis.bytes (bytes_of (Found o)) ≡ contents head.profile head.bits head.genesis.bytes (bytes_of (Found o)) = (λ i. contents (same.profile i) (same.bits i) (same.genesis i) (bytes_of (Found o))) in
       from image (e ∙ ap found (here ∙ sym made))
 
   whole_by : (r : Result (Unit {0}) ReplayFault) → OnAll r (HoldsOn w last (λ image. records image ≡ found (contents_of (bytes_of stored) given (all_of given))))

@@ -51,6 +51,7 @@ use Rattle.spectre.proofs.Onward.{answered_stays, looked_stays}
 use Rattle.spectre.proofs.Replayed.{done_rest, done_text, Ends, fault_front, fault_written, is_malformed, is_too_long, is_truncated, limit_taken, memory_text, nothing_left, takes, takes_then, with_input, write_text}
 use Rattle.spectre.proofs.Replies.{appends_none, fault_says, lines_are}
 use Rattle.spectre.proofs.Running.{whole_front}
+use Rattle.sp_model.specs.declared.profile.Profile.{Profile}
 
 -- a status is that of a failed write, or another
 is_write : (s : Status) → (s ≡ status.WriteFault) ⊎ (s ≢ status.WriteFault)
@@ -214,23 +215,23 @@ module _ (path : List ℕ) (fresh : Bool) (stored : Stored) {start now : Moment}
 
 module _ (fresh : Bool) (first last : DiskMoment) (law : IsMoment first) (last_law : IsMoment last) (old : Option (List ℕ)) (given : List ℕ)
     (headed : EndAtHead given) (m : IsAmiss given first last) where
-  amiss_head : (fed given).head ≡ Some (head_of m.bits m.genesis.bytes)
+  amiss_head : (fed given).head ≡ Some (head_of m.terms.profile m.terms.bits m.genesis.bytes)
   amiss_head = ap (λ (l : List ℕ). (fed l).head) (sym (append-nil given)) ∙ m.whole []
 
   amiss_silent : replied_but_last [] given ≡ []
   unfolding answers
   amiss_silent =
       ap (λ (h : Option Head). lines_under [] h (but_last (all_of given))) amiss_head
-      ∙ ap (λ (l : List Said). lines_under [] (Some (head_of m.bits m.genesis.bytes)) (but_last l)) m.unread
-      ∙ lines_are [] m.genesis m.bits [] m.spelled
+      ∙ ap (λ (l : List Said). lines_under [] (Some (head_of m.terms.profile m.terms.bits m.genesis.bytes)) (but_last l)) m.unread
+      ∙ lines_are [] m.genesis m.terms [] m.spelled
 
-  amiss_contents : contents_of [] given (all_of given) ≡ contents m.bits m.genesis.bytes []
+  amiss_contents : contents_of [] given (all_of given) ≡ contents m.terms.profile m.terms.bits m.genesis.bytes []
   amiss_contents =
       ap (λ (h : Option Head). contents_under [] h (all_of given)) amiss_head
-      ∙ ap (contents_under [] (Some (head_of m.bits m.genesis.bytes))) m.unread
-      ∙ ap (λ r. contents_by [] r m.bits []) m.spelled
+      ∙ ap (contents_under [] (Some (head_of m.terms.profile m.terms.bits m.genesis.bytes))) m.unread
+      ∙ ap (λ r. contents_by [] r m.terms []) m.spelled
 
-  amiss_holds : (new : Option (List ℕ)) (image : List ℕ) → records image ≡ found (contents m.bits m.genesis.bytes [])
+  amiss_holds : (new : Option (List ℕ)) (image : List ℕ) → records image ≡ found (contents m.terms.profile m.terms.bits m.genesis.bytes [])
       → HoldsAtLeast 0 [] given image × HoldsAcknowledged [] given old new image
   amiss_holds new image is =
       let here : records image ≡ found (contents_of [] given (all_of given)) = is ∙ ap found (sym amiss_contents) in
@@ -242,7 +243,7 @@ module _ (fresh : Bool) (first last : DiskMoment) (law : IsMoment first) (last_l
   amiss_recovery gate disk input after new r t consumed silent =
       let none : records disk ≡ NoJournal = t.0.none in
       let early : IsEarly given old new status.DiskFault = record { ends = tt; silent = appends_same old new silent; headed = headed; unstarted = λ e. cc } in
-      let run : IsSynced first → Leaves first last (HoldsNoneOrNew (contents m.bits m.genesis.bytes [])) =
+      let run : IsSynced first → Leaves first last (HoldsNoneOrNew (contents m.terms.profile m.terms.bits m.genesis.bytes [])) =
       λ synced. m.leaves (told_by first disk r) synced in
       let fits : FitsStored (Empty gate) (fed input).head = with_input (λ i. FitsStored (Empty gate) (fed i).head) (Some input) after given consumed
       (λ rest e. subst (FitsStored (Empty gate)) (sym (m.whole rest)) tt) in
@@ -253,10 +254,10 @@ module _ (fresh : Bool) (first last : DiskMoment) (law : IsMoment first) (last_l
             let synced = sure_synced first old new status.DiskFault (appends_same old new silent) (λ e. cc) sure in
             subst (λ (x : Records). Recovers x given old new status.DiskFault image) (sym none)
             (⊎_elim (λ (no_one : records image ≡ NoJournal). inl (no_one, early)) (λ one. inr (amiss_holds new image one))
-            (ends first last (HoldsNoneOrNew (contents m.bits m.genesis.bytes [])) last_law (run synced) image l));
+            (ends first last (HoldsNoneOrNew (contents m.terms.profile m.terms.bits m.genesis.bytes [])) last_law (run synced) image l));
         whole = λ fit done. absurd (let no : status.DiskFault ≡ status.Done = done in cc);
         any_moment = λ fit synced. subst (λ (x : Records). Leaves first last (HoldsFoundOrMore x given)) (sym none)
-            (weaker first last (HoldsNoneOrNew (contents m.bits m.genesis.bytes [])) (HoldsFoundOrMore NoJournal given) (run synced)
+            (weaker first last (HoldsNoneOrNew (contents m.terms.profile m.terms.bits m.genesis.bytes [])) (HoldsFoundOrMore NoJournal given) (run synced)
             (λ image h. ⊎_elim (λ no_one. inl no_one) (λ one. inr (amiss_holds new image one).0) h));
         other = λ misfit. absurd (misfit (fits_there fresh disk (Empty gate) input t fits));
       }
@@ -481,39 +482,39 @@ module _ (path : List ℕ) (fresh : Bool) (stored : Stored) {start now : Moment}
 -- ---- the journal is that of another chain
 
 -- the parts of the fault
-other_parts : {a1 a2 b1 b2 c1 c2 d1 d2 : ℕ} → OtherChain a2 b2 c2 d2 ≡ OtherChain a1 b1 c1 d1 → (a2 ≡ a1) × (b2 ≡ b1) × (c2 ≡ c1) × (d2 ≡ d1)
-other_parts e = (cc e, cc e, cc e, cc e)
+other_parts : {a1 a2 b1 b2 c1 c2 d1 d2 : ℕ} {p1 p2 q1 q2 : Profile} → OtherChain a2 b2 p2 c2 d2 q2 ≡ OtherChain a1 b1 p1 c1 d1 q1 → (a2 ≡ a1) × (b2 ≡ b1) × (p2 ≡ p1) × (c2 ≡ c1) × (d2 ≡ d1) × (q2 ≡ q1)
+other_parts e = (cc e, cc e, cc e, cc e, cc e, cc e)
 
 pub exit_other : (path : List ℕ) (fresh : Bool) (stored : Stored) {start now : Moment} (old : Option (List ℕ)) (first last : DiskMoment)
     → IsMoment first → IsMoment last
-    → (tells : IfSome first.reads (λ disk. Tells fresh disk (Ok stored))) → {mid : Option (List ℕ)} (new : Option (List ℕ)) (b c d e : ℕ)
-    → KeepAnswers stored start now old mid first last (Err (OtherChain b c d e)) → (result : Status)
+    → (tells : IfSome first.reads (λ disk. Tells fresh disk (Ok stored))) → {mid : Option (List ℕ)} (new : Option (List ℕ)) (b c : ℕ) (p : Profile) (d e : ℕ) (q : Profile)
+    → KeepAnswers stored start now old mid first last (Err (OtherChain b c p d e q)) → (result : Status)
     → (result ≢ status.WriteFault → result ≡ status.OtherChain)
-    → (result ≢ status.WriteFault → Appends mid new (other_chain_text b c d e)) → AppendsFront mid new (other_chain_text b c d e)
+    → (result ≢ status.WriteFault → Appends mid new (other_chain_text b c p d e q)) → AppendsFront mid new (other_chain_text b c p d e q)
     → JobEnds (Some (jobs.Keep path fresh)) first.reads start.left now.left old new first last result
-exit_other path fresh stored old first last law last_law tells new b c d e (inr t) result same text front = absurd t
-exit_other path fresh stored {start = start} {now = now} old first last law last_law tells {mid = mid} new b c d e
+exit_other path fresh stored old first last law last_law tells new b c p d e q (inr t) result same text front = absurd t
+exit_other path fresh stored {start = start} {now = now} old first last law last_law tells {mid = mid} new b c p d e q
     (inl u) result same text front = record {
       by = elim (is_write result) [
         | inl is ↦ subst (WritesBy (Some (jobs.Keep path fresh)) first.reads start.left now.left old new) (sym is)
             (on_both start.left first.reads _ (λ disk input l x.
             subst (λ (o : List ℕ). AppendsFront old new o) (sym (is_text disk input l x).0)
-            (subst (λ (o : Option (List ℕ)). AppendsFront o new (other_chain_text b c d e)) u.silent front)))
+            (subst (λ (o : Option (List ℕ)). AppendsFront o new (other_chain_text b c p d e q)) u.silent front)))
         | inr no_write ↦ subst (WritesBy (Some (jobs.Keep path fresh)) first.reads start.left now.left old new) (sym (same no_write))
             (on_both start.left first.reads _ (λ disk input l x. (
               subst (λ (o : List ℕ). Appends old new o) (sym (is_text disk input l x).0)
-                  (subst (λ (o : Option (List ℕ)). Appends o new (other_chain_text b c d e)) u.silent (text no_write)),
+                  (subst (λ (o : Option (List ℕ)). Appends o new (other_chain_text b c p d e q)) u.silent (text no_write)),
               (is_text disk input l x).1,
             )))
       ];
       taken = λ takes. absurd takes;
       taken_fed = λ _.
           feed_taken fresh stored start.left first.reads tells now.left old new
-          (takes_then (bytes_of stored) start.left now.left old mid new (other_chain_text b c d e)
+          (takes_then (bytes_of stored) start.left now.left old mid new (other_chain_text b c p d e q)
           (subst (λ (o : Option (List ℕ)). TakesFeed (bytes_of stored) start.left now.left old o) (sym u.silent)
           (untried_takes path fresh stored old first last law last_law tells u)) front);
-      onward = answered_stays fresh stored first last law tells {result = Err (OtherChain b c d e)} (inl u);
-      lasting = answered_lasts stored first last law last_law {result = Err (OtherChain b c d e)} (inl u);
+      onward = answered_stays fresh stored first last law tells {result = Err (OtherChain b c p d e q)} (inl u);
+      lasting = answered_lasts stored first last law last_law {result = Err (OtherChain b c p d e q)} (inl u);
       chain = untried_chain stored first.reads result u (line_ends EndsByChain result status.OtherChain same tt tt)
           (line_ends (λ s. s ≡ status.DiskFault → ⊥) result status.OtherChain same (λ e. cc) (λ e. cc));
       crash = on_both start.left first.reads _ (λ disk input l x.
@@ -528,20 +529,20 @@ exit_other path fresh stored {start = start} {now = now} old first last law last
         (with_input (λ i. (fed i).head ≡ Some u.why.0.head) start.left now.left u.given u.took.consumed (λ rest x. u.why.0.whole rest))
 
     named : (s : Stored) (disk input : List ℕ) (h : Head) → Tells fresh disk (Ok s) → (fed input).head ≡ Some h → (FitsStored s (Some h) → ⊥)
-        → NamesBothOf s h (OtherChain b c d e)
-        → (kept_output fresh disk input ≡ other_chain_text b c d e) × HasOtherChain disk input
+        → NamesBothOf s h (OtherChain b c p d e q)
+        → (kept_output fresh disk input ≡ other_chain_text b c p d e q) × HasOtherChain disk input
     named (Empty gate) disk input h t is other names = absurd names
     named (Found o) disk input h t is other names = (
       other_is fresh disk o input h t is other ∙ same_text names,
       record { contents = contents_in o; found = t; head = h; begins = is; other = other },
     )
       where
-        same_text : {a1 a2 b1 b2 c1 c2 d1 d2 : ℕ} → OtherChain a2 b2 c2 d2 ≡ OtherChain a1 b1 c1 d1
-            → other_chain_text a1 b1 c1 d1 ≡ other_chain_text a2 b2 c2 d2
-        same_text eq = let p = other_parts eq in (λ i. other_chain_text (sym p.0 i) (sym p.1 i) (sym p.2 i) (sym p.3 i))
+        same_text : {a1 a2 b1 b2 c1 c2 d1 d2 : ℕ} {p1 p2 q1 q2 : Profile} → OtherChain a2 b2 p2 c2 d2 q2 ≡ OtherChain a1 b1 p1 c1 d1 q1
+            → other_chain_text a1 b1 p1 c1 d1 q1 ≡ other_chain_text a2 b2 p2 c2 d2 q2
+        same_text eq = let e = other_parts eq in (λ i. other_chain_text (sym e.0 i) (sym e.1 i) (sym e.2 i) (sym e.3 i) (sym e.4 i) (sym e.5 i))
 
     is_text : (disk input : List ℕ) → start.left ≡ Some input → first.reads ≡ Some disk
-        → (kept_output fresh disk input ≡ other_chain_text b c d e) × HasOtherChain disk input
+        → (kept_output fresh disk input ≡ other_chain_text b c p d e q) × HasOtherChain disk input
     is_text disk input l x = named stored disk input u.why.0.head (told_at fresh stored tells x) (head_is disk input l) u.why.0.other u.why.0.names
 
 -- ---- the opening of the disk comes first

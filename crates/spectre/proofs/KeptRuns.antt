@@ -34,6 +34,10 @@ use Rattle.spectre.specs.declared.status.Status.TheVariants as status
 use Rattle.spectre.specs.Taken.{TakesFeed}
 use Rattle.spectre.specs.declared.replay.ReplayFault.{ReplayFault}
 use Rattle.spectre.proofs.Running.{front_fewer, whole_front}
+use Rattle.sp_model.specs.declared.profile.Profile.{Profile}
+use Rattle.sp_model.specs.declared.profile.Profile.TheVariants.{One, Two}
+use Rattle.spectre.specs.Journals.{profile_number}
+use Rattle.spectre.specs.Replay.{head_terms}
 
 -- ---- where source and disk tell their bytes
 
@@ -86,19 +90,28 @@ module _ (fresh : Bool) (disk : List ℕ) where
   chain_yes c head is =
       let one : (c.bits == head.bits) ≡ true = eq-eqb c.bits head.bits is.bits in
       let two : bytes_eq c.genesis head.genesis ≡ true = (bytes_eq-Decides c.genesis head.genesis).1 is.genesis in
-      rw (one, two) refl
+      let three : (profile_number c.profile == profile_number head.profile) ≡ true = eq-eqb (profile_number c.profile) (profile_number head.profile) (ap profile_number is.profile) in
+      rw (one, two, three) refl
+
+  -- each profile has a number of its own
+  one_number : (p q : Profile) → profile_number p ≡ profile_number q → p ≡ q
+  one_number One One e = refl
+  one_number One Two e = absurd (omega (arith, e))
+  one_number Two One e = absurd (omega (arith, e))
+  one_number Two Two e = refl
 
   pub chain_no : (c : Contents) (head : Head) → (IsChainOf c head → ⊥) → is_chain_of c head ≡ false
-  chain_no c head other = by (c.bits == head.bits) (bytes_eq c.genesis head.genesis) refl refl
+  chain_no c head other = by (c.bits == head.bits) (bytes_eq c.genesis head.genesis) (profile_number c.profile == profile_number head.profile) refl refl refl
     where
-      by : (a b : Bool) → (c.bits == head.bits) ≡ a → bytes_eq c.genesis head.genesis ≡ b → is_chain_of c head ≡ false
-      by true true p q = absurd (other (record { bits = eqb-true c.bits head.bits p; genesis = (bytes_eq-Decides c.genesis head.genesis).0 q }))
-      by true false p q = rw (p, q) refl
-      by false b p q = rw p refl
+      by : (a b d : Bool) → (c.bits == head.bits) ≡ a → bytes_eq c.genesis head.genesis ≡ b → (profile_number c.profile == profile_number head.profile) ≡ d → is_chain_of c head ≡ false
+      by true true true p q r = absurd (other (record { profile = one_number c.profile head.profile (eqb-true (profile_number c.profile) (profile_number head.profile) r); bits = eqb-true c.bits head.bits p; genesis = (bytes_eq-Decides c.genesis head.genesis).0 q }))
+      by true true false p q r = rw (p, q, r) refl
+      by true false d p q r = rw (p, q) refl
+      by false b d p q r = rw p refl
 
   chained_is : (o : Opening) (input : List ℕ) (head : Option Head) → Accepts (Found o) head → chained (contents_in o) head input ≡ replayed (bytes_of (Found o)) input
   chained_is o input None a = refl
-  chained_is o input (Some head) a = ap (λ (b : Bool). cond b (replayed (contents_in o).blocks input) (other_chain_text o.bits (sha256_number o.genesis.bytes) head.bits (sha256_number head.genesis))) (chain_yes (contents_in o) head a)
+  chained_is o input (Some head) a = ap (λ (b : Bool). cond b (replayed (contents_in o).blocks input) (other_chain_text o.bits (sha256_number o.genesis.bytes) o.profile head.bits (sha256_number head.genesis) head.profile)) (chain_yes (contents_in o) head a)
 
   pub kept_is : (stored : Stored) (input : List ℕ) → Tells fresh disk (Ok stored) → Accepts stored (fed input).head → kept_output fresh disk input ≡ replayed (bytes_of stored) input
   unfolding kept_output
@@ -106,11 +119,11 @@ module _ (fresh : Bool) (disk : List ℕ) where
   kept_is (Found o) input t a = ap (λ (r : Records). kept_by fresh disk r input) t ∙ chained_is o input (fed input).head a
 
   pub other_is : (o : Opening) (input : List ℕ) (head : Head) → Tells fresh disk (Ok (Found o)) → (fed input).head ≡ Some head → (IsChainOf (contents_in o) head → ⊥)
-      → kept_output fresh disk input ≡ other_chain_text o.bits (sha256_number o.genesis.bytes) head.bits (sha256_number head.genesis)
+      → kept_output fresh disk input ≡ other_chain_text o.bits (sha256_number o.genesis.bytes) o.profile head.bits (sha256_number head.genesis) head.profile
   unfolding kept_output
   other_is o input head t e other =
       ap (λ (r : Records). kept_by fresh disk r input) t ∙ ap (λ (h : Option Head). chained (contents_in o) h input) e
-      ∙ ap (λ (b : Bool). cond b (replayed (contents_in o).blocks input) (other_chain_text o.bits (sha256_number o.genesis.bytes) head.bits (sha256_number head.genesis))) (chain_no (contents_in o) head other)
+      ∙ ap (λ (b : Bool). cond b (replayed (contents_in o).blocks input) (other_chain_text o.bits (sha256_number o.genesis.bytes) o.profile head.bits (sha256_number head.genesis) head.profile)) (chain_no (contents_in o) head other)
 
   -- the disk fits the feed just where the head is that of what was found
   fits_by : (stored : Stored) (head : Option Head) → Tells fresh disk (Ok stored) → FitsStored stored head → FitsHead fresh disk (records_in stored) head
@@ -191,8 +204,8 @@ contents_fewer : (before : List (List ℕ)) (head : Option Head) (answered rest 
 contents_fewer before None answered rest = omega arith
 contents_fewer before (Some head) answered rest = by (block_in true head.genesis)
   where
-    by : (r : Result ReadBlock BlockFault) → length (contents_by before r head.bits answered).blocks ≤ length (contents_by before r head.bits (answered ++ rest)).blocks
-    by (Ok genesis) = front_fewer head.bits genesis before answered rest
+    by : (r : Result ReadBlock BlockFault) → length (contents_by before r (head_terms head) answered).blocks ≤ length (contents_by before r (head_terms head) (answered ++ rest)).blocks
+    by (Ok genesis) = front_fewer (head_terms head) genesis before answered rest
     by (Err fault) = omega arith
 
 -- an image that holds all of it holds what was acknowledged, whatever that was

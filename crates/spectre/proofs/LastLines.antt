@@ -36,6 +36,8 @@ use Rattle.spectre.proofs.Outputs.{is_long, is_short, output_long, output_short}
 use Rattle.spectre.proofs.Replayed.{text_is}
 use Rattle.spectre.proofs.TopCall.{in_all, on_all}
 use Rattle.spectre.proofs.WholeLines.{all_lines}
+use Rattle.spectre.specs.Replay.{head_terms}
+use Rattle.spectre.specs.Scenes.{scene_terms}
 
 -- ---- what was written, in two parts
 
@@ -55,7 +57,7 @@ replied_lines before input = by (fed input).head
   where
     by : (head : Option Head) → AreLines (lines_under before head (fed input).messages)
     by None = inl refl
-    by (Some head) = all_lines no_labels (block_in true head.genesis) head.bits before (fed input).messages
+    by (Some head) = all_lines no_labels (block_in true head.genesis) (head_terms head) before (fed input).messages
 
 -- where the disk isn't at fault, nor the feed of another chain, the output is what the feed says
 module _ (fresh : Bool) (disk input : List ℕ) (right : HasNoJournal fresh disk ⊎ IsDamagedDisk disk → ⊥) (same : HasOtherChain disk input → ⊥) where
@@ -70,7 +72,7 @@ module _ (fresh : Bool) (disk input : List ℕ) (right : HasNoJournal fresh disk
       absurd (right (inl (record { none = none; some = λ z. (let no : true ≡ false = sym (eq-eqb (length disk) 0 z) ∙ two.1 in cc); old = two.0 })))
 
   chain_or_not : (c : Contents) (head : Head) (b : Bool) → records disk ≡ Found c → (fed input).head ≡ Some head → is_chain_of c head ≡ b
-      → cond b (replayed c.blocks input) (other_chain_text c.bits (sha256_number c.genesis) head.bits (sha256_number head.genesis)) ≡ replayed c.blocks input
+      → cond b (replayed c.blocks input) (other_chain_text c.bits (sha256_number c.genesis) c.profile head.bits (sha256_number head.genesis) head.profile) ≡ replayed c.blocks input
   chain_or_not c head true found begins e = refl
   chain_or_not c head false found begins e =
       absurd (same (record { contents = c; found = found; head = head; begins = begins; other = λ is. (let no : true ≡ false = sym (chain_yes fresh disk c head is) ∙ e in cc) }))
@@ -117,7 +119,7 @@ played_line : {job : Option Job} {disk input : List ℕ} {old new : Option (List
 unfolding played
 played_line s text same has last took =
     let f = some_fault s.fault has in
-    parts text (scene_lines s) (fault_text (Some f.0)) (same ∙ ap (λ (o : Option LineFault). scene_lines s ++ fault_text o) f.1) (all_lines s.names (block_in true s.genesis) s.bits [] s.messages) (last f.0 f.1) took
+    parts text (scene_lines s) (fault_text (Some f.0)) (same ∙ ap (λ (o : Option LineFault). scene_lines s ++ fault_text o) f.1) (all_lines s.names (block_in true s.genesis) (scene_terms s) [] s.messages) (last f.0 f.1) took
 
 lone_line : {job : Option Job} {disk input : List ℕ} {old new : Option (List ℕ)} (s : Scene) (text rest : List ℕ) → text ≡ unless_faulty s.fault rest → IsSome s.fault → ((fault : LineFault) → s.fault ≡ Some fault → IsLineOf job disk input status.Malformed (fault_text (Some fault)))
     → Appends old new text → EndsInLine job disk input status.Malformed old new
@@ -140,11 +142,11 @@ unfolding shown_output
 shown_is disk r is = ap shown_by is
 
 -- the feed is of another chain
-other_says : (fresh : Bool) (disk input : List ℕ) (h : HasOtherChain disk input) → kept_output fresh disk input ≡ other_chain_text h.contents.bits (sha256_number h.contents.genesis) h.head.bits (sha256_number h.head.genesis)
+other_says : (fresh : Bool) (disk input : List ℕ) (h : HasOtherChain disk input) → kept_output fresh disk input ≡ other_chain_text h.contents.bits (sha256_number h.contents.genesis) h.contents.profile h.head.bits (sha256_number h.head.genesis) h.head.profile
 unfolding kept_output
 other_says fresh disk input h =
     ap (λ (r : Records). kept_by fresh disk r input) h.found ∙ ap (λ (o : Option Head). chained h.contents o input) h.begins
-    ∙ ap (λ (b : Bool). cond b (replayed h.contents.blocks input) (other_chain_text h.contents.bits (sha256_number h.contents.genesis) h.head.bits (sha256_number h.head.genesis))) (chain_no fresh disk h.contents h.head h.other)
+    ∙ ap (λ (b : Bool). cond b (replayed h.contents.blocks input) (other_chain_text h.contents.bits (sha256_number h.contents.genesis) h.contents.profile h.head.bits (sha256_number h.head.genesis) h.head.profile)) (chain_no fresh disk h.contents h.head h.other)
 
 -- ---- by each status and job
 

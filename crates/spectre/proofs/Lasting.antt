@@ -30,7 +30,7 @@ module _ (stored : Stored) (first last : DiskMoment) (law : IsMoment first) (las
   tried_lasts : (start now : Moment) (old mid : Option (List ℕ)) (result : Result (Unit {0}) KeepFault) → TriedBy stored start now old mid first last result → JournalLasts first last
   tried_lasts start now old mid (Ok u) t = started_lasts {start = start} {now = now} {old = old} {mid = mid} t
   tried_lasts start now old mid (Err (Feed fault)) t = started_lasts {start = start} {now = now} {old = old} {mid = mid} t
-  tried_lasts start now old mid (Err (OtherChain a b c d)) t = absurd t
+  tried_lasts start now old mid (Err (OtherChain a b p c d q)) t = absurd t
   tried_lasts start now old mid (Err WriteFault) t = started_lasts {start = start} {now = now} {old = old} {mid = mid} t
   tried_lasts start now old mid (Err DiskFault) t = started_lasts {start = start} {now = now} {old = old} {mid = mid} t
   tried_lasts start now old mid (Err Memory) t = started_lasts {start = start} {now = now} {old = old} {mid = mid} t
@@ -42,7 +42,7 @@ module _ (stored : Stored) (first last : DiskMoment) (law : IsMoment first) (las
   untried_lasts start now given (Err (Feed (faults.Truncated at))) w = looked_lasts first last law last_law w.2
   untried_lasts start now given (Err (Feed faults.ReadFault)) w = looked_lasts first last law last_law w.2
   untried_lasts start now given (Err (Feed (faults.TooLong taken))) w = looked_lasts first last law last_law w.1
-  untried_lasts start now given (Err (OtherChain a b c d)) w = looked_lasts first last law last_law w.1
+  untried_lasts start now given (Err (OtherChain a b p c d q)) w = looked_lasts first last law last_law w.1
   untried_lasts start now given (Err WriteFault) w = absurd w
   untried_lasts start now given (Err DiskFault) w = by stored w
     where

@@ -17,3 +17,4 @@ pub mod Tallies
 pub mod DiskFirst
 pub mod WholeLines
 pub mod LastLines
+pub mod SmallNumbers

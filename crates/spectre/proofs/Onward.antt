@@ -37,6 +37,7 @@ onward_front f c disk image is first h =
       front_of c h.count,
       h.holds,
       (
+        sym (ap (λ (x : Contents). x.profile) e),
         sym (ap (λ (x : Contents). x.bits) e),
         sym (ap (λ (x : Contents). x.genesis) e),
         (drop first.count (take h.count c.blocks), longer c.blocks first.count h.count le ∙ ap (λ (front : List (List ℕ)). front ++ drop first.count (take h.count c.blocks)) (sym (ap (λ (x : Contents). x.blocks) e))),
@@ -70,7 +71,7 @@ module _ (fresh : Bool) (stored : Stored) (first last : DiskMoment) (law : IsMom
   tried_stays : (start now : Moment) (old mid : Option (List ℕ)) (result : Result (Unit {0}) KeepFault) → TriedBy stored start now old mid first last result → Stays first last
   tried_stays start now old mid (Ok u) t = started_stays {start = start} {now = now} {old = old} {mid = mid} t
   tried_stays start now old mid (Err (Feed fault)) t = started_stays {start = start} {now = now} {old = old} {mid = mid} t
-  tried_stays start now old mid (Err (OtherChain a b c d)) t = absurd t
+  tried_stays start now old mid (Err (OtherChain a b p c d q)) t = absurd t
   tried_stays start now old mid (Err WriteFault) t = started_stays {start = start} {now = now} {old = old} {mid = mid} t
   tried_stays start now old mid (Err DiskFault) t = started_stays {start = start} {now = now} {old = old} {mid = mid} t
   tried_stays start now old mid (Err Memory) t = started_stays {start = start} {now = now} {old = old} {mid = mid} t
@@ -78,7 +79,7 @@ module _ (fresh : Bool) (stored : Stored) (first last : DiskMoment) (law : IsMom
   -- none was
   amiss_stays : (given : List ℕ) (m : IsAmiss given first last) → ((disk : List ℕ) → first.reads ≡ Some disk → records disk ≡ NoJournal) → Stays first last
   amiss_stays given m none = on_one first.reads _ (λ disk r synced.
-      let new : Contents = contents m.bits m.genesis.bytes [] in
+      let new : Contents = contents m.terms.profile m.terms.bits m.genesis.bytes [] in
       subst (λ (x : Records). Leaves first last (HoldsOnward x)) (sym (none disk r))
       (weaker first last (HoldsNoneOrNew new) (HoldsOnward NoJournal) (m.leaves (told_by first disk r) synced) (λ image h. ⊎_elim (λ no_one. inl no_one) (λ one. inr (new, one, tt)) h)))
 
@@ -88,7 +89,7 @@ module _ (fresh : Bool) (stored : Stored) (first last : DiskMoment) (law : IsMom
   untried_stays start now given (Err (Feed (faults.Truncated at))) w = looked_stays first last law w.2
   untried_stays start now given (Err (Feed faults.ReadFault)) w = looked_stays first last law w.2
   untried_stays start now given (Err (Feed (faults.TooLong taken))) w = looked_stays first last law w.1
-  untried_stays start now given (Err (OtherChain a b c d)) w = looked_stays first last law w.1
+  untried_stays start now given (Err (OtherChain a b p c d q)) w = looked_stays first last law w.1
   untried_stays start now given (Err WriteFault) w = absurd w
   untried_stays start now given (Err DiskFault) w = by stored w (λ disk r. records_are fresh disk stored (tells_at disk r))
     where

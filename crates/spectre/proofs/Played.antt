@@ -18,19 +18,20 @@ use Rattle.sp_node.proofs.AnswerLists.{answers-append, answers-push, kept_then_b
 use Rattle.sp_play.specs.Scene.{Scene}
 use Rattle.spectre.specs.Scenes.{lines_by, scene_lines, summary_by, summary_in}
 use Rattle.spectre.specs.Summary.{summary}
+use Rattle.sp_node.specs.Terms.{Terms, terms_of}
 
 -- so many of the messages were answered, over this genesis block
-pub record Played (old now : Option (List ℕ)) (labels : AllLabels) (genesis : ReadBlock) (bits : ℕ) (kept : List ReadBlock) (messages : List Said) (place : ℕ) : Type 0 where
-  pub kept_is : kept ≡ kept_by_all bits genesis (flat_map arrivals_of (take place messages))
-  pub wrote : Appends old now (answers labels genesis bits [] (take place messages))
+pub record Played (old now : Option (List ℕ)) (labels : AllLabels) (genesis : ReadBlock) (terms : Terms) (kept : List ReadBlock) (messages : List Said) (place : ℕ) : Type 0 where
+  pub kept_is : kept ≡ kept_by_all terms.bits genesis (flat_map arrivals_of (take place messages))
+  pub wrote : Appends old now (answers labels genesis terms [] (take place messages))
 
 appends_none : (a : Option (List ℕ)) → Appends a a []
 appends_none None = tt
 appends_none (Some ws) = sym (append-nil ws)
 
-pub none_played : (a : Option (List ℕ)) (labels : AllLabels) (genesis : ReadBlock) (bits : ℕ) (kept : List ReadBlock) (messages : List Said) → kept ≡ genesis ∷ [] → Played a a labels genesis bits kept messages 0
+pub none_played : (a : Option (List ℕ)) (labels : AllLabels) (genesis : ReadBlock) (terms : Terms) (kept : List ReadBlock) (messages : List Said) → kept ≡ genesis ∷ [] → Played a a labels genesis terms kept messages 0
 unfolding answers
-none_played a labels genesis bits kept messages k = record { kept_is = k; wrote = appends_none a }
+none_played a labels genesis terms kept messages k = record { kept_is = k; wrote = appends_none a }
 
 -- the messages up to the next one
 taken_more : (messages : List Said) (place : ℕ) (m : Said) → place < length messages → slice_get messages place ≡ Some m → take (place + 1) messages ≡ take place messages ++ m ∷ []
@@ -40,50 +41,50 @@ arrived_more : (front : List Said) (m : Said) → flat_map arrivals_of (front ++
 arrived_more front m = flat_map-append arrivals_of front (m ∷ []) ∙ ap (λ (l : List (List ℕ)). flat_map arrivals_of front ++ l) (append-nil (arrivals_of m))
 
 -- the next message was answered
-pub one_played : {old seen now : Option (List ℕ)} {labels : AllLabels} {genesis : ReadBlock} {bits : ℕ} {kept kept' : List ReadBlock} {messages : List Said} {place : ℕ} (m : Said)
-    → Played old seen labels genesis bits kept messages place → place < length messages → slice_get messages place ≡ Some m
-    → Appends seen now (reply_of labels bits kept m) → kept' ≡ kept_then bits kept m → Played old now labels genesis bits kept' messages (place + 1)
-one_played {old = old} {seen = seen} {now = now} {labels = labels} {genesis = genesis} {bits = bits} {kept = kept} {kept' = kept'} {messages = messages} {place = place} m p l e wrote k =
+pub one_played : {old seen now : Option (List ℕ)} {labels : AllLabels} {genesis : ReadBlock} {terms : Terms} {kept kept' : List ReadBlock} {messages : List Said} {place : ℕ} (m : Said)
+    → Played old seen labels genesis terms kept messages place → place < length messages → slice_get messages place ≡ Some m
+    → Appends seen now (reply_of labels terms kept m) → kept' ≡ kept_then terms.bits kept m → Played old now labels genesis terms kept' messages (place + 1)
+one_played {old = old} {seen = seen} {now = now} {labels = labels} {genesis = genesis} {terms = terms} {kept = kept} {kept' = kept'} {messages = messages} {place = place} m p l e wrote k =
     let front = take place messages in
     let arrivals = flat_map arrivals_of front in
     let more = taken_more messages place m l e in
     record {
-      kept_is = k ∙ ap (λ (x : List ReadBlock). kept_then bits x m) p.kept_is ∙ kept_then_by_all bits genesis arrivals m
-          ∙ ap (kept_by_all bits genesis) (sym (arrived_more front m)) ∙ ap (λ (x : List Said). kept_by_all bits genesis (flat_map arrivals_of x)) (sym more);
-      wrote = subst (λ (x : List Said). Appends old now (answers labels genesis bits [] x)) (sym more)
-          (subst (λ (t : List ℕ). Appends old now t) (sym (answers-push labels genesis bits [] front m))
-          (appends_then old seen now (answers labels genesis bits [] front) (reply labels genesis bits arrivals m) p.wrote
-          (subst (λ (x : List ReadBlock). Appends seen now (reply_of labels bits x m)) p.kept_is wrote)));
+      kept_is = k ∙ ap (λ (x : List ReadBlock). kept_then terms.bits x m) p.kept_is ∙ kept_then_by_all terms.bits genesis arrivals m
+          ∙ ap (kept_by_all terms.bits genesis) (sym (arrived_more front m)) ∙ ap (λ (x : List Said). kept_by_all terms.bits genesis (flat_map arrivals_of x)) (sym more);
+      wrote = subst (λ (x : List Said). Appends old now (answers labels genesis terms [] x)) (sym more)
+          (subst (λ (t : List ℕ). Appends old now t) (sym (answers-push labels genesis terms [] front m))
+          (appends_then old seen now (answers labels genesis terms [] front) (reply labels genesis terms arrivals m) p.wrote
+          (subst (λ (x : List ReadBlock). Appends seen now (reply_of labels terms x m)) p.kept_is wrote)));
     }
 
 -- it wasn't, or not whole
-pub stopped_there : {old seen now : Option (List ℕ)} {labels : AllLabels} {genesis : ReadBlock} {bits : ℕ} {kept : List ReadBlock} {messages : List Said} {place : ℕ} (m : Said)
-    → Played old seen labels genesis bits kept messages place → place < length messages → slice_get messages place ≡ Some m
-    → AppendsFront seen now (reply_of labels bits kept m) → AppendsFront old now (answers labels genesis bits [] messages)
-stopped_there {old = old} {seen = seen} {now = now} {labels = labels} {genesis = genesis} {bits = bits} {kept = kept} {messages = messages} {place = place} m p l e front =
+pub stopped_there : {old seen now : Option (List ℕ)} {labels : AllLabels} {genesis : ReadBlock} {terms : Terms} {kept : List ReadBlock} {messages : List Said} {place : ℕ} (m : Said)
+    → Played old seen labels genesis terms kept messages place → place < length messages → slice_get messages place ≡ Some m
+    → AppendsFront seen now (reply_of labels terms kept m) → AppendsFront old now (answers labels genesis terms [] messages)
+stopped_there {old = old} {seen = seen} {now = now} {labels = labels} {genesis = genesis} {terms = terms} {kept = kept} {messages = messages} {place = place} m p l e front =
     let before = take place messages in
     let arrivals = flat_map arrivals_of before in
-    let here : List ℕ = reply labels genesis bits arrivals m in
-    let behind : List ℕ = answers labels genesis bits (flat_map arrivals_of (before ++ m ∷ [])) (drop (place + 1) messages) in
+    let here : List ℕ = reply labels genesis terms arrivals m in
+    let behind : List ℕ = answers labels genesis terms (flat_map arrivals_of (before ++ m ∷ [])) (drop (place + 1) messages) in
     let split : messages ≡ (before ++ m ∷ []) ++ drop (place + 1) messages =
     sym (take-append-drop (place + 1) messages) ∙ ap (λ (x : List Said). x ++ drop (place + 1) messages) (taken_more messages place m l e) in
-    let whole : answers labels genesis bits [] messages ≡ answers labels genesis bits [] before ++ (here ++ behind) =
-    ap (answers labels genesis bits []) split ∙ answers-append labels genesis bits [] (before ++ m ∷ []) (drop (place + 1) messages)
-    ∙ ap (λ (t : List ℕ). t ++ behind) (answers-push labels genesis bits [] before m)
-    ∙ append_assoc (answers labels genesis bits [] before) here behind in
-    let w : Wrote old seen (answers labels genesis bits [] messages) (here ++ behind) = record { front = answers labels genesis bits [] before; appended = p.wrote; split = whole } in
-    wrote_stops here behind w (subst (λ (x : List ReadBlock). AppendsFront seen now (reply_of labels bits x m)) p.kept_is front)
+    let whole : answers labels genesis terms [] messages ≡ answers labels genesis terms [] before ++ (here ++ behind) =
+    ap (answers labels genesis terms []) split ∙ answers-append labels genesis terms [] (before ++ m ∷ []) (drop (place + 1) messages)
+    ∙ ap (λ (t : List ℕ). t ++ behind) (answers-push labels genesis terms [] before m)
+    ∙ append_assoc (answers labels genesis terms [] before) here behind in
+    let w : Wrote old seen (answers labels genesis terms [] messages) (here ++ behind) = record { front = answers labels genesis terms [] before; appended = p.wrote; split = whole } in
+    wrote_stops here behind w (subst (λ (x : List ReadBlock). AppendsFront seen now (reply_of labels terms x m)) p.kept_is front)
 
 -- all were answered
-pub all_written : {old now : Option (List ℕ)} {labels : AllLabels} {genesis : ReadBlock} {bits : ℕ} {kept : List ReadBlock} {messages : List Said} {place : ℕ}
-    → Played old now labels genesis bits kept messages place → length messages ≤ place → Appends old now (answers labels genesis bits [] messages)
-all_written {old = old} {now = now} {labels = labels} {genesis = genesis} {bits = bits} {messages = messages} {place = place} p l =
-    subst (λ (x : List Said). Appends old now (answers labels genesis bits [] x)) (take_all place messages l) p.wrote
+pub all_written : {old now : Option (List ℕ)} {labels : AllLabels} {genesis : ReadBlock} {terms : Terms} {kept : List ReadBlock} {messages : List Said} {place : ℕ}
+    → Played old now labels genesis terms kept messages place → length messages ≤ place → Appends old now (answers labels genesis terms [] messages)
+all_written {old = old} {now = now} {labels = labels} {genesis = genesis} {terms = terms} {messages = messages} {place = place} p l =
+    subst (λ (x : List Said). Appends old now (answers labels genesis terms [] x)) (take_all place messages l) p.wrote
 
-pub all_kept : {old now : Option (List ℕ)} {labels : AllLabels} {genesis : ReadBlock} {bits : ℕ} {kept : List ReadBlock} {messages : List Said} {place : ℕ}
-    → Played old now labels genesis bits kept messages place → length messages ≤ place → kept ≡ kept_by_all bits genesis (flat_map arrivals_of messages)
-all_kept {genesis = genesis} {bits = bits} {messages = messages} {place = place} p l =
-    p.kept_is ∙ ap (λ (x : List Said). kept_by_all bits genesis (flat_map arrivals_of x)) (take_all place messages l)
+pub all_kept : {old now : Option (List ℕ)} {labels : AllLabels} {genesis : ReadBlock} {terms : Terms} {kept : List ReadBlock} {messages : List Said} {place : ℕ}
+    → Played old now labels genesis terms kept messages place → length messages ≤ place → kept ≡ kept_by_all terms.bits genesis (flat_map arrivals_of messages)
+all_kept {genesis = genesis} {terms = terms} {messages = messages} {place = place} p l =
+    p.kept_is ∙ ap (λ (x : List Said). kept_by_all terms.bits genesis (flat_map arrivals_of x)) (take_all place messages l)
 
 -- a message stands at each place
 pub said_within : (messages : List Said) (place : ℕ) (o : Option Said) → place < length messages → slice_get messages place ≡ o → (m : Said) × (o ≡ Some m)
@@ -94,14 +95,14 @@ said_within messages place o l e =
     ]
 
 -- over the genesis block that a scene's bytes spell, the answers are the scene's, and the summary is
-module _ (scene : Scene) (labels : AllLabels) (genesis : ReadBlock) (bits : ℕ) (l : labels ≡ scene.names) (spelled : block_in true genesis.bytes ≡ Ok genesis) (same : genesis.bytes ≡ scene.genesis) (b : bits ≡ scene.bits) where
-  pub lines_are : answers labels genesis bits [] scene.messages ≡ scene_lines scene
+module _ (scene : Scene) (labels : AllLabels) (genesis : ReadBlock) (terms : Terms) (l : labels ≡ scene.names) (spelled : block_in true genesis.bytes ≡ Ok genesis) (same : genesis.bytes ≡ scene.genesis) (b : terms ≡ terms_of scene.profile scene.bits) where
+  pub lines_are : answers labels genesis terms [] scene.messages ≡ scene_lines scene
   lines_are =
-      ap (λ (x : AllLabels). answers x genesis bits [] scene.messages) l ∙ ap (λ (n : ℕ). answers scene.names genesis n [] scene.messages) b
-      ∙ sym (ap (λ r. lines_by scene.names r scene.bits [] scene.messages) (ap (block_in true) (sym same) ∙ spelled))
+      ap (λ (x : AllLabels). answers x genesis terms [] scene.messages) l ∙ ap (λ (n : Terms). answers scene.names genesis n [] scene.messages) b
+      ∙ sym (ap (λ r. lines_by scene.names r (terms_of scene.profile scene.bits) [] scene.messages) (ap (block_in true) (sym same) ∙ spelled))
 
-  pub summary_is : summary One labels (kept_by_all bits genesis (flat_map arrivals_of scene.messages)) ≡ summary_in scene
+  pub summary_is : summary terms.profile labels (kept_by_all terms.bits genesis (flat_map arrivals_of scene.messages)) ≡ summary_in scene
   summary_is =
-      ap (λ (x : AllLabels). summary One x (kept_by_all bits genesis (flat_map arrivals_of scene.messages))) l
-      ∙ ap (λ (n : ℕ). summary One scene.names (kept_by_all n genesis (flat_map arrivals_of scene.messages))) b
+      ap (λ (x : AllLabels). summary terms.profile x (kept_by_all terms.bits genesis (flat_map arrivals_of scene.messages))) l
+      ∙ ap (λ (n : Terms). summary n.profile scene.names (kept_by_all n.bits genesis (flat_map arrivals_of scene.messages))) b
       ∙ sym (ap (λ r. summary_by r scene) (ap (block_in true) (sym same) ∙ spelled))

@@ -37,13 +37,14 @@ use Rattle.spectre.specs.Taken.{AreAnswered, AreNeeded}
 use Rattle.spectre.specs.declared.replay.ReplayFault.{ReplayFault}
 use Rattle.spectre.specs.declared.replay.ReplayFault.TheVariants.{DiskFault, Feed, Memory, WriteFault}
 use Rattle.spectre.specs.Heads.{as_replay, of_node}
+use Rattle.sp_node.specs.Terms.{Terms, terms_of}
 
 pub appends_none : (a : Option (List ℕ)) → Appends a a []
 appends_none None = tt
 appends_none (Some ws) = sym (append-nil ws)
 
-pub lines_are : (before : List (List ℕ)) (genesis : ReadBlock) (bits : ℕ) (messages : List Said) → block_in true genesis.bytes ≡ Ok genesis → lines_under before (Some (head_of bits genesis.bytes)) messages ≡ answers no_labels genesis bits before messages
-lines_are before genesis bits messages spelled = ap (λ r. lines_by no_labels r bits before messages) spelled
+pub lines_are : (before : List (List ℕ)) (genesis : ReadBlock) (terms : Terms) (messages : List Said) → block_in true genesis.bytes ≡ Ok genesis → lines_under before (Some (head_of terms.profile terms.bits genesis.bytes)) messages ≡ answers no_labels genesis terms before messages
+lines_are before genesis terms messages spelled = ap (λ r. lines_by no_labels r terms before messages) spelled
 
 -- what a feed with these messages writes for them
 pub replied_is : (before : List (List ℕ)) (input : List ℕ) (f : FeedOf) → fed input ≡ f → replied before input ≡ message_lines before f
@@ -60,11 +61,11 @@ head_answered before old g front rest e l =
     subst (λ (t : List ℕ). AppendsAtLeast old old t) (sym (replied_is before front _ (g.needs front rest e l))) ([], appends_none old)
 
 -- the head was read, and nothing is written yet
-pub at_head : {start now : Moment} {head : ReadHead} {bits : ℕ} {kept : List ReadBlock} (before : List (List ℕ)) (old : Option (List ℕ)) → start.taken ≡ 0 → GivesHead feed_limit start now head_in (Ok head) → block_in true head.genesis.bytes ≡ Ok head.genesis
-    → bits ≡ head.bits → kept ≡ kept_by_all head.bits head.genesis before → Answering before start now old old bits kept
+pub at_head : {start now : Moment} {head : ReadHead} {terms : Terms} {kept : List ReadBlock} (before : List (List ℕ)) (old : Option (List ℕ)) → start.taken ≡ 0 → GivesHead feed_limit start now head_in (Ok head) → block_in true head.genesis.bytes ≡ Ok head.genesis
+    → terms ≡ terms_of head.profile head.bits → kept ≡ kept_by_all head.bits head.genesis before → Answering before start now old old terms kept
 unfolding answers so_far_head
-at_head {start = start} {now = now} {head = head} {bits = bits} {kept = kept} before old z g spelled b k =
-    subst (λ (n : ℕ). Answering before start now old old n kept) (sym b) (record {
+at_head {start = start} {now = now} {head = head} {terms = terms} {kept = kept} before old z g spelled b k =
+    subst (λ (n : Terms). Answering before start now old old n kept) (sym b) (record {
       genesis = head.genesis;
       spelled = spelled;
       messages = [];
@@ -75,16 +76,16 @@ at_head {start = start} {now = now} {head = head} {bits = bits} {kept = kept} be
     })
 
 -- in a front of the bytes so far and of those of the next call, all messages were answered
-pub answered_next : {start mid now : Moment} {old seen : Option (List ℕ)} {bits : ℕ} {kept : List ReadBlock} {X : Type 0} {view : X → Option Said} {r : Result X FeedFault}
-    (before : List (List ℕ)) (a : Answering before start mid old seen bits kept) (g : GivesNext feed_limit mid now view r) → AreAnswered before old seen (a.so_far.given ++ g.given)
-answered_next {mid = mid} {old = old} {seen = seen} {bits = bits} before a g front rest e l =
+pub answered_next : {start mid now : Moment} {old seen : Option (List ℕ)} {terms : Terms} {kept : List ReadBlock} {X : Type 0} {view : X → Option Said} {r : Result X FeedFault}
+    (before : List (List ℕ)) (a : Answering before start mid old seen terms kept) (g : GivesNext feed_limit mid now view r) → AreAnswered before old seen (a.so_far.given ++ g.given)
+answered_next {mid = mid} {old = old} {seen = seen} {terms = terms} before a g front rest e l =
     elim (split_front a.so_far.given g.given front rest e) [
       | inl s ↦ a.answered front s.0 s.1 s.2
-      | inr s ↦ (let head = head_of bits a.genesis.bytes in
+      | inr s ↦ (let head = head_of terms.profile terms.bits a.genesis.bytes in
           let none : rest_of feed_limit mid.taken s.0 ≡ no_more (Truncated (mid.taken + length s.0)) = g.needs s.0 rest s.2 l in
-          let is : replied before front ≡ answers no_labels a.genesis bits before a.messages =
+          let is : replied before front ≡ answers no_labels a.genesis terms before a.messages =
           ap (replied before) s.1 ∙ replied_is before (a.so_far.given ++ s.0) _ (a.so_far.says s.0 ∙ ap (onto head a.so_far.messages) none)
-          ∙ ap (lines_under before (Some head)) (append-nil a.so_far.messages ∙ sym a.so_far.seen) ∙ lines_are before a.genesis bits a.messages a.spelled in
+          ∙ ap (lines_under before (Some head)) (append-nil a.so_far.messages ∙ sym a.so_far.seen) ∙ lines_are before a.genesis terms a.messages a.spelled in
           at_least old seen (replied before front) (subst (λ (t : List ℕ). Appends old seen t) (sym is) a.wrote))
     ]
 
@@ -95,30 +96,30 @@ arrived_more before messages m =
     ∙ sym (append_assoc before (flat_map arrivals_of messages) (arrivals_of m))
 
 -- one message more was answered
-pub one_more : {start mid now : Moment} {old seen new : Option (List ℕ)} {bits bits' : ℕ} {kept kept' : List ReadBlock} {X : Type 0} {view : X → Option Said} {x : X} (before : List (List ℕ)) (m : Said)
-    → Answering before start mid old seen bits kept → GivesNext feed_limit mid now view (Ok x) → view x ≡ Some m
-    → Appends seen new (reply_of no_labels bits kept m) → kept' ≡ kept_then bits kept m → bits' ≡ bits → Answering before start now old new bits' kept'
+pub one_more : {start mid now : Moment} {old seen new : Option (List ℕ)} {terms terms' : Terms} {kept kept' : List ReadBlock} {X : Type 0} {view : X → Option Said} {x : X} (before : List (List ℕ)) (m : Said)
+    → Answering before start mid old seen terms kept → GivesNext feed_limit mid now view (Ok x) → view x ≡ Some m
+    → Appends seen new (reply_of no_labels terms kept m) → kept' ≡ kept_then terms.bits kept m → terms' ≡ terms → Answering before start now old new terms' kept'
 unfolding so_far_more
-one_more {start = start} {mid = mid} {now = now} {old = old} {seen = seen} {new = new} {bits = bits} {bits' = bits'} {kept = kept} {kept' = kept'} before m a g e wrote k b =
+one_more {start = start} {mid = mid} {now = now} {old = old} {seen = seen} {new = new} {terms = terms} {terms' = terms'} {kept = kept} {kept' = kept'} before m a g e wrote k b =
     let arrivals = before ++ flat_map arrivals_of a.messages in
     let more : before ++ flat_map arrivals_of (a.messages ++ m ∷ []) ≡ arrivals ++ arrivals_of m = arrived_more before a.messages m in
-    subst (λ (n : ℕ). Answering before start now old new n kept') (sym b) (record {
+    subst (λ (n : Terms). Answering before start now old new n kept') (sym b) (record {
       genesis = a.genesis;
       spelled = a.spelled;
       messages = a.messages ++ m ∷ [];
       so_far = so_far_more m (a.messages ++ m ∷ []) a.so_far g e refl;
-      kept_is = k ∙ ap (λ (l : List ReadBlock). kept_then bits l m) a.kept_is ∙ kept_then_by_all bits a.genesis arrivals m ∙ ap (kept_by_all bits a.genesis) (sym more);
-      wrote = subst (λ (t : List ℕ). Appends old new t) (sym (answers-push no_labels a.genesis bits before a.messages m))
-          (appends_then old seen new (answers no_labels a.genesis bits before a.messages) (reply no_labels a.genesis bits arrivals m) a.wrote (subst (λ (l : List ReadBlock). Appends seen new (reply_of no_labels bits l m)) a.kept_is wrote));
-      answered = λ front rest e l. at_least_then old seen new (replied before front) (reply_of no_labels bits kept m) (answered_next before a g front rest e l) wrote;
+      kept_is = k ∙ ap (λ (l : List ReadBlock). kept_then terms.bits l m) a.kept_is ∙ kept_then_by_all terms.bits a.genesis arrivals m ∙ ap (kept_by_all terms.bits a.genesis) (sym more);
+      wrote = subst (λ (t : List ℕ). Appends old new t) (sym (answers-push no_labels a.genesis terms before a.messages m))
+          (appends_then old seen new (answers no_labels a.genesis terms before a.messages) (reply no_labels a.genesis terms arrivals m) a.wrote (subst (λ (l : List ReadBlock). Appends seen new (reply_of no_labels terms l m)) a.kept_is wrote));
+      answered = λ front rest e l. at_least_then old seen new (replied before front) (reply_of no_labels terms kept m) (answered_next before a g front rest e l) wrote;
     })
 
 -- the end was read
-unfoldable pub at_end : {start mid now : Moment} {old new : Option (List ℕ)} {bits : ℕ} {kept : List ReadBlock} {X : Type 0} {view : X → Option Said} {x : X} (before : List (List ℕ))
-    → Answering before start mid old new bits kept → GivesNext feed_limit mid now view (Ok x) → view x ≡ None → Replies before start now old new (Ok tt)
+unfoldable pub at_end : {start mid now : Moment} {old new : Option (List ℕ)} {terms : Terms} {kept : List ReadBlock} {X : Type 0} {view : X → Option Said} {x : X} (before : List (List ℕ))
+    → Answering before start mid old new terms kept → GivesNext feed_limit mid now view (Ok x) → view x ≡ None → Replies before start now old new (Ok tt)
 unfolding all_end
-at_end {start = start} {now = now} {old = old} {new = new} {bits = bits} before a g e =
-    let head = head_of bits a.genesis.bytes in
+at_end {start = start} {now = now} {old = old} {new = new} {terms = terms} before a g e =
+    let head = head_of terms.profile terms.bits a.genesis.bytes in
     let whole = all_end (λ (h : Head). h) head a.so_far g e refl in
     record {
       given = whole.given;
@@ -127,7 +128,7 @@ at_end {start = start} {now = now} {old = old} {new = new} {bits = bits} before 
       answered = answered_next before a g;
       says = λ more. (
         subst (λ (t : List ℕ). Appends old new t)
-            (sym (replied_is before (whole.given ++ more) _ (whole.says more) ∙ ap (lines_under before (Some head)) (sym whole.seen) ∙ lines_are before a.genesis bits a.messages a.spelled)) a.wrote,
+            (sym (replied_is before (whole.given ++ more) _ (whole.says more) ∙ ap (lines_under before (Some head)) (sym whole.seen) ∙ lines_are before a.genesis terms a.messages a.spelled)) a.wrote,
         ap (λ (f : FeedOf). f.end) (whole.says more),
       );
     }
@@ -149,10 +150,10 @@ fault_says before start now old new given head messages (faults.TooLong taken) s
   ap (λ (f : FeedOf). f.end) (s more),
 )
 
-unfoldable pub at_fault : {start mid now : Moment} {old new : Option (List ℕ)} {bits : ℕ} {kept : List ReadBlock} {X : Type 0} {view : X → Option Said} {e : FeedFault} (before : List (List ℕ))
-    → Answering before start mid old new bits kept → GivesNext feed_limit mid now view (Err e) → Replies before start now old new (Err (Feed e))
-at_fault {start = start} {mid = mid} {now = now} {old = old} {new = new} {bits = bits} {e = e} before a g =
-    let head = head_of bits a.genesis.bytes in
+unfoldable pub at_fault : {start mid now : Moment} {old new : Option (List ℕ)} {terms : Terms} {kept : List ReadBlock} {X : Type 0} {view : X → Option Said} {e : FeedFault} (before : List (List ℕ))
+    → Answering before start mid old new terms kept → GivesNext feed_limit mid now view (Err e) → Replies before start now old new (Err (Feed e))
+at_fault {start = start} {mid = mid} {now = now} {old = old} {new = new} {terms = terms} {e = e} before a g =
+    let head = head_of terms.profile terms.bits a.genesis.bytes in
     record {
       given = a.so_far.given ++ g.given;
       took = took_then feed_limit start mid now a.so_far.given g.given a.so_far.took g.took;
@@ -160,7 +161,7 @@ at_fault {start = start} {mid = mid} {now = now} {old = old} {new = new} {bits =
       answered = answered_next before a g;
       says = fault_says before start now old new (a.so_far.given ++ g.given) (Some head) a.so_far.messages e
           (fault_onto feed_limit start mid now head a.so_far.messages a.so_far.given g.given e a.so_far.took.later a.so_far.says g.says)
-          (subst (λ (t : List ℕ). Appends old new t) (sym (ap (lines_under before (Some head)) (sym a.so_far.seen) ∙ lines_are before a.genesis bits a.messages a.spelled)) a.wrote);
+          (subst (λ (t : List ℕ). Appends old new t) (sym (ap (lines_under before (Some head)) (sym a.so_far.seen) ∙ lines_are before a.genesis terms a.messages a.spelled)) a.wrote);
     }
 
 -- nothing was written
@@ -218,16 +219,16 @@ fed_so_far {now = now} {h = h} {after = after} f =
     ∙ ap (λ (l : List Said). record { head = Some h; messages = l; end = rest.end }) (ap (λ (l : List Said). f.messages ++ l) (rest_none feed_limit now.taken) ∙ append-nil f.messages ∙ sym f.seen)
 
 -- a message wasn't answered
-unfoldable pub not_answered : {start mid now : Moment} {old seen new : Option (List ℕ)} {bits : ℕ} {kept : List ReadBlock} {X : Type 0} {view : X → Option Said} {x : X} (before : List (List ℕ)) (fault : NodeFault) (m : Said)
-    → Answering before start mid old seen bits kept → GivesNext feed_limit mid now view (Ok x) → view x ≡ Some m → (fault ≡ nodes.DiskFault → new ≡ seen) → AppendsFront seen new (reply_of no_labels bits kept m) → Replies before start now old new (Err (of_node fault))
+unfoldable pub not_answered : {start mid now : Moment} {old seen new : Option (List ℕ)} {terms : Terms} {kept : List ReadBlock} {X : Type 0} {view : X → Option Said} {x : X} (before : List (List ℕ)) (fault : NodeFault) (m : Said)
+    → Answering before start mid old seen terms kept → GivesNext feed_limit mid now view (Ok x) → view x ≡ Some m → (fault ≡ nodes.DiskFault → new ≡ seen) → AppendsFront seen new (reply_of no_labels terms kept m) → Replies before start now old new (Err (of_node fault))
 unfolding so_far_more
-not_answered {start = start} {mid = mid} {now = now} {old = old} {seen = seen} {new = new} {bits = bits} {kept = kept} before fault m a g e silent front =
-    let head = head_of bits a.genesis.bytes in
+not_answered {start = start} {mid = mid} {now = now} {old = old} {seen = seen} {new = new} {terms = terms} {kept = kept} before fault m a g e silent front =
+    let head = head_of terms.profile terms.bits a.genesis.bytes in
     let arrivals = before ++ flat_map arrivals_of a.messages in
     let s = so_far_more m (a.messages ++ m ∷ []) a.so_far g e refl in
     let is : fed s.given ≡ record { head = Some head; messages = a.messages ++ m ∷ []; end = (rest_of feed_limit now.taken []).end } = fed_so_far s in
-    let but : replied_but_last before s.given ≡ answers no_labels a.genesis bits before a.messages =
-    ap (λ (f : FeedOf). lines_under before f.head (but_last f.messages)) is ∙ ap (lines_under before (Some head)) (but_one a.messages m) ∙ lines_are before a.genesis bits a.messages a.spelled in
+    let but : replied_but_last before s.given ≡ answers no_labels a.genesis terms before a.messages =
+    ap (λ (f : FeedOf). lines_under before f.head (but_last f.messages)) is ∙ ap (lines_under before (Some head)) (but_one a.messages m) ∙ lines_are before a.genesis terms a.messages a.spelled in
     record {
       given = s.given;
       took = s.took;
@@ -237,16 +238,16 @@ not_answered {start = start} {mid = mid} {now = now} {old = old} {seen = seen} {
           (λ d. subst (λ (o : Option (List ℕ)). Appends old o (replied_but_last before s.given)) (sym (silent d)) (subst (λ (t : List ℕ). Appends old seen t) (sym but) a.wrote))
           (λ more.
           let rest = rest_of feed_limit now.taken more in
-          let here : List ℕ = reply no_labels a.genesis bits arrivals m in
-          let behind : List ℕ = answers no_labels a.genesis bits (before ++ flat_map arrivals_of (a.messages ++ m ∷ [])) rest.messages in
-          let whole : replied before (s.given ++ more) ≡ answers no_labels a.genesis bits before a.messages ++ (here ++ behind) =
+          let here : List ℕ = reply no_labels a.genesis terms arrivals m in
+          let behind : List ℕ = answers no_labels a.genesis terms (before ++ flat_map arrivals_of (a.messages ++ m ∷ [])) rest.messages in
+          let whole : replied before (s.given ++ more) ≡ answers no_labels a.genesis terms before a.messages ++ (here ++ behind) =
           replied_is before (s.given ++ more) _ (s.says more) ∙ ap (λ (l : List Said). lines_under before (Some head) (l ++ rest.messages)) (sym s.seen)
-          ∙ lines_are before a.genesis bits ((a.messages ++ m ∷ []) ++ rest.messages) a.spelled
-          ∙ answers-append no_labels a.genesis bits before (a.messages ++ m ∷ []) rest.messages
-          ∙ ap (λ (t : List ℕ). t ++ behind) (answers-push no_labels a.genesis bits before a.messages m)
-          ∙ append_assoc (answers no_labels a.genesis bits before a.messages) here behind in
-          let w : Wrote old seen (replied before (s.given ++ more)) (here ++ behind) = record { front = answers no_labels a.genesis bits before a.messages; appended = a.wrote; split = whole } in
-          wrote_stops here behind w (subst (λ (l : List ReadBlock). AppendsFront seen new (reply_of no_labels bits l m)) a.kept_is front));
+          ∙ lines_are before a.genesis terms ((a.messages ++ m ∷ []) ++ rest.messages) a.spelled
+          ∙ answers-append no_labels a.genesis terms before (a.messages ++ m ∷ []) rest.messages
+          ∙ ap (λ (t : List ℕ). t ++ behind) (answers-push no_labels a.genesis terms before a.messages m)
+          ∙ append_assoc (answers no_labels a.genesis terms before a.messages) here behind in
+          let w : Wrote old seen (replied before (s.given ++ more)) (here ++ behind) = record { front = answers no_labels a.genesis terms before a.messages; appended = a.wrote; split = whole } in
+          wrote_stops here behind w (subst (λ (l : List ReadBlock). AppendsFront seen new (reply_of no_labels terms l m)) a.kept_is front));
     }
 
 pub stop_cause : (e : NodeFault) (before mid now disk_before disk_now : ℕ) → mid ≡ before → HasNodeCause mid now disk_before disk_now e → HasWriteCause before now (of_node e)

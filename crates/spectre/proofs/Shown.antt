@@ -5,7 +5,6 @@ use Rattle.std.specs.Io.KnownBytes.{Appends}
 use Rattle.sp_io.specs.Whole.{AppendsFront}
 use Rattle.sp_io.proofs.Writing.{appends_then}
 use Rattle.sp_block.specs.Block.{ReadBlock}
-use Rattle.sp_model.specs.declared.profile.Profile.TheVariants.{One}
 use Rattle.sp_engine.specs.Arrivals.{kept_by_all}
 use Rattle.sp_engine.specs.Blocks.{block_in}
 use Rattle.sp_journal.specs.Opening.{contents_in, Opening}
@@ -16,11 +15,11 @@ use Rattle.sp_report.specs.Texts.{report_text}
 use Rattle.spectre.specs.Journals.{recovered_text, report_by, shown_by, shown_output}
 
 pub shown_is : (o : Opening) (count : ℕ) (kept : List ReadBlock) → count ≡ length kept - 1 → kept ≡ o.genesis ∷ o.blocks → kept ≡ kept_by_all o.bits o.genesis (map bytes_in o.blocks) → block_in true o.genesis.bytes ≡ Ok o.genesis
-    → recovered_text count ++ report_text One no_labels kept ≡ shown_by (found (contents_in o))
+    → recovered_text count ++ report_text o.profile no_labels kept ≡ shown_by (found (contents_in o))
 shown_is o count kept n whole sent spelled =
     let size : count ≡ length (map bytes_in o.blocks) = omega (arith, n, ap length whole, length-map o.blocks bytes_in) in
-    ap (λ (k : ℕ). recovered_text k ++ report_text One no_labels kept) size
-    ∙ ap (λ (k : List ReadBlock). recovered_text (length (map bytes_in o.blocks)) ++ report_text One no_labels k) sent
+    ap (λ (k : ℕ). recovered_text k ++ report_text o.profile no_labels kept) size
+    ∙ ap (λ (k : List ReadBlock). recovered_text (length (map bytes_in o.blocks)) ++ report_text o.profile no_labels k) sent
     ∙ ap (λ r. recovered_text (length (map bytes_in o.blocks)) ++ report_by (contents_in o) r) (sym spelled)
 
 -- what is written for what the disk holds

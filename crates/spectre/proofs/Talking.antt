@@ -14,7 +14,8 @@ use Rattle.sp_carry.proofs.Members.{contains_from_in, in_append, in_append_left,
 use Rattle.sp_feed.specs.Format.{Head}
 use Rattle.sp_feed.specs.Kinds.{Said, SaysBlock, SaysVote, SaysTx, SaysBalance, SaysPairs, SaysReport}
 use Rattle.sp_feed.proofs.PayloadBytes.{genesis_is_bytes, payloads_are_bytes}
-use Rattle.sp_journal.specs.Format.{name, set}
+use Rattle.sp_journal.specs.Format.{set}
+use Rattle.sp_journal.specs.Versions.{name}
 use Rattle.sp_journal.specs.Journal.{Contents, front, record_text}
 use Rattle.sp_journal.specs.Records.{Damaged, Found, NoJournal, Records, records}
 use Rattle.sp_journal.proofs.RecordLaws.{front_found}
@@ -69,13 +70,13 @@ module _ (disk : List ℕ) (c : Contents) (all : IsBytes disk) (is : records dis
   front_bytes = let h = front_found c disk all is in IsBytes-append_left (front c) (h.shut.gate ∷ h.shut.rest) (subst IsBytes h.shut.parts all)
 
   blocks_bytes : (bytes : List ℕ) → IsIn c.blocks bytes → IsBytes bytes
-  blocks_bytes = each_block c.blocks (IsBytes-append_right (set ∷ (name ++ (c.bits ∷ (to_le_bytes w32 (length c.genesis) ++ c.genesis)))) (flat_map record_text c.blocks) front_bytes)
+  blocks_bytes = each_block c.blocks (IsBytes-append_right (set ∷ (name c.profile ++ (c.bits ∷ (to_le_bytes w32 (length c.genesis) ++ c.genesis)))) (flat_map record_text c.blocks) front_bytes)
 
   genesis_bytes : IsBytes c.genesis
   genesis_bytes =
-      let head = IsBytes-append_left (set ∷ (name ++ (c.bits ∷ (to_le_bytes w32 (length c.genesis) ++ c.genesis)))) (flat_map record_text c.blocks) front_bytes in
+      let head = IsBytes-append_left (set ∷ (name c.profile ++ (c.bits ∷ (to_le_bytes w32 (length c.genesis) ++ c.genesis)))) (flat_map record_text c.blocks) front_bytes in
       let sized : List ℕ = to_le_bytes w32 (length c.genesis) ++ c.genesis in
-      IsBytes-append_right (to_le_bytes w32 (length c.genesis)) c.genesis (IsBytes-append_right (c.bits ∷ []) sized (IsBytes-append_right name (c.bits ∷ sized) (IsBytes-append_right (set ∷ []) (name ++ (c.bits ∷ sized)) head)))
+      IsBytes-append_right (to_le_bytes w32 (length c.genesis)) c.genesis (IsBytes-append_right (c.bits ∷ []) sized (IsBytes-append_right (name c.profile) (c.bits ∷ sized) (IsBytes-append_right (set ∷ []) (name c.profile ++ (c.bits ∷ sized)) head)))
 
 found_bytes : (disk : List ℕ) → IsBytes disk → (bytes : List ℕ) → IsIn (found_blocks disk) bytes → IsBytes bytes
 found_bytes disk all bytes there = by (records disk) refl there
@@ -149,18 +150,18 @@ fewer_arrived talk before after is b bytes there =
 -- ---- the same answer
 
 module _ (talk : Talk) (genesis : ReadBlock) (before : List Said) (question : Said) (h : HasQuestion talk genesis before question) where
-  answered : IsAnsweredIn talk genesis before (reply talk.labels genesis talk.bits (arrived_by talk before) question)
+  answered : IsAnsweredIn talk genesis before (reply talk.labels genesis talk.terms (arrived_by talk before) question)
   unfolding answers
   answered = record {
-    behind = answers talk.labels genesis talk.bits (arrived_by talk before ++ arrivals_of question) h.after;
-    all = ap (λ (r : Result ReadBlock BlockFault). lines_by talk.labels r talk.bits talk.found talk.messages) h.spelled ∙ ap (answers talk.labels genesis talk.bits talk.found) h.messages ∙ answers-append talk.labels genesis talk.bits talk.found before (question ∷ h.after);
+    behind = answers talk.labels genesis talk.terms (arrived_by talk before ++ arrivals_of question) h.after;
+    all = ap (λ (r : Result ReadBlock BlockFault). lines_by talk.labels r talk.terms talk.found talk.messages) h.spelled ∙ ap (answers talk.labels genesis talk.terms talk.found) h.messages ∙ answers-append talk.labels genesis talk.terms talk.found before (question ∷ h.after);
   }
 
 pub alike : (talk other : Talk) → TalksAnswerAlike talk other
-alike talk other same_labels same_bits genesis before others question asks one two same plain =
-    let here = reply talk.labels genesis talk.bits (arrived_by talk before) question in
-    let there = reply other.labels genesis other.bits (arrived_by other others) question in
-    let e : here ≡ there = same_replies talk.labels talk.bits genesis (arrived_by talk before) (arrived_by other others) question asks same plain ∙ (λ i. reply (same_labels i) genesis (same_bits i) (arrived_by other others) question) in
+alike talk other same_labels same_terms genesis before others question asks one two same plain =
+    let here = reply talk.labels genesis talk.terms (arrived_by talk before) question in
+    let there = reply other.labels genesis other.terms (arrived_by other others) question in
+    let e : here ≡ there = same_replies talk.labels talk.terms genesis (arrived_by talk before) (arrived_by other others) question asks same plain ∙ (λ i. reply (same_labels i) genesis (same_terms i) (arrived_by other others) question) in
     (here, answered talk genesis before question one, subst (λ (answer : List ℕ). IsAnsweredIn other genesis others answer) (sym e) (answered other genesis others question two))
 
 -- ---- what holds of a disk of bytes holds of that of a run

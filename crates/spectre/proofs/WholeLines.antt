@@ -6,7 +6,7 @@ use Rattle.std.specs.List.{flat_map}
 use Rattle.std.proofs.lemmas.List.{append-nil}
 use Rattle.sp_block.specs.Block.{ReadBlock}
 use Rattle.sp_block.specs.declared.fault.BlockFault.{BlockFault}
-use Rattle.sp_model.specs.declared.profile.Profile.TheVariants.{One}
+use Rattle.sp_model.specs.declared.profile.Profile.{Profile}
 use Rattle.sp_model.specs.declared.word.Word.{Word}
 use Rattle.sp_carry.specs.declared.state.TxState.{TxState}
 use Rattle.sp_engine.specs.declared.answer.Answer.{Answer}
@@ -20,6 +20,7 @@ use Rattle.sp_report.specs.Reasons.{reason}
 use Rattle.sp_report.specs.Texts.{accepted_ids, accepted_text, all_accepted_text, all_paid_text, counts_text, paid_locks, paid_text, pair_text, pairs_of, pairs_of_ids_text, pairs_text, present_ids, report_text}
 use Rattle.spectre.specs.LastLine.{AreLines}
 use Rattle.spectre.specs.Scenes.{lines_by}
+use Rattle.sp_node.specs.Terms.{Terms}
 
 -- ---- lines one behind another
 
@@ -78,41 +79,41 @@ balance_count_line : (n : ℕ) → AreLines (balance_count_text n)
 unfolding balance_count_text
 balance_count_line n = inr (codes "balances " ++ decimal n, refl)
 
-pairs_lines : (labels : AllLabels) (kept : List ReadBlock) → AreLines (pairs_text One labels kept)
+pairs_lines : (profile : Profile) (labels : AllLabels) (kept : List ReadBlock) → AreLines (pairs_text profile labels kept)
 unfolding pairs_of_ids_text
-pairs_lines labels kept = join _ _ (pair_count_line _) (each (pair_text One labels kept) (λ pair. vote_line _ _ _) (pairs_of (present_ids labels kept)))
+pairs_lines profile labels kept = join _ _ (pair_count_line _) (each (pair_text profile labels kept) (λ pair. vote_line _ _ _) (pairs_of (present_ids labels kept)))
 
 accepted_lines : (labels : AllLabels) (ids : List ℕ) → AreLines (all_accepted_text labels ids)
 unfolding all_accepted_text
 accepted_lines labels ids = join _ _ (accepted_count_line _) (each (accepted_text labels) (λ id. tx_line _ _) ids)
 
-paid_lines : (labels : AllLabels) (kept : List ReadBlock) (locks : List ℕ) → AreLines (all_paid_text One labels kept locks)
+paid_lines : (profile : Profile) (labels : AllLabels) (kept : List ReadBlock) (locks : List ℕ) → AreLines (all_paid_text profile labels kept locks)
 unfolding all_paid_text
-paid_lines labels kept locks = join _ _ (balance_count_line _) (each (paid_text One labels kept) (λ lock. balance_line _ _) locks)
+paid_lines profile labels kept locks = join _ _ (balance_count_line _) (each (paid_text profile labels kept) (λ lock. balance_line _ _) locks)
 
-report_lines : (labels : AllLabels) (kept : List ReadBlock) → AreLines (report_text One labels kept)
+report_lines : (profile : Profile) (labels : AllLabels) (kept : List ReadBlock) → AreLines (report_text profile labels kept)
 unfolding report_text
-report_lines labels kept =
-    join (counts_text kept) _ (blocks_line _ _) (join _ _ (accepted_lines labels (accepted_ids One labels kept)) (paid_lines labels kept (paid_locks One labels kept)))
+report_lines profile labels kept =
+    join (counts_text kept) _ (blocks_line _ _) (join _ _ (accepted_lines labels (accepted_ids profile labels kept)) (paid_lines profile labels kept (paid_locks profile labels kept)))
 
 -- ---- the answers to messages
 
-reply_lines : (labels : AllLabels) (bits : ℕ) (kept : List ReadBlock) (message : Said) → AreLines (reply_of labels bits kept message)
+reply_lines : (labels : AllLabels) (terms : Terms) (kept : List ReadBlock) (message : Said) → AreLines (reply_of labels terms kept message)
 unfolding reply_of
-reply_lines labels bits kept (SaysBlock bytes) = answer_line labels _
-reply_lines labels bits kept (SaysVote x y) = vote_line _ _ _
-reply_lines labels bits kept (SaysTx id) = tx_line _ _
-reply_lines labels bits kept (SaysBalance lock) = balance_line _ _
-reply_lines labels bits kept SaysPairs = pairs_lines labels kept
-reply_lines labels bits kept SaysReport = report_lines labels kept
+reply_lines labels terms kept (SaysBlock bytes) = answer_line labels _
+reply_lines labels terms kept (SaysVote x y) = vote_line _ _ _
+reply_lines labels terms kept (SaysTx id) = tx_line _ _
+reply_lines labels terms kept (SaysBalance lock) = balance_line _ _
+reply_lines labels terms kept SaysPairs = pairs_lines terms.profile labels kept
+reply_lines labels terms kept SaysReport = report_lines terms.profile labels kept
 
-answers_lines : (labels : AllLabels) (genesis : ReadBlock) (bits : ℕ) (arrivals : List (List ℕ)) (messages : List Said) → AreLines (answers labels genesis bits arrivals messages)
+answers_lines : (labels : AllLabels) (genesis : ReadBlock) (terms : Terms) (arrivals : List (List ℕ)) (messages : List Said) → AreLines (answers labels genesis terms arrivals messages)
 unfolding answers
-answers_lines labels genesis bits arrivals [] = inl refl
-answers_lines labels genesis bits arrivals (message ∷ messages) =
-    join _ (answers labels genesis bits (arrivals ++ arrivals_of message) messages) (reply_lines labels bits _ message) (answers_lines labels genesis bits (arrivals ++ arrivals_of message) messages)
+answers_lines labels genesis terms arrivals [] = inl refl
+answers_lines labels genesis terms arrivals (message ∷ messages) =
+    join _ (answers labels genesis terms (arrivals ++ arrivals_of message) messages) (reply_lines labels terms _ message) (answers_lines labels genesis terms (arrivals ++ arrivals_of message) messages)
 
 -- what answers the messages of a feed or a scene
-pub all_lines : (labels : AllLabels) (r : Result ReadBlock BlockFault) (bits : ℕ) (before : List (List ℕ)) (messages : List Said) → AreLines (lines_by labels r bits before messages)
-all_lines labels (Ok genesis) bits before messages = answers_lines labels genesis bits before messages
-all_lines labels (Err fault) bits before messages = inl refl
+pub all_lines : (labels : AllLabels) (r : Result ReadBlock BlockFault) (terms : Terms) (before : List (List ℕ)) (messages : List Said) → AreLines (lines_by labels r terms before messages)
+all_lines labels (Ok genesis) terms before messages = answers_lines labels genesis terms before messages
+all_lines labels (Err fault) terms before messages = inl refl

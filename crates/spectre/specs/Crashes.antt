@@ -16,22 +16,24 @@ use Rattle.sp_journal.specs.Journal.{Contents, contents}
 use Rattle.sp_journal.specs.Prefixes.{HoldsFront}
 use Rattle.sp_journal.specs.Records.{Damaged, Found, NoJournal, Records, records}
 use Rattle.sp_node.specs.Answers.{arrivals_of}
+use Rattle.sp_model.specs.declared.profile.Profile.TheVariants.{One}
 use Rattle.sp_node.specs.Journalled.{journal_in}
+use Rattle.sp_node.specs.Terms.{Terms}
 use Rattle.spectre.specs.Chains.{EndAtHead}
 use Rattle.spectre.specs.Journals.{blocks_in, Fits, found_blocks}
-use Rattle.spectre.specs.Replay.{fed, lines_under}
+use Rattle.spectre.specs.Replay.{fed, head_terms, lines_under}
 use Rattle.spectre.specs.OneOf.{IsOneOf}
 use Rattle.spectre.specs.declared.status.Status.{Status}
 use Rattle.spectre.specs.declared.status.Status.TheVariants as status
 
 -- the journal of what is kept of these messages, behind the blocks of a found one and over the genesis block of a head
-abbrev pub contents_by : List (List ℕ) → Result ReadBlock BlockFault → ℕ → List Said → Contents
-contents_by before (Ok genesis) bits messages = journal_in bits (kept_by_all bits genesis (before ++ flat_map arrivals_of messages))
-contents_by before (Err fault) bits messages = contents bits [] []
+abbrev pub contents_by : List (List ℕ) → Result ReadBlock BlockFault → Terms → List Said → Contents
+contents_by before (Ok genesis) terms messages = journal_in terms (kept_by_all terms.bits genesis (before ++ flat_map arrivals_of messages))
+contents_by before (Err fault) terms messages = contents terms.profile terms.bits [] []
 
 abbrev pub contents_under : List (List ℕ) → Option Head → List Said → Contents
-contents_under before None messages = contents 0 [] []
-contents_under before (Some head) messages = contents_by before (block_in true head.genesis) head.bits messages
+contents_under before None messages = contents One 0 [] []
+contents_under before (Some head) messages = contents_by before (block_in true head.genesis) (head_terms head) messages
 
 -- the messages of these bytes of a feed, and the journal of what is kept of the first of them
 abbrev pub all_of : List ℕ → List Said
@@ -74,11 +76,11 @@ Recovers r given old new s image =
 abbrev pub HoldsFoundOrMore : Records → List ℕ → List ℕ → Type 0
 HoldsFoundOrMore r given image = (records image ≡ r) ⊎ HoldsAtLeast (length (blocks_in r)) (blocks_in r) given image
 
--- a journal goes on from what was found: it has the bits, the genesis block and, in front, all the blocks
+-- a journal goes on from what was found: it has the profile, the bits, the genesis block and, in front, all the blocks
 abbrev pub GoesOn : Records → Contents → Type 0
 GoesOn NoJournal c = Unit {0}
 GoesOn (Damaged at) c = ⊥
-GoesOn (Found f) c = (c.bits ≡ f.bits) × (c.genesis ≡ f.genesis) × ((more : List (List ℕ)) × (c.blocks ≡ f.blocks ++ more))
+GoesOn (Found f) c = (c.profile ≡ f.profile) × (c.bits ≡ f.bits) × (c.genesis ≡ f.genesis) × ((more : List (List ℕ)) × (c.blocks ≡ f.blocks ++ more))
 
 -- the image holds just what was found, or a journal that goes on from it, whatever the feed is
 abbrev pub HoldsOnward : Records → List ℕ → Type 0

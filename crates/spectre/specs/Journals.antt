@@ -5,7 +5,8 @@ use Rattle.std.specs.Str.{bytes_eq}
 use Rattle.sp_ids.specs.Digest.{sha256_number}
 use Rattle.sp_block.specs.Block.{ReadBlock}
 use Rattle.sp_block.specs.declared.fault.BlockFault.{BlockFault}
-use Rattle.sp_model.specs.declared.profile.Profile.TheVariants.{One}
+use Rattle.sp_model.specs.declared.profile.Profile.{Profile}
+use Rattle.sp_model.specs.declared.profile.Profile.TheVariants.{One, Two}
 use Rattle.sp_engine.specs.Arrivals.{kept_by_all}
 use Rattle.sp_engine.specs.Blocks.{block_in}
 use Rattle.sp_feed.specs.Format.{Head}
@@ -24,25 +25,34 @@ not_journal_text = codes "fault not-journal" ++ 10 ∷ []
 unfoldable pub damaged_text : ℕ → List ℕ
 damaged_text at = codes "fault damaged " ++ decimal at ++ 10 ∷ []
 
--- `fault other-chain N ID N ID`: bits of work and genesis of the journal, and then of the feed
-unfoldable pub other_chain_text : ℕ → ℕ → ℕ → ℕ → List ℕ
-other_chain_text stored_bits stored fed_bits fed_id =
-    codes "fault other-chain " ++ decimal stored_bits ++ 32 ∷ [] ++ hex_label stored ++ 32 ∷ [] ++ decimal fed_bits ++ 32 ∷ [] ++ hex_label fed_id ++ 10 ∷ []
+-- the number of a profile
+abbrev pub profile_number : Profile → ℕ
+profile_number One = 1
+profile_number Two = 2
+
+-- bits of work, genesis and profile of a chain, `N ID P`
+abbrev pub chain_text : ℕ → ℕ → Profile → List ℕ
+chain_text bits genesis profile = decimal bits ++ 32 ∷ [] ++ hex_label genesis ++ 32 ∷ [] ++ decimal (profile_number profile)
+
+-- `fault other-chain N ID P N ID P`: those of the journal, and then of the feed
+unfoldable pub other_chain_text : ℕ → ℕ → Profile → ℕ → ℕ → Profile → List ℕ
+other_chain_text stored_bits stored stored_profile fed_bits fed_id fed_profile =
+    codes "fault other-chain " ++ chain_text stored_bits stored stored_profile ++ 32 ∷ [] ++ chain_text fed_bits fed_id fed_profile ++ 10 ∷ []
 
 -- `recovered N`, N the records
 unfoldable pub recovered_text : ℕ → List ℕ
 recovered_text count = codes "recovered " ++ decimal count ++ 10 ∷ []
 
--- the head of a feed asks for the journal's bits and genesis block
+-- the head of a feed asks for the journal's bits, genesis block and profile
 abbrev pub is_chain_of : Contents → Head → Bool
-is_chain_of c head = (c.bits == head.bits) && bytes_eq c.genesis head.genesis
+is_chain_of c head = (c.bits == head.bits) && (bytes_eq c.genesis head.genesis && (profile_number c.profile == profile_number head.profile))
 
 -- the answers over the journal's blocks, but where the head is of another chain
 abbrev pub chained : Contents → Option Head → List ℕ → List ℕ
 chained c None input = replayed c.blocks input
 chained c (Some head) input =
     if is_chain_of c head then replayed c.blocks input
-    else other_chain_text c.bits (sha256_number c.genesis) head.bits (sha256_number head.genesis)
+    else other_chain_text c.bits (sha256_number c.genesis) c.profile head.bits (sha256_number head.genesis) head.profile
 
 -- a journal may be made: there are no bytes, or it was asked for
 abbrev pub may_be_new : Bool → List ℕ → Bool
@@ -58,7 +68,7 @@ unfoldable pub kept_output : Bool → List ℕ → List ℕ → List ℕ
 kept_output fresh disk input = kept_by fresh disk (records disk) input
 
 abbrev pub report_by : Contents → Result ReadBlock BlockFault → List ℕ
-report_by c (Ok genesis) = report_text One no_labels (kept_by_all c.bits genesis c.blocks)
+report_by c (Ok genesis) = report_text c.profile no_labels (kept_by_all c.bits genesis c.blocks)
 report_by c (Err fault) = []
 
 abbrev pub shown_by : Records → List ℕ
@@ -81,6 +91,7 @@ found_blocks disk = blocks_in (records disk)
 -- How the disk stands to a feed.
 
 pub record IsChainOf (c : Contents) (head : Head) : Type 0 where
+  pub profile : c.profile ≡ head.profile
   pub bits : c.bits ≡ head.bits
   pub genesis : c.genesis ≡ head.genesis
 
@@ -90,8 +101,8 @@ FitsHead fresh disk NoJournal (Some head) = (length disk ≡ 0) ⊎ (fresh ≡ t
 FitsHead fresh disk (Damaged at) (Some head) = ⊥
 FitsHead fresh disk (Found c) (Some head) = IsChainOf c head
 
--- The disk fits the feed: the feed's head is whole, and the disk is empty, or holds a journal of that head's bits and
--- genesis block, or holds none and a new one may be made.
+-- The disk fits the feed: the feed's head is whole, and the disk is empty, or holds a journal of that head's profile,
+-- bits and genesis block, or holds none and a new one may be made.
 abbrev pub Fits : Bool → List ℕ → List ℕ → Type 0
 Fits fresh disk input = FitsHead fresh disk (records disk) (fed input).head
 

@@ -24,6 +24,7 @@ use Rattle.sp_journal.specs.Records.{Found as found, NoJournal, Records, records
 use Rattle.sp_journal.specs.Settled.{IsTold}
 use Rattle.sp_node.specs.Journalled.{IsKeptOn}
 use Rattle.sp_node.specs.Node.{State}
+use Rattle.sp_node.specs.Terms.{Terms, terms_of}
 use Rattle.sp_node.specs.Stored.{IsFound, IsOfSame, LeavesStarted, stored_blocks}
 use Rattle.sp_node.specs.declared.start.StartFault.{StartFault}
 use Rattle.sp_node.specs.declared.start.StartFault.TheVariants as starts
@@ -47,7 +48,7 @@ of_head (heads.Feed fault) = Feed fault
 of_head heads.Memory = Memory
 
 abbrev pub of_start : StartFault → KeepFault
-of_start (starts.OtherChain stored_bits stored fed_bits fed_id) = OtherChain stored_bits stored fed_bits fed_id
+of_start (starts.OtherChain stored_bits stored stored_profile fed_bits fed_id fed_profile) = OtherChain stored_bits stored stored_profile fed_bits fed_id fed_profile
 of_start starts.DiskFault = DiskFault
 of_start starts.Memory = Memory
 
@@ -63,7 +64,7 @@ of_answers (Err fault) = Err (of_rest fault)
 
 -- the line of another chain
 abbrev pub other_text : KeepFault → List ℕ
-other_text (OtherChain stored_bits stored fed_bits fed_id) = other_chain_text stored_bits stored fed_bits fed_id
+other_text (OtherChain stored_bits stored stored_profile fed_bits fed_id fed_profile) = other_chain_text stored_bits stored stored_profile fed_bits fed_id fed_profile
 other_text other = []
 
 -- what was found, and the bytes of its blocks
@@ -83,7 +84,7 @@ FitsStored (Found opened) (Some head) = IsChainOf (contents_in opened) head
 -- the fault names the chain of the journal and that of the head
 abbrev pub NamesBothOf : Stored → Head → KeepFault → Type 0
 NamesBothOf (Empty gate) head fault = ⊥
-NamesBothOf (Found o) head fault = fault ≡ OtherChain o.bits (sha256_number o.genesis.bytes) head.bits (sha256_number head.genesis)
+NamesBothOf (Found o) head fault = fault ≡ OtherChain o.bits (sha256_number o.genesis.bytes) o.profile head.bits (sha256_number head.genesis) head.profile
 
 -- the head is whole and asks for another chain
 pub record IsOfOther (stored : Stored) (given : List ℕ) (fault : KeepFault) : Type 0 where
@@ -94,12 +95,12 @@ pub record IsOfOther (stored : Stored) (given : List ℕ) (fault : KeepFault) : 
 
 -- The disk failed in the creation of a journal.
 pub record IsAmiss (given : List ℕ) (first last : DiskMoment) : Type 0 where
-  pub bits : ℕ
+  pub terms : Terms
   pub genesis : ReadBlock
   pub spelled : block_in true genesis.bytes ≡ Ok genesis
-  pub whole : (more : List ℕ) → (fed (given ++ more)).head ≡ Some (head_of bits genesis.bytes)
+  pub whole : (more : List ℕ) → (fed (given ++ more)).head ≡ Some (head_of terms.profile terms.bits genesis.bytes)
   pub unread : all_of given ≡ []
-  pub leaves : IsTold first → IsSynced first → Leaves first last (HoldsNoneOrNew (contents bits genesis.bytes []))
+  pub leaves : IsTold first → IsSynced first → Leaves first last (HoldsNoneOrNew (contents terms.profile terms.bits genesis.bytes []))
   pub lasts : IsTold first → Lasts first last HoldsJournal
 
 abbrev pub IsAmissOn : Stored → List ℕ → DiskMoment → DiskMoment → Type 0
@@ -113,7 +114,7 @@ UntriedBy stored start now given first last (Err (Feed (faults.Malformed at))) =
 UntriedBy stored start now given first last (Err (Feed (faults.Truncated at))) = (fed given ≡ no_head (Truncated at)) × IsAtEnd now.left × Looks first last
 UntriedBy stored start now given first last (Err (Feed faults.ReadFault)) = (fed given ≡ no_head (Truncated now.taken)) × Rose start.faults now.faults × Looks first last
 UntriedBy stored start now given first last (Err (Feed (faults.TooLong taken))) = ((more : List ℕ) → fed (given ++ more) ≡ no_head (TooLong taken)) × Looks first last
-UntriedBy stored start now given first last (Err (OtherChain a b c d)) = IsOfOther stored given (OtherChain a b c d) × Looks first last
+UntriedBy stored start now given first last (Err (OtherChain a b p c d q)) = IsOfOther stored given (OtherChain a b p c d q) × Looks first last
 UntriedBy stored start now given first last (Err WriteFault) = ⊥
 UntriedBy stored start now given first last (Err DiskFault) = IsAmissOn stored given first last
 UntriedBy stored start now given first last (Err Memory) = Looks first last
@@ -135,10 +136,10 @@ pub record IsBegun (stored : Stored) (start now : Moment) (first last : DiskMome
   pub same : IsOfSame stored head
   pub kept : node.kept ≡ head.genesis ∷ stored_blocks stored
   pub sent : node.kept ≡ kept_by_all head.bits head.genesis (bytes_of stored)
-  pub bits : node.bits ≡ head.bits
+  pub terms : node.terms ≡ terms_of head.profile head.bits
   pub live : node.stopped ≡ false
   pub has : IsSome node.journal
-  pub stands : IsKeptOn node.bits node.kept node.journal last
+  pub stands : IsKeptOn node.terms node.kept node.journal last
   pub leaves : LeavesStarted stored head first last
 
 -- A node was started, and these bytes were answered.
@@ -159,7 +160,7 @@ Tries stored start now old new first last result =
 abbrev pub TriedBy : Stored → Moment → Moment → Option (List ℕ) → Option (List ℕ) → DiskMoment → DiskMoment → Result (Unit {0}) KeepFault → Type 0
 TriedBy stored start now old new first last (Ok u) = Tries stored start now old new first last (Ok u)
 TriedBy stored start now old new first last (Err (Feed fault)) = Tries stored start now old new first last (Err (replays.Feed fault))
-TriedBy stored start now old new first last (Err (OtherChain a b c d)) = ⊥
+TriedBy stored start now old new first last (Err (OtherChain a b p c d q)) = ⊥
 TriedBy stored start now old new first last (Err WriteFault) = Tries stored start now old new first last (Err replays.WriteFault)
 TriedBy stored start now old new first last (Err DiskFault) = Tries stored start now old new first last (Err replays.DiskFault)
 TriedBy stored start now old new first last (Err Memory) = Tries stored start now old new first last (Err replays.Memory)

@@ -51,13 +51,13 @@ pub record TellsScene (job : Option Job) (input line : List ℕ) : Type 0 where
   pub has : scene.fault ≡ Some fault
   pub is : line ≡ fault_line fault.line fault.why
 
--- bits of work and genesis of the journal and of the feed's head
+-- bits of work, genesis and profile of the journal and of the feed's head
 pub record TellsChains (disk input line : List ℕ) : Type 0 where
   pub contents : Contents
   pub found : records disk ≡ Found contents
   pub head : Head
   pub begins : (fed input).head ≡ Some head
-  pub is : line ≡ other_chain_text contents.bits (sha256_number contents.genesis) head.bits (sha256_number head.genesis)
+  pub is : line ≡ other_chain_text contents.bits (sha256_number contents.genesis) contents.profile head.bits (sha256_number head.genesis) head.profile
 
 -- the place where a journal is damaged
 abbrev pub TellsDamage : List ℕ → List ℕ → Type 0

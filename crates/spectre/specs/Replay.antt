@@ -6,6 +6,7 @@ use Rattle.sp_feed.specs.Feed.{End, Feed, feed, Malformed, TooLong, Truncated, W
 use Rattle.sp_feed.specs.Format.{Head}
 use Rattle.sp_feed.specs.Kinds.{Said}
 use Rattle.sp_names.specs.Labels.{no_labels}
+use Rattle.sp_node.specs.Terms.{Terms, terms_of}
 use Rattle.sp_report.specs.Lines.{malformed_text, too_long_text, truncated_text}
 use Rattle.spectre.specs.Scenes.{lines_by}
 
@@ -13,10 +14,14 @@ use Rattle.spectre.specs.Scenes.{lines_by}
 abbrev pub feed_limit : ℕ
 feed_limit = 4294967295
 
+-- the profile and the bits of a head
+abbrev pub head_terms : Head → Terms
+head_terms head = terms_of head.profile head.bits
+
 -- the answer to each message behind these arrivals, over the genesis block that the head spells
 abbrev pub lines_under : List (List ℕ) → Option Head → List Said → List ℕ
 lines_under before None messages = []
-lines_under before (Some head) messages = lines_by no_labels (block_in true head.genesis) head.bits before messages
+lines_under before (Some head) messages = lines_by no_labels (block_in true head.genesis) (head_terms head) before messages
 
 abbrev pub message_lines : List (List ℕ) → Feed → List ℕ
 message_lines before f = lines_under before f.head f.messages

@@ -15,6 +15,7 @@ use Rattle.sp_feed.specs.Reads.{Moment, Took}
 use Rattle.sp_feed.specs.declared.fault.FeedFault.TheVariants as faults
 use Rattle.sp_names.specs.Labels.{no_labels}
 use Rattle.sp_node.specs.Answers.{answers, arrivals_of}
+use Rattle.sp_node.specs.Terms.{Terms}
 use Rattle.spectre.specs.Replay.{fed, feed_limit, replied, replied_but_last}
 use Rattle.spectre.specs.Taken.{AreAnswered, AreNeeded}
 use Rattle.spectre.specs.declared.replay.ReplayFault.{ReplayFault}
@@ -49,13 +50,13 @@ pub record Replies (before : List (List ℕ)) (start now : Moment) (old new : Op
   pub says : SaysReply before start now old new given result
 
 -- the messages so far were answered, over the genesis block of the head and the blocks before them
-pub record Answering (before : List (List ℕ)) (start now : Moment) (old new : Option (List ℕ)) (bits : ℕ) (kept : List ReadBlock) : Type 0 where
+pub record Answering (before : List (List ℕ)) (start now : Moment) (old new : Option (List ℕ)) (terms : Terms) (kept : List ReadBlock) : Type 0 where
   pub genesis : ReadBlock
   pub spelled : block_in true genesis.bytes ≡ Ok genesis
   pub messages : List Said
-  pub so_far : SoFar feed_limit start now (head_of bits genesis.bytes) [] messages
-  pub kept_is : kept ≡ kept_by_all bits genesis (before ++ flat_map arrivals_of messages)
-  pub wrote : Appends old new (answers no_labels genesis bits before messages)
+  pub so_far : SoFar feed_limit start now (head_of terms.profile terms.bits genesis.bytes) [] messages
+  pub kept_is : kept ≡ kept_by_all terms.bits genesis (before ++ flat_map arrivals_of messages)
+  pub wrote : Appends old new (answers no_labels genesis terms before messages)
   pub answered : AreAnswered before old new so_far.given
 
 -- the sink's count rose at a failed write

@@ -3,12 +3,12 @@ use Rattle.std.specs.Prelude.{ℕ, true, List, [], ◌++◌, Option, Some, None,
 use Rattle.std.specs.List.{flat_map}
 use Rattle.sp_block.specs.Block.{ReadBlock}
 use Rattle.sp_block.specs.declared.fault.BlockFault.{BlockFault}
-use Rattle.sp_model.specs.declared.profile.Profile.TheVariants.{One}
 use Rattle.sp_engine.specs.Arrivals.{kept_by_all}
 use Rattle.sp_engine.specs.Blocks.{block_in}
 use Rattle.sp_feed.specs.Kinds.{Said}
 use Rattle.sp_names.specs.Labels.{AllLabels}
 use Rattle.sp_node.specs.Answers.{answers, arrivals_of}
+use Rattle.sp_node.specs.Terms.{Terms, terms_of}
 use Rattle.sp_play.specs.Feeds.{feed_text}
 use Rattle.sp_play.specs.Scene.{Scene}
 use Rattle.sp_play.specs.declared.why.LineFault.{LineFault}
@@ -18,13 +18,17 @@ use Rattle.spectre.specs.declared.purpose.Purpose.{Purpose}
 use Rattle.spectre.specs.declared.purpose.Purpose.TheVariants.{Play, Build, Drill}
 
 -- what answers the messages behind these arrivals, if the genesis block is spelled
-abbrev pub lines_by : AllLabels → Result ReadBlock BlockFault → ℕ → List (List ℕ) → List Said → List ℕ
-lines_by labels (Ok genesis) bits before messages = answers labels genesis bits before messages
-lines_by labels (Err fault) bits before messages = []
+abbrev pub lines_by : AllLabels → Result ReadBlock BlockFault → Terms → List (List ℕ) → List Said → List ℕ
+lines_by labels (Ok genesis) terms before messages = answers labels genesis terms before messages
+lines_by labels (Err fault) terms before messages = []
+
+-- the profile and the bits of a scene
+abbrev pub scene_terms : Scene → Terms
+scene_terms scene = terms_of scene.profile scene.bits
 
 -- what answers a scene's messages, with names as labels
 abbrev pub scene_lines : Scene → List ℕ
-scene_lines scene = lines_by scene.names (block_in true scene.genesis) scene.bits [] scene.messages
+scene_lines scene = lines_by scene.names (block_in true scene.genesis) (scene_terms scene) [] scene.messages
 
 -- the answers, and then the line of the fault
 unfoldable pub played : Scene → List ℕ
@@ -44,7 +48,7 @@ abbrev pub kept_in : ReadBlock → Scene → List ReadBlock
 kept_in genesis scene = kept_by_all scene.bits genesis (flat_map arrivals_of scene.messages)
 
 abbrev pub summary_by : Result ReadBlock BlockFault → Scene → List ℕ
-summary_by (Ok genesis) scene = summary One scene.names (kept_in genesis scene)
+summary_by (Ok genesis) scene = summary scene.profile scene.names (kept_in genesis scene)
 summary_by (Err fault) scene = []
 
 -- the summary of a scene after all its messages

@@ -12,19 +12,20 @@ use Rattle.sp_make.specs.Made.{made}
 use Rattle.sp_names.specs.Labels.{AllLabels, no_labels}
 use Rattle.sp_node.specs.Answers.{answers, IsQuestion}
 use Rattle.sp_node.specs.Messages.{IsPlainFor}
+use Rattle.sp_node.specs.Terms.{Terms, terms_of}
 use Rattle.sp_play.specs.Scene.{Scene, scene}
 use Rattle.spectre.specs.Journals.{found_blocks}
-use Rattle.spectre.specs.Replay.{fed}
+use Rattle.spectre.specs.Replay.{fed, head_terms}
 use Rattle.spectre.specs.Rests.{Agrees, arrived}
-use Rattle.spectre.specs.Scenes.{lines_by}
+use Rattle.spectre.specs.Scenes.{lines_by, scene_terms}
 use Rattle.spectre.specs.declared.job.Job.{Job}
 use Rattle.spectre.specs.declared.job.Job.TheVariants as jobs
 
--- Some messages: by which labels they are answered, over which bits of work and genesis block, and which blocks had
+-- Some messages: by which labels they are answered, over which profile, bits of work and genesis block, and which blocks had
 -- arrived before them
 pub record Talk : Type 0 where
   pub labels : AllLabels
-  pub bits : ℕ
+  pub terms : Terms
   pub genesis : List ℕ
   pub found : List (List ℕ)
   pub messages : List Said
@@ -32,17 +33,17 @@ pub record Talk : Type 0 where
 -- those of a feed, behind the blocks of a journal where there is one
 abbrev pub feed_talk : List (List ℕ) → Option Head → List Said → Option Talk
 feed_talk found None messages = None
-feed_talk found (Some head) messages = Some (record { labels = no_labels; bits = head.bits; genesis = head.genesis; found = found; messages = messages })
+feed_talk found (Some head) messages = Some (record { labels = no_labels; terms = head_terms head; genesis = head.genesis; found = found; messages = messages })
 
 -- a report is asked of the blocks of a journal
 abbrev pub journal_talk : Records → Option Talk
 journal_talk NoJournal = None
 journal_talk (Damaged at) = None
-journal_talk (Found c) = Some (record { labels = no_labels; bits = c.bits; genesis = c.genesis; found = c.blocks; messages = SaysReport ∷ [] })
+journal_talk (Found c) = Some (record { labels = no_labels; terms = terms_of c.profile c.bits; genesis = c.genesis; found = c.blocks; messages = SaysReport ∷ [] })
 
 -- those of a scenario, with its names as labels
 abbrev pub scene_talk : Scene → Option Talk
-scene_talk s = Some (record { labels = s.names; bits = s.bits; genesis = s.genesis; found = []; messages = s.messages })
+scene_talk s = Some (record { labels = s.names; terms = scene_terms s; genesis = s.genesis; found = []; messages = s.messages })
 
 -- The messages that a job answers. A `drill` answers none; its summary is that of the blocks which are kept of all
 abbrev pub talk_by : Option Job → List ℕ → List ℕ → Option Talk
@@ -63,7 +64,7 @@ arrived_by talk before = talk.found ++ arrived before
 abbrev pub TalkAgrees : Talk → Type 0
 TalkAgrees talk =
     (genesis : ReadBlock) → block_in true talk.genesis ≡ Ok genesis → (before after : List Said) → talk.messages ≡ before ++ after →
-    Agrees genesis (kept_by_all talk.bits genesis (arrived_by talk before))
+    Agrees talk.terms.profile genesis (kept_by_all talk.terms.bits genesis (arrived_by talk before))
 
 -- what is asked of an input: of a feed that it is bytes, of a scenario nothing
 abbrev pub IsOfBytes : Option Job → List ℕ → Type 0
@@ -89,18 +90,18 @@ pub record HasQuestion (talk : Talk) (genesis : ReadBlock) (before : List Said) 
 -- what is written for a talk: the answers to the messages before one of them, this answer, and those behind it
 pub record IsAnsweredIn (talk : Talk) (genesis : ReadBlock) (before : List Said) (answer : List ℕ) : Type 0 where
   pub behind : List ℕ
-  pub all : lines_by talk.labels (block_in true talk.genesis) talk.bits talk.found talk.messages
-      ≡ answers talk.labels genesis talk.bits talk.found before ++ (answer ++ behind)
+  pub all : lines_by talk.labels (block_in true talk.genesis) talk.terms talk.found talk.messages
+      ≡ answers talk.labels genesis talk.terms talk.found before ++ (answer ++ behind)
 
--- Two talks, of whatever commands, with the same labels, bits and genesis block ask the same question, each where the
+-- Two talks, of whatever commands, with the same labels, profile, bits and genesis block ask the same question, each where the
 -- same valid blocks have arrived, at most 512 with genesis and all of different ids; where it is on transactions or
 -- balances, no two different transactions of the present ones have one id. Then the same bytes answer it in both
 abbrev pub TalksAnswerAlike : Talk → Talk → Type 0
 TalksAnswerAlike talk other =
-    talk.labels ≡ other.labels → talk.bits ≡ other.bits → (genesis : ReadBlock) (before others : List Said) (question : Said) → IsQuestion question →
+    talk.labels ≡ other.labels → talk.terms ≡ other.terms → (genesis : ReadBlock) (before others : List Said) (question : Said) → IsQuestion question →
     HasQuestion talk genesis before question → HasQuestion other genesis others question →
-    AreSameArrivals talk.bits genesis (arrived_by talk before) (arrived_by other others) →
-    IsPlainFor (kept_by_all talk.bits genesis (arrived_by talk before)) question →
+    AreSameArrivals talk.terms.bits genesis (arrived_by talk before) (arrived_by other others) →
+    IsPlainFor talk.terms.profile (kept_by_all talk.terms.bits genesis (arrived_by talk before)) question →
     (answer : List ℕ) × IsAnsweredIn talk genesis before answer × IsAnsweredIn other genesis others answer
 
 -- so it is between a job and any talk

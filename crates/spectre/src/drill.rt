@@ -32,9 +32,10 @@ fn keep_scene(node: &mut Node, scene: &Scene, naming: &Naming<'_>) -> Result<(),
     requires live { node.old.stopped ≡ false }
     requires plain { node.old.journal ≡ None }
     ensures kept { (genesis : ReadBlock) → node.old.kept ≡ genesis ∷ [] → OnOk result
-        (node.new.kept ≡ kept_by_all node.old.bits genesis
+        (node.new.kept ≡ kept_by_all node.old.terms.bits genesis
         (flat_map arrivals_of scene.now.messages)) }
     ensures live { OnOk result (node.new.stopped ≡ false) }
+    ensures terms { OnOk result (node.new.terms ≡ node.old.terms) }
 {
     let mut dropped = TallySink::new();
     match answer_scene(node, scene, naming, &mut dropped) {
@@ -78,11 +79,11 @@ fn keep_and_tell<K: Sink>(
     requires live { node.old.stopped ≡ false }
     requires plain { node.old.journal ≡ None }
     ensures ok { (genesis : ReadBlock) → node.old.kept ≡ genesis ∷ [] → OnOk result
-        (Appends (K.taken sink.old) (K.taken sink.new) (meant.summary One scene.now.names
-        (kept_by_all node.old.bits genesis (flat_map arrivals_of scene.now.messages)))) }
+        (Appends (K.taken sink.old) (K.taken sink.new) (meant.summary node.old.terms.profile scene.now.names
+        (kept_by_all node.old.terms.bits genesis (flat_map arrivals_of scene.now.messages)))) }
     ensures err { (genesis : ReadBlock) → node.old.kept ≡ genesis ∷ [] → OnErr result
-        (AppendsFront (K.taken sink.old) (K.taken sink.new) (meant.summary One scene.now.names
-        (kept_by_all node.old.bits genesis (flat_map arrivals_of scene.now.messages)))) }
+        (AppendsFront (K.taken sink.old) (K.taken sink.new) (meant.summary node.old.terms.profile scene.now.names
+        (kept_by_all node.old.terms.bits genesis (flat_map arrivals_of scene.now.messages)))) }
     ensures cause { IfErr result (HasStopCause (K.faults sink.old) (K.faults sink.new)) }
     ensures quiet { result ≢ Err Stop.WriteFault → K.faults sink.new ≡ K.faults sink.old }
 {

@@ -8,6 +8,7 @@ ghost use Rattle.sp_journal.specs.Recovery.{bytes_in};
 ghost use Rattle.sp_journal.specs.Settled.{SameTold};
 ghost use Rattle.sp_node.specs.Journalled.{IsKeptOn};
 ghost use Rattle.sp_node.specs.Node.{state};
+ghost use Rattle.sp_node.specs.Terms.{terms_of};
 ghost use Rattle.sp_node.specs.Stored.{IsFound, IsOfSame, IsReady, LeavesStarted, NamesBoth, stored_blocks};
 ghost use Rattle.sp_node.specs.declared.start.StartFault.TheVariants as starts;
 
@@ -19,13 +20,22 @@ use std::alloc::Global;
 
 /// A node on the head of a feed, whose genesis block is the one that its bytes spell.
 pub fn node_of(alloc: Global, head: FeedHead) -> Result<Node, Memory>
-    ensures node { IfOk result (λ node. node ≡ state head.bits (head.genesis ∷ [])) }
+    ensures node { IfOk result (λ node. node ≡ state (terms_of head.profile head.bits) (head.genesis ∷ [])) }
     ensures genesis { block_in true head.genesis.bytes ≡ Ok head.genesis }
 {
-    let FeedHead { bits, genesis } = head;
+    let FeedHead {
+        profile,
+        bits,
+        genesis,
+    } = head;
     // Tells the proof what its bytes spell.
     let _id = genesis.id;
-    Node::plain(alloc, FeedHead { bits, genesis })
+    let head = FeedHead {
+        profile,
+        bits,
+        genesis,
+    };
+    Node::plain(alloc, head)
 }
 
 /// The same with a journal, on what was found on the disk.
@@ -39,10 +49,10 @@ pub fn node_on<D: Disk>(
     ensures sent { IfOk result (λ node. node.kept
         ≡ kept_by_all head.bits head.genesis (map bytes_in (stored_blocks stored))) }
     ensures kept { IfOk result (λ node. node.kept ≡ head.genesis ∷ stored_blocks stored) }
-    ensures bits { IfOk result (λ node. node.bits ≡ head.bits) }
+    ensures terms { IfOk result (λ node. node.terms ≡ terms_of head.profile head.bits) }
     ensures live { IfOk result (λ node. node.stopped ≡ false) }
     ensures has { IfOk result (λ node. IsSome node.journal) }
-    ensures stands { IfOk result (λ node. IsKeptOn node.bits node.kept node.journal (D.now disk.new)) }
+    ensures stands { IfOk result (λ node. IsKeptOn node.terms node.kept node.journal (D.now disk.new)) }
     ensures any_moment { LeavesStarted stored head (D.now disk.old) (D.now disk.new) }
     ensures untouched { IsFound stored → disk.new ≡ disk.old }
     ensures told { SameTold (D.now disk.old) (D.now disk.new) }
@@ -55,8 +65,17 @@ pub fn node_on<D: Disk>(
     ensures quiet { (IsErrOf result starts.DiskFault → ⊥) → (D.now disk.new).faults ≡ (D.now disk.old).faults }
     ensures genesis { block_in true head.genesis.bytes ≡ Ok head.genesis }
 {
-    let FeedHead { bits, genesis } = head;
+    let FeedHead {
+        profile,
+        bits,
+        genesis,
+    } = head;
     // Tells the proof what its bytes spell.
     let _id = genesis.id;
-    Node::start(alloc, disk, stored, FeedHead { bits, genesis })
+    let head = FeedHead {
+        profile,
+        bits,
+        genesis,
+    };
+    Node::start(alloc, disk, stored, head)
 }

@@ -26,6 +26,7 @@ use sp_feed::{FeedFault, FeedReader, HeadFault};
 use sp_ids::{BlockId, Memory as Refused};
 use sp_io::{Sink, Source, write_whole};
 use sp_journal::JournalFault;
+use sp_model::Profile;
 use sp_node::{Node, StartFault, Stored};
 use sp_report::Line;
 use std::alloc::Global;
@@ -39,8 +40,10 @@ pub enum KeepFault {
     OtherChain {
         stored_bits: u8,
         stored: BlockId,
+        stored_profile: Profile,
         fed_bits: u8,
         fed: BlockId,
+        fed_profile: Profile,
     },
     /// A write failed.
     WriteFault,
@@ -81,13 +84,17 @@ impl From<StartFault> for KeepFault {
             StartFault::OtherChain {
                 stored_bits,
                 stored,
+                stored_profile,
                 fed_bits,
                 fed,
+                fed_profile,
             } => KeepFault::OtherChain {
                 stored_bits,
                 stored,
+                stored_profile,
                 fed_bits,
                 fed,
+                fed_profile,
             },
             StartFault::DiskFault => KeepFault::DiskFault,
             StartFault::Memory => KeepFault::Memory,
@@ -218,9 +225,18 @@ fn other_line(fault: KeepFault) -> Line
         KeepFault::OtherChain {
             stored_bits,
             stored,
+            stored_profile,
             fed_bits,
             fed,
-        } => other_chain_line(stored_bits, stored, fed_bits, fed),
+            fed_profile,
+        } => other_chain_line(
+            stored_bits,
+            stored,
+            stored_profile,
+            fed_bits,
+            fed,
+            fed_profile,
+        ),
         _ => Line::new(),
     }
 }

@@ -3,11 +3,12 @@
 ghost use Rattle.std.specs.Prelude.{◌≡◌, ◌≤◌, ◌+◌, ◌++◌, ◌∷◌, [], length};
 ghost use Rattle.std.specs.Fmt.{decimal};
 ghost use Rattle.sp_report.specs.Naming.{hex_label};
-ghost use Rattle.spectre.specs.Journals.{damaged_text, not_journal_text, other_chain_text, recovered_text};
+ghost use Rattle.spectre.specs.Journals.{chain_text, damaged_text, not_journal_text, other_chain_text, profile_number, recovered_text};
 ghost use Rattle.spectre.specs.Lines.{reason};
 ghost use Rattle.spectre.specs.Lines as meant;
 
 use sp_ids::BlockId;
+use sp_model::Profile;
 use sp_play::{LineFault, Why};
 use sp_report::Line;
 
@@ -81,31 +82,60 @@ pub fn recovered_line(count: u16) -> Line
     line
 }
 
-/// Writes bits of work and the id of a genesis block behind a line's front.
+/// The number of a profile.
+fn number_of(profile: Profile) -> u8
+    ensures { result ≡ profile_number profile }
+{
+    match profile {
+        Profile::One => 1,
+        Profile::Two => 2,
+    }
+}
+
+/// Writes a number of 8 bits in decimal digits, of which there are 3 at most.
+#[tactic(auto, using(crate::proofs::SmallNumbers::size_of_8))]
+fn push_small(line: &mut Line, number: u8)
+    requires { length line.old ≤ 172 }
+    ensures text { line.new ≡ line.old ++ decimal number }
+    ensures size { length line.new ≤ length line.old + 3 }
+{
+    line.push_number(u64::from(number));
+}
+
+/// Writes bits of work, the id of a genesis block and a profile behind a line's front.
 #[tactic(auto, unfolding(sp_report::specs::Naming::hex_label))]
-fn push_chain(line: &mut Line, bits: u8, genesis: &BlockId)
-    requires { length line.old ≤ 107 }
-    ensures text { line.new ≡ line.old ++ (decimal bits ++ 32 ∷ [] ++ hex_label genesis.now) }
-    ensures size { length line.new ≤ length line.old + 85 }
+fn push_chain(line: &mut Line, bits: u8, genesis: &BlockId, profile: Profile)
+    requires { length line.old ≤ 100 }
+    ensures text { line.new ≡ line.old ++ chain_text bits genesis.now profile }
+    ensures size { length line.new ≤ length line.old + 72 }
 {
     let mut digits = [0; 64];
     genesis.to_hex(&mut digits);
-    line.push_number(u64::from(bits));
+    push_small(line, bits);
     line.push_byte(b' ');
     line.push_bytes(&digits);
+    line.push_byte(b' ');
+    push_small(line, number_of(profile));
 }
 
-/// The line where a journal is that of another chain than a feed's head: bits of work and genesis of the
-/// journal, and then of the feed.
+/// The line where a journal is that of another chain than a feed's head: bits of work, genesis and
+/// profile of the journal, and then of the feed.
 #[tactic(auto, unfolding(crate::specs::Journals::other_chain_text))]
-pub fn other_chain_line(stored_bits: u8, stored: BlockId, fed_bits: u8, fed: BlockId) -> Line
-    ensures { result ≡ other_chain_text stored_bits stored fed_bits fed }
+pub fn other_chain_line(
+    stored_bits: u8,
+    stored: BlockId,
+    stored_profile: Profile,
+    fed_bits: u8,
+    fed: BlockId,
+    fed_profile: Profile,
+) -> Line
+    ensures { result ≡ other_chain_text stored_bits stored stored_profile fed_bits fed fed_profile }
 {
     let mut line = Line::new();
     line.push_bytes(b"fault other-chain ");
-    push_chain(&mut line, stored_bits, &stored);
+    push_chain(&mut line, stored_bits, &stored, stored_profile);
     line.push_byte(b' ');
-    push_chain(&mut line, fed_bits, &fed);
+    push_chain(&mut line, fed_bits, &fed, fed_profile);
     line.push_byte(b'\n');
     line
 }

@@ -105,12 +105,12 @@ pub fn answer_rest<S: Source, K: Sink, D: Disk>(
     requires opened { IsTrue (is_open reader.old.stage) }
     requires unended { reader.old.stage ≢ Behind None }
     requires live { node.old.stopped ≡ false }
-    requires stands { IsKeptOn node.old.bits node.old.kept node.old.journal (D.now disk.old) }
+    requires stands { IsKeptOn node.old.terms node.old.kept node.old.journal (D.now disk.old) }
     ensures replies { (before : List (List ℕ)) (start : Moment) (old : Option (List ℕ)) → Answering before start
         (moment (S.left source.old) (S.faults source.old) reader.old.taken)
-        old (K.taken sink.old) node.old.bits node.old.kept → RestReplies before start
+        old (K.taken sink.old) node.old.terms node.old.kept → RestReplies before start
         (moment (S.left source.new) (S.faults source.new) reader.new.taken)
-        old (K.taken sink.new) node.old.bits node.old.kept node.old.journal (D.now disk.old) (D.now disk.new) result }
+        old (K.taken sink.new) node.old.terms node.old.kept node.old.journal (D.now disk.old) (D.now disk.new) result }
     ensures uncalled { node.old.journal ≡ None → (disk.new ≡ disk.old) × (result ≢ Err ReplayFault.DiskFault) }
     ensures told { SameTold (D.now disk.old) (D.now disk.new) }
     ensures cause { IfErr result (HasWriteCause (K.faults sink.old) (K.faults sink.new)) }

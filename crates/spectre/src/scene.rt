@@ -34,14 +34,15 @@ pub fn answer_scene<K: Sink>(
     requires plain { node.old.journal ≡ None }
     ensures ok { (genesis : ReadBlock) → node.old.kept ≡ genesis ∷ [] → OnOk result
         (Appends (K.taken sink.old) (K.taken sink.new)
-        (answers (labels_of naming.now) genesis node.old.bits [] scene.now.messages)) }
+        (answers (labels_of naming.now) genesis node.old.terms [] scene.now.messages)) }
     ensures kept { (genesis : ReadBlock) → node.old.kept ≡ genesis ∷ [] → OnOk result
-        (node.new.kept ≡ kept_by_all node.old.bits genesis
+        (node.new.kept ≡ kept_by_all node.old.terms.bits genesis
         (flat_map arrivals_of scene.now.messages)) }
     ensures live { OnOk result (node.new.stopped ≡ false) }
+    ensures terms { OnOk result (node.new.terms ≡ node.old.terms) }
     ensures err { (genesis : ReadBlock) → node.old.kept ≡ genesis ∷ [] → OnErr result
         (AppendsFront (K.taken sink.old) (K.taken sink.new)
-        (answers (labels_of naming.now) genesis node.old.bits [] scene.now.messages)) }
+        (answers (labels_of naming.now) genesis node.old.terms [] scene.now.messages)) }
     ensures cause { IfErr result (HasStopCause (K.faults sink.old) (K.faults sink.new)) }
     ensures quiet { result ≢ Err Stop.WriteFault → K.faults sink.new ≡ K.faults sink.old }
 {

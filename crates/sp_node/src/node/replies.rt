@@ -6,7 +6,6 @@ ghost use Rattle.sp_io.specs.Causes.{Rose};
 ghost use Rattle.sp_io.specs.Whole.{AppendsFront};
 ghost use Rattle.sp_feed.specs.Kinds.{SaysBlock};
 ghost use Rattle.sp_feed.specs.Messages.{said_by};
-ghost use Rattle.sp_model.specs.declared.profile.Profile.TheVariants.{One};
 ghost use Rattle.sp_report.specs.Asks.{ask_text};
 ghost use Rattle.sp_report.specs.Naming.{labels_of};
 ghost use Rattle.sp_report.specs.Texts.{text_of};
@@ -34,26 +33,26 @@ impl Node {
         disk: &mut D,
     ) -> Result<(), NodeFault>
         requires live { self.old.stopped ≡ false }
-        requires stands { IsKeptOn self.old.bits self.old.kept self.old.journal (D.now disk.old) }
+        requires stands { IsKeptOn self.old.terms self.old.kept self.old.journal (D.now disk.old) }
         ensures ok { OnOk result (Appends (K.taken sink.old) (K.taken sink.new)
-            (reply_of (labels_of naming.now) self.old.bits self.old.kept (SaysBlock bytes.now))) }
+            (reply_of (labels_of naming.now) self.old.terms self.old.kept (SaysBlock bytes.now))) }
         ensures kept { OnOk result (self.new.kept
-            ≡ kept_then self.old.bits self.old.kept (SaysBlock bytes.now)) }
+            ≡ kept_then self.old.terms.bits self.old.kept (SaysBlock bytes.now)) }
         ensures kept_unwritten { result ≡ Err NodeFault.WriteFault →
-            self.new.kept ≡ kept_then self.old.bits self.old.kept (SaysBlock bytes.now) }
+            self.new.kept ≡ kept_then self.old.terms.bits self.old.kept (SaysBlock bytes.now) }
         ensures kept_unsure { result ≡ Err NodeFault.DiskFault →
-            self.new.kept ≡ kept_then self.old.bits self.old.kept (SaysBlock bytes.now) }
-        ensures bits { self.new.bits ≡ self.old.bits }
+            self.new.kept ≡ kept_then self.old.terms.bits self.old.kept (SaysBlock bytes.now) }
+        ensures terms { self.new.terms ≡ self.old.terms }
         ensures acknowledged { OnOk result
-            (IsKeptOn self.new.bits self.new.kept self.new.journal (D.now disk.new)) }
+            (IsKeptOn self.new.terms self.new.kept self.new.journal (D.now disk.new)) }
         ensures acknowledged_unwritten { result ≡ Err NodeFault.WriteFault
-            → IsKeptOn self.new.bits self.new.kept self.new.journal (D.now disk.new) }
+            → IsKeptOn self.new.terms self.new.kept self.new.journal (D.now disk.new) }
         ensures any_moment { LeavesOn self.old.journal (D.now disk.old) (D.now disk.new)
-            (HoldsThen self.old.bits self.old.kept (SaysBlock bytes.now)) }
+            (HoldsThen self.old.terms self.old.kept (SaysBlock bytes.now)) }
         ensures uncalled { self.old.journal ≡ None → (disk.new ≡ disk.old) × (result ≢ Err NodeFault.DiskFault) }
         ensures has { is_some self.new.journal ≡ is_some self.old.journal }
         ensures err { OnErr result (AppendsFront (K.taken sink.old) (K.taken sink.new)
-            (reply_of (labels_of naming.now) self.old.bits self.old.kept (SaysBlock bytes.now))) }
+            (reply_of (labels_of naming.now) self.old.terms self.old.kept (SaysBlock bytes.now))) }
         ensures silent { result ≡ Err NodeFault.DiskFault → sink.new ≡ sink.old }
         ensures memory { result ≡ Err NodeFault.Memory → sink.new ≡ sink.old }
         ensures memory_disk { result ≡ Err NodeFault.Memory → disk.new ≡ disk.old }
@@ -97,10 +96,10 @@ impl Node {
         requires question { IfSome (said_by question.now) IsQuestion }
         ensures ok { OnOk result (IfSome (said_by question.now) (λ said.
             Appends (K.taken sink.old) (K.taken sink.new)
-            (reply_of (labels_of naming.now) self.old.bits self.old.kept said))) }
+            (reply_of (labels_of naming.now) self.old.terms self.old.kept said))) }
         ensures err { OnErr result (IfSome (said_by question.now) (λ said.
             AppendsFront (K.taken sink.old) (K.taken sink.new)
-            (reply_of (labels_of naming.now) self.old.bits self.old.kept said))) }
+            (reply_of (labels_of naming.now) self.old.terms self.old.kept said))) }
         ensures state { self.new ≡ record self.old { stopped = stops result } }
         ensures memory { result ≡ Err NodeFault.Memory → IsTextOf (said_by question.now) × (sink.new ≡ sink.old) }
         ensures never { result ≢ Err NodeFault.DiskFault }
@@ -127,10 +126,10 @@ impl Node {
     ) -> Result<(), NodeFault>
         requires { self.old.stopped ≡ false }
         ensures ok { OnOk result
-            (Appends (K.taken sink.old) (K.taken sink.new) (ask_text One (labels_of naming.now) self.old.kept ask.now)) }
+            (Appends (K.taken sink.old) (K.taken sink.new) (ask_text self.old.terms.profile (labels_of naming.now) self.old.kept ask.now)) }
         ensures state { self.new ≡ record self.old { stopped = stops result } }
         ensures err { OnErr result
-            (AppendsFront (K.taken sink.old) (K.taken sink.new) (ask_text One (labels_of naming.now) self.old.kept ask.now)) }
+            (AppendsFront (K.taken sink.old) (K.taken sink.new) (ask_text self.old.terms.profile (labels_of naming.now) self.old.kept ask.now)) }
         ensures never { IfErr result (λ fault. fault ≡ NodeFault.WriteFault) }
         ensures cause { OnErr result (Rose (K.faults sink.old) (K.faults sink.new)) }
         ensures quiet { result ≢ Err NodeFault.WriteFault → K.faults sink.new ≡ K.faults sink.old }
@@ -155,10 +154,10 @@ impl Node {
     ) -> Result<(), NodeFault>
         requires { self.old.stopped ≡ false }
         ensures ok { OnOk result
-            (Appends (K.taken sink.old) (K.taken sink.new) (text_of One (labels_of naming.now) self.old.kept text.now)) }
+            (Appends (K.taken sink.old) (K.taken sink.new) (text_of self.old.terms.profile (labels_of naming.now) self.old.kept text.now)) }
         ensures state { self.new ≡ record self.old { stopped = stops result } }
         ensures err { OnErr result
-            (AppendsFront (K.taken sink.old) (K.taken sink.new) (text_of One (labels_of naming.now) self.old.kept text.now)) }
+            (AppendsFront (K.taken sink.old) (K.taken sink.new) (text_of self.old.terms.profile (labels_of naming.now) self.old.kept text.now)) }
         ensures memory { result ≡ Err NodeFault.Memory → sink.new ≡ sink.old }
         ensures never { result ≢ Err NodeFault.DiskFault }
         ensures cause { result ≡ Err NodeFault.WriteFault → Rose (K.faults sink.old) (K.faults sink.new) }

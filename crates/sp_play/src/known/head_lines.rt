@@ -1,8 +1,9 @@
-//! The lines that stand first: `bits` and `grant`.
+//! The lines that stand first: `profile`, `bits` and `grant`.
 
 ghost use Rattle.std.specs.Prelude.{◌≡◌, ◌<◌, ◌≤◌, ◌||◌, [], All, Err, if◌then◌else◌, IfOk, IsNone, length, nat_lt, true};
 ghost use Rattle.sp_play.specs.Making as line;
 ghost use Rattle.sp_play.specs.Making.{at_stage_head, is_full};
+ghost use Rattle.sp_play.specs.Known as meant;
 ghost use Rattle.sp_play.specs.Known.{grants_of, place_of};
 ghost use Rattle.sp_play.specs.Words.{is_name};
 ghost use Rattle.sp_play.specs.declared.paid.Paid as paying;
@@ -20,6 +21,7 @@ use crate::stage::Stage;
 use crate::why::{LineError, Why};
 use crate::words::Words;
 use sp_ids::Memory;
+use sp_model::Profile;
 use sp_tx::Inputs;
 
 /// The most grants, and the most bytes of a block.
@@ -27,7 +29,30 @@ const MOST_GRANTS: usize = 256;
 
 const LONGEST: usize = 65_536;
 
+// The profile of a number, which is 1 or 2.
+fn profile_of(number: u64) -> Profile
+    ensures { result ≡ meant.profile_of number }
+{
+    if number == 2 {
+        Profile::Two
+    } else {
+        Profile::One
+    }
+}
+
 impl Known {
+    /// A line `profile N`.
+    #[tactic(auto, unfolding(crate::specs::Making::profile_line))]
+    pub(crate) fn profile_line(&mut self, words: &Words) -> Result<(), LineError>
+        ensures { Steps self.old self.new result (line.profile_line self.old words.now) }
+    {
+        has_words(2, words)?;
+        let number = number_in(1, 2, words.at(1))?;
+        self.profile = profile_of(number);
+        self.stage = Stage::Profiled;
+        Ok(())
+    }
+
     /// A line `bits N`.
     #[tactic(auto, unfolding(crate::specs::Making::bits_line))]
     pub(crate) fn bits_line(&mut self, words: &Words) -> Result<(), LineError>

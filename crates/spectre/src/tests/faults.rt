@@ -18,6 +18,19 @@ pub const FAULTS: &[Case] = &[
     (b"# a\nbits 0\nbits 0\n", b"fault line 3 late\n"),
     // late: a grant behind a block
     (b"block A on G\ngrant g 1 to a\n", b"kept A present 1\nfault line 2 late\n"),
+    // late: a profile behind the work, behind a profile and behind a block
+    (b"bits 0\nprofile 1\n", b"fault line 2 late\n"),
+    (b"profile 2\n\nprofile 2\n", b"fault line 3 late\n"),
+    (b"block A on G\nprofile 2\n", b"kept A present 1\nfault line 2 late\n"),
+    // late: the work behind a grant, though a profile stands first
+    (b"profile 1\ngrant g 1 to a\nbits 0\n", b"fault line 3 late\n"),
+    // number: no such profile
+    (b"profile 3\n", b"fault line 1 number\n"),
+    (b"profile 0\n", b"fault line 1 number\n"),
+    (b"profile 02\n", b"fault line 1 number\n"),
+    // form: no profile, and two
+    (b"profile\n", b"fault line 1 form\n"),
+    (b"profile 1 2\n", b"fault line 1 form\n"),
     // form
     (b"vote G G\nvote G", b"vote G G same\nfault line 2 form\n"),
     // name: a key word

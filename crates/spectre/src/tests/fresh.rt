@@ -129,7 +129,7 @@ const KEPT: &[Kept] = &[
     (TWO, 0, Status::Done, b"known A\nknown B\n", Left::Found(b"2222")),
     (Held::Journal(0, b"", b"\0"), 0, Status::Done, b"kept A present 1\nkept B present 1\n", Left::Found(b"2222")),
     (Held::Journal(0, b"B", b"\0rubbish"), 0, Status::Done, b"kept A present 1\nknown B\n", Left::Found(b"2222")),
-    (TWO, 1, Status::OtherChain, b"fault other-chain 0 G 1 G\n", Left::AsBefore),
+    (TWO, 1, Status::OtherChain, b"fault other-chain 0 G 1 1 G 1\n", Left::AsBefore),
     (Held::Journal(0, b"AB", b""), 0, Status::Damaged, b"fault damaged 148\n", Left::AsBefore),
     (Held::Journal(0, b"AB", b"\xa5"), 1, Status::Damaged, b"fault damaged 148\n", Left::AsBefore),
 ];

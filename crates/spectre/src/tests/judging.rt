@@ -58,6 +58,16 @@ const OTHER_GENESIS: Fed = Fed::Bytes(
     b"SPCTRF01\0B\x14\0\0\0\x01\x01\0\0\0\0\0\0\0\0\0\0\0\0\0\0\0\0\0\0\0E\0\0\0\0",
 );
 
+/// The feed of no messages in profile 2.
+const SECOND: Fed = Fed::Bytes(
+    b"SPCTRF02\0B\x14\0\0\0\x01\0\0\0\0\0\0\0\0\0\0\0\0\0\0\0\0\0\0\0E\0\0\0\0",
+);
+
+/// The journal without records in profile 2.
+const OF_SECOND: Held = Held::Bytes(
+    b"\xa5SPCTRJ02\0\x14\0\0\0\x01\0\0\0\0\0\0\0\0\0\0\0\0\0\0\0\0\0\0\0\0",
+);
+
 /// The journal of a chain with other bits.
 const OTHER: Held = Held::Journal(1, b"", b"\0");
 
@@ -105,11 +115,14 @@ const ROWS: &[Row] = &[
     Row { name: "a bad head, and no write", words: NODE, fed: BAD_HEAD, disk: EMPTY, bad_calls: Some(1), bad: Bad::Write, status: Status::WriteFault, output: b"", rest: None, left: Left::AsBefore },
     Row { name: "a bad head for a journal", words: NODE, fed: BAD_HEAD, disk: TWO, bad_calls: None, bad: Bad::Nothing, status: Status::Malformed, output: b"fault malformed 8\n", rest: None, left: Left::AsBefore },
     // Another chain, and else the creation, come before the messages.
-    Row { name: "other bits", words: NODE, fed: BAD_KIND, disk: OTHER, bad_calls: Some(4), bad: Bad::Nothing, status: Status::OtherChain, output: b"fault other-chain 1 G 0 G\n", rest: HEAD_READ, left: Left::AsBefore },
-    Row { name: "other bits, where a new one may be made", words: FRESH, fed: BAD_KIND, disk: OTHER, bad_calls: None, bad: Bad::Nothing, status: Status::OtherChain, output: b"fault other-chain 1 G 0 G\n", rest: HEAD_READ, left: Left::AsBefore },
-    Row { name: "more bits for a journal with blocks", words: NODE, fed: Fed::Feed(64, b"", END), disk: TWO, bad_calls: None, bad: Bad::Nothing, status: Status::OtherChain, output: b"fault other-chain 0 G 64 G\n", rest: None, left: Left::AsBefore },
-    Row { name: "another genesis", words: NODE, fed: OTHER_GENESIS, disk: TWO, bad_calls: None, bad: Bad::Nothing, status: Status::OtherChain, output: b"fault other-chain 0 G 0 da774fa5934ac062f6c8dcf0b4747ec0e2cb6783768d13b234df2cf611f24ca5\n", rest: None, left: Left::AsBefore },
-    Row { name: "both", words: NODE, fed: OTHER_GENESIS, disk: OTHER, bad_calls: None, bad: Bad::Nothing, status: Status::OtherChain, output: b"fault other-chain 1 G 0 da774fa5934ac062f6c8dcf0b4747ec0e2cb6783768d13b234df2cf611f24ca5\n", rest: None, left: Left::AsBefore },
+    Row { name: "other bits", words: NODE, fed: BAD_KIND, disk: OTHER, bad_calls: Some(4), bad: Bad::Nothing, status: Status::OtherChain, output: b"fault other-chain 1 G 1 0 G 1\n", rest: HEAD_READ, left: Left::AsBefore },
+    Row { name: "other bits, where a new one may be made", words: FRESH, fed: BAD_KIND, disk: OTHER, bad_calls: None, bad: Bad::Nothing, status: Status::OtherChain, output: b"fault other-chain 1 G 1 0 G 1\n", rest: HEAD_READ, left: Left::AsBefore },
+    Row { name: "more bits for a journal with blocks", words: NODE, fed: Fed::Feed(64, b"", END), disk: TWO, bad_calls: None, bad: Bad::Nothing, status: Status::OtherChain, output: b"fault other-chain 0 G 1 64 G 1\n", rest: None, left: Left::AsBefore },
+    Row { name: "another genesis", words: NODE, fed: OTHER_GENESIS, disk: TWO, bad_calls: None, bad: Bad::Nothing, status: Status::OtherChain, output: b"fault other-chain 0 G 1 0 da774fa5934ac062f6c8dcf0b4747ec0e2cb6783768d13b234df2cf611f24ca5 1\n", rest: None, left: Left::AsBefore },
+    Row { name: "both", words: NODE, fed: OTHER_GENESIS, disk: OTHER, bad_calls: None, bad: Bad::Nothing, status: Status::OtherChain, output: b"fault other-chain 1 G 1 0 da774fa5934ac062f6c8dcf0b4747ec0e2cb6783768d13b234df2cf611f24ca5 1\n", rest: None, left: Left::AsBefore },
+    Row { name: "a feed of profile 2", words: NODE, fed: SECOND, disk: TWO, bad_calls: None, bad: Bad::Nothing, status: Status::OtherChain, output: b"fault other-chain 0 G 1 0 G 2\n", rest: None, left: Left::AsBefore },
+    Row { name: "a journal of profile 2", words: NODE, fed: BAD_KIND, disk: OF_SECOND, bad_calls: None, bad: Bad::Nothing, status: Status::OtherChain, output: b"fault other-chain 0 G 2 0 G 1\n", rest: HEAD_READ, left: Left::AsBefore },
+    Row { name: "both of profile 2", words: NODE, fed: SECOND, disk: OF_SECOND, bad_calls: None, bad: Bad::Nothing, status: Status::Done, output: b"", rest: None, left: Left::AsBefore },
     Row { name: "other bits, and no write", words: NODE, fed: BAD_KIND, disk: OTHER, bad_calls: None, bad: Bad::Write, status: Status::WriteFault, output: b"", rest: HEAD_READ, left: Left::AsBefore },
     Row { name: "no creation", words: NODE, fed: BAD_KIND, disk: EMPTY, bad_calls: Some(1), bad: Bad::Nothing, status: Status::DiskFault, output: b"", rest: HEAD_READ, left: Left::Unsaid },
     Row { name: "no end of a creation", words: NODE, fed: BAD_KIND, disk: EMPTY, bad_calls: Some(6), bad: Bad::Write, status: Status::DiskFault, output: b"", rest: Some((Some(7), Some(7), [0; 7], false)), left: Left::Unsaid },

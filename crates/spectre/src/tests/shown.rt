@@ -29,7 +29,7 @@ const ROWS: &[Row] = &[
     (Held::Bytes(b"block A on G\nblock B on G\nvote A B\n"), Some(1), Status::DiskFault, b""),
     (Held::Bytes(b"block A on G\nblock B on G\nvote A B\n"), Some(2), Status::DiskFault, b""),
     (Held::Bytes(b"block A on G\nblock B on G\nvote A B\n"), Some(3), Status::NotJournal, NONE),
-    (Held::Bytes(b"\xa5SPCTRJ02\0\x14\0\0\0\x01\0\0\0\0\0\0\0\0\0\0\0\0\0\0\0\0\0\0\0\0"), None, Status::NotJournal, NONE),
+    (Held::Bytes(b"\xa5SPCTRJ03\0\x14\0\0\0\x01\0\0\0\0\0\0\0\0\0\0\0\0\0\0\0\0\0\0\0\0"), None, Status::NotJournal, NONE),
     (Held::Journal(65, b"", b"\0"), None, Status::NotJournal, NONE),
     (TWO, Some(0), Status::DiskFault, b""),
     (TWO, Some(1), Status::DiskFault, b""),

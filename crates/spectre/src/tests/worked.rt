@@ -63,6 +63,16 @@ pub const WORKED: &[Case] = &[
         b"block A on G\nblock B on G\nvote A B\nblock C on A B\nvote A B\n",
         b"kept A present 1\nkept B present 1\nvote A B tie\nkept C present 1\nvote A B tie\n",
     ),
+    // in profile 2 it votes for the one of the lower salt: the sum is -2
+    (
+        b"profile 2\nblock A on G\nblock B on G\nvote A B\nblock C on A B\nvote A B\n",
+        b"kept A present 1\nkept B present 1\nvote A B tie\nkept C present 1\nvote A B before\n",
+    ),
+    // in profile 1 it doesn't, though the profile and the work stand first
+    (
+        b"profile 1\nbits 0\nblock A on G\nblock B on G\nblock C on A B\nvote A B\n",
+        b"kept A present 1\nkept B present 1\nkept C present 1\nvote A B tie\n",
+    ),
     // three blocks, each before the next: each sum is -4
     (
         b"block A on G\nblock B on G\nblock C on G\n\

@@ -25,7 +25,7 @@ returns-in-Ok-clause-reads g c =
     let bits = c.args.bits in
     let is : is_block true out ≡ true = spelled_block true out (parts_of c.in-Ok.genesis) c.in-Ok.ensures.found in
     let same : out ≡ c.in-Ok.genesis.bytes = sym (ap (λ (b : ReadBlock). b.bytes) c.in-Ok.ensures.block) in
-    head_ok (reads_last (head_of bits) _ (reads_field (length c.args.payload.now) (λ bytes. rule (is_block true bytes) broken ∷ []) (λ bytes. bytes) (λ (out : List ℕ). out) out c.in_ok-fill.ensures.fills c.fill.auto.out (met (is_block true out) is) refl) (ap (head_of bits) same))
+    head_ok (reads_last (head_of c.args.profile bits) _ (reads_field (length c.args.payload.now) (λ bytes. rule (is_block true bytes) broken ∷ []) (λ bytes. bytes) (λ (out : List ℕ). out) out c.in_ok-fill.ensures.fills c.fill.auto.out (met (is_block true out) is) refl) (ap (head_of c.args.profile bits) same))
 
 pub returns-in-Err-Fault-clause-reads : goal.returns-in-Err-Fault-clause-reads
 unfolding back_form
@@ -38,4 +38,4 @@ returns-in-Err-Fault-clause-reads g c =
 pub returns-in-Err-Memory-clause-reads : goal.returns-in-Err-Memory-clause-reads
 unfolding back_form
 returns-in-Err-Memory-clause-reads g c =
-    head_memory (reads_judged (length c.args.payload.now) (is_block true) (head_of c.args.bits) c.in_ok-fill.ensures.fills c.fill.auto.out).1
+    head_memory (reads_judged (length c.args.payload.now) (is_block true) (head_of c.args.profile c.args.bits) c.in_ok-fill.ensures.fills c.fill.auto.out).1

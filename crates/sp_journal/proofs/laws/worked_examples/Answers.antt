@@ -29,6 +29,10 @@ pub returns-clause-closed_head : goal.returns-clause-closed_head
 unfolding records rows head_form record_form sized_form read bind is_block is_record block_form form_rows map_fault
 returns-clause-closed_head c = refl
 
+pub returns-clause-second_profile : goal.returns-clause-second_profile
+unfolding records rows head_form record_form sized_form read bind is_block is_record block_form form_rows map_fault
+returns-clause-second_profile c = refl
+
 pub returns-clause-other_name : goal.returns-clause-other_name
 unfolding records rows head_form record_form sized_form read bind is_block is_record block_form form_rows map_fault
 returns-clause-other_name c = refl

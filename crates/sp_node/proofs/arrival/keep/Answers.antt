@@ -10,22 +10,26 @@ use Rattle.sp_journal.proofs.Appended.{by_test}
 use Rattle.sp_pool.specs.Kept.{ids_of}
 use Rattle.sp_engine.specs.Arrivals.{kept_after}
 use Rattle.sp_node.specs.Journalled.{HoldsBeforeOrAfter, journal_in}
+use Rattle.sp_node.specs.Terms.{Terms, terms_in}
+use Rattle.sp_node.proofs.Started.{same_terms}
 use Rattle.sp_node.proofs.Changes.{Changes, fits_more, fits_same, found_now, has_room, ids_known, is_new, is_other, looked_up, not_missing, now_holds, one_contents, told_changes, told_joins, work}
 use Rattle.sp_node.proofs.arrival.keep.Goals as goal
 
 pub returns-in_default-clause-acknowledged : goal.returns-in_default-clause-acknowledged
 returns-in_default-clause-acknowledged g c told =
     let bits = c.args.engine.now.bits in
+    let terms = terms_in c.args.engine.now in
     let kept = c.args.engine.now.kept in
     let bytes = c.args.bytes.now in
     let change = told_changes bits kept bytes _ _ c.kept_id.ensures c.in_ok-answer.ensures.answer in
     let same = c.in_ok-answer.ensures.kept ∙ subst (Changes bits kept bytes) c.in_default.is change in
-    subst (λ (k : List ReadBlock). Stands c.args.journal.now (journal_in c.offer.new.self.bits k) (g.D.Disk.now c.args.disk.now)) (sym same)
-    (subst (λ (b : ℕ). Stands c.args.journal.now (journal_in b kept) (g.D.Disk.now c.args.disk.now)) (sym c.offer.ensures.bits) (c.requires.stands told))
+    subst (λ (k : List ReadBlock). Stands c.args.journal.now (journal_in (terms_in c.offer.new.self) k) (g.D.Disk.now c.args.disk.now)) (sym same)
+    (subst (λ (t : Terms). Stands c.args.journal.now (journal_in t kept) (g.D.Disk.now c.args.disk.now)) (sym (same_terms c.in_ok-answer.ensures.profile c.offer.ensures.bits)) (c.requires.stands told))
 
 pub unreachable-requires : goal.unreachable-requires
 unreachable-requires g c =
     let bits = c.args.engine.now.bits in
+    let terms = terms_in c.args.engine.now in
     let kept = c.args.engine.now.kept in
     let bytes = c.args.bytes.now in
     let joins = told_joins bits kept bytes _ _ c.in-Some.id c.kept_id.ensures c.in_ok-answer.ensures.answer c.in-Some.is in
@@ -36,6 +40,7 @@ unreachable-requires g c =
 pub append-requires-clause-room : goal.append-requires-clause-room
 append-requires-clause-room g c =
     let bits = c.args.engine.now.bits in
+    let terms = terms_in c.args.engine.now in
     let kept = c.args.engine.now.kept in
     let bytes = c.args.bytes.now in
     let joins = told_joins bits kept bytes _ _ c.in-Some.id c.kept_id.ensures c.in_ok-answer.ensures.answer c.in-Some.is in
@@ -46,6 +51,7 @@ append-requires-clause-room g c =
 pub append-requires-clause-other : goal.append-requires-clause-other
 append-requires-clause-other g c =
     let bits = c.args.engine.now.bits in
+    let terms = terms_in c.args.engine.now in
     let kept = c.args.engine.now.kept in
     let bytes = c.args.bytes.now in
     let joins = told_joins bits kept bytes _ _ c.in-Some.id c.kept_id.ensures c.in_ok-answer.ensures.answer c.in-Some.is in
@@ -57,6 +63,7 @@ append-requires-clause-other g c =
 pub append-requires-clause-work : goal.append-requires-clause-work
 append-requires-clause-work g c =
     let bits = c.args.engine.now.bits in
+    let terms = terms_in c.args.engine.now in
     let kept = c.args.engine.now.kept in
     let bytes = c.args.bytes.now in
     let joins = told_joins bits kept bytes _ _ c.in-Some.id c.kept_id.ensures c.in_ok-answer.ensures.answer c.in-Some.is in
@@ -69,74 +76,80 @@ append-requires-clause-work g c =
 pub append-requires-clause-fresh : goal.append-requires-clause-fresh
 append-requires-clause-fresh g c live contents stands =
     let bits = c.args.engine.now.bits in
+    let terms = terms_in c.args.engine.now in
     let kept = c.args.engine.now.kept in
     let bytes = c.args.bytes.now in
     let joins = told_joins bits kept bytes _ _ c.in-Some.id c.kept_id.ensures c.in_ok-answer.ensures.answer c.in-Some.is in
     let are = c.kept_count-before.ensures.blocks in
     let copied = found_now bits kept bytes c.in-Some.id are joins _ c.block.result c.block.ensures c.in_ok-answer.ensures.kept in
     let is = looked_up c.block.result c.in-Some-block.block joins.block c.in-Some-block.is copied in
-    let one = one_contents c.args.journal.now contents (journal_in bits kept) (g.D.Disk.now c.args.disk.now) (g.met.D.Disk.is_moment c.args.disk.now) stands (c.requires.stands stands.told) in
-    ap (λ (d : Contents). has (journal_ids d) c.in-Some-block.block.now.id) one ∙ ap (λ (ids : List ℕ). has ids c.in-Some-block.block.now.id) (ids_known bits kept bytes c.in-Some.id are joins)
+    let one = one_contents c.args.journal.now contents (journal_in terms kept) (g.D.Disk.now c.args.disk.now) (g.met.D.Disk.is_moment c.args.disk.now) stands (c.requires.stands stands.told) in
+    ap (λ (d : Contents). has (journal_ids d) c.in-Some-block.block.now.id) one ∙ ap (λ (ids : List ℕ). has ids c.in-Some-block.block.now.id) (ids_known bits kept bytes c.in-Some.id are joins terms.profile)
     ∙ ap (λ (b : ReadBlock). has (ids_of kept) b.id) is ∙ is_new bits kept bytes c.in-Some.id are joins
 
 pub returns-then-is_err-clause-any_moment : goal.returns-then-is_err-clause-any_moment
 returns-then-is_err-clause-any_moment g c told =
     let bits = c.args.engine.now.bits in
+    let terms = terms_in c.args.engine.now in
     let kept = c.args.engine.now.kept in
     let bytes = c.args.bytes.now in
     let joins = told_joins bits kept bytes _ _ c.in-Some.id c.kept_id.ensures c.in_ok-answer.ensures.answer c.in-Some.is in
     let are = c.kept_count-before.ensures.blocks in
     let copied = found_now bits kept bytes c.in-Some.id are joins _ c.block.result c.block.ensures c.in_ok-answer.ensures.kept in
     let is = looked_up c.block.result c.in-Some-block.block joins.block c.in-Some-block.is copied in
-    let now = now_holds bits kept bytes c.in-Some.id are joins ∙ ap (λ (b : ReadBlock). with_block (journal_in bits kept) b.bytes) (sym is) in
-    let run = c.append.ensures.any_moment c.requires.fits.live (journal_in bits kept) (c.requires.stands told) in
-    weaker (g.D.Disk.now c.args.disk.now) (g.D.Disk.now c.append.new.disk) (HoldsOrAdded (journal_in bits kept) c.in-Some-block.block.now.bytes) (HoldsBeforeOrAfter bits kept bytes) run
+    let now = now_holds bits kept bytes c.in-Some.id are joins terms.profile ∙ ap (λ (b : ReadBlock). with_block (journal_in terms kept) b.bytes) (sym is) in
+    let run = c.append.ensures.any_moment c.requires.fits.live (journal_in terms kept) (c.requires.stands told) in
+    weaker (g.D.Disk.now c.args.disk.now) (g.D.Disk.now c.append.new.disk) (HoldsOrAdded (journal_in terms kept) c.in-Some-block.block.now.bytes) (HoldsBeforeOrAfter terms kept bytes) run
     (λ image held. ⊎_elim (λ before. inl before) (λ added. inr (added ∙ ap Found (sym now))) held)
 
 pub returns-clause-any_moment : goal.returns-clause-any_moment
 returns-clause-any_moment g c told =
     let bits = c.args.engine.now.bits in
+    let terms = terms_in c.args.engine.now in
     let kept = c.args.engine.now.kept in
     let bytes = c.args.bytes.now in
     let joins = told_joins bits kept bytes _ _ c.in-Some.id c.kept_id.ensures c.in_ok-answer.ensures.answer c.in-Some.is in
     let are = c.kept_count-before.ensures.blocks in
     let copied = found_now bits kept bytes c.in-Some.id are joins _ c.block.result c.block.ensures c.in_ok-answer.ensures.kept in
     let is = looked_up c.block.result c.in-Some-block.block joins.block c.in-Some-block.is copied in
-    let now = now_holds bits kept bytes c.in-Some.id are joins ∙ ap (λ (b : ReadBlock). with_block (journal_in bits kept) b.bytes) (sym is) in
-    let run = c.append.ensures.any_moment c.requires.fits.live (journal_in bits kept) (c.requires.stands told) in
-    weaker (g.D.Disk.now c.args.disk.now) (g.D.Disk.now c.append.new.disk) (HoldsOrAdded (journal_in bits kept) c.in-Some-block.block.now.bytes) (HoldsBeforeOrAfter bits kept bytes) run
+    let now = now_holds bits kept bytes c.in-Some.id are joins terms.profile ∙ ap (λ (b : ReadBlock). with_block (journal_in terms kept) b.bytes) (sym is) in
+    let run = c.append.ensures.any_moment c.requires.fits.live (journal_in terms kept) (c.requires.stands told) in
+    weaker (g.D.Disk.now c.args.disk.now) (g.D.Disk.now c.append.new.disk) (HoldsOrAdded (journal_in terms kept) c.in-Some-block.block.now.bytes) (HoldsBeforeOrAfter terms kept bytes) run
     (λ image held. ⊎_elim (λ before. inl before) (λ added. inr (added ∙ ap Found (sym now))) held)
 
 pub returns-clause-acknowledged : goal.returns-clause-acknowledged
 returns-clause-acknowledged g c told =
     let bits = c.args.engine.now.bits in
+    let terms = terms_in c.args.engine.now in
     let kept = c.args.engine.now.kept in
     let bytes = c.args.bytes.now in
     let joins = told_joins bits kept bytes _ _ c.in-Some.id c.kept_id.ensures c.in_ok-answer.ensures.answer c.in-Some.is in
     let are = c.kept_count-before.ensures.blocks in
     let copied = found_now bits kept bytes c.in-Some.id are joins _ c.block.result c.block.ensures c.in_ok-answer.ensures.kept in
     let is = looked_up c.block.result c.in-Some-block.block joins.block c.in-Some-block.is copied in
-    let now = now_holds bits kept bytes c.in-Some.id are joins ∙ ap (λ (b : ReadBlock). with_block (journal_in bits kept) b.bytes) (sym is) in
-    let all = by_test c.append.result c.if-is_err.ensures.value c.append.ensures.acknowledged (journal_in bits kept) (c.requires.stands told) in
+    let now = now_holds bits kept bytes c.in-Some.id are joins terms.profile ∙ ap (λ (b : ReadBlock). with_block (journal_in terms kept) b.bytes) (sym is) in
+    let all = by_test c.append.result c.if-is_err.ensures.value c.append.ensures.acknowledged (journal_in terms kept) (c.requires.stands told) in
     let held = subst (λ (d : Contents). Stands c.append.new.self d (g.D.Disk.now c.append.new.disk)) (sym now) all in
-    subst (λ (k : List ReadBlock). Stands c.append.new.self (journal_in c.offer.new.self.bits k) (g.D.Disk.now c.append.new.disk)) (sym c.in_ok-answer.ensures.kept)
-    (subst (λ (b : ℕ). Stands c.append.new.self (journal_in b (kept_after bits kept bytes)) (g.D.Disk.now c.append.new.disk)) (sym c.offer.ensures.bits) held)
+    subst (λ (k : List ReadBlock). Stands c.append.new.self (journal_in (terms_in c.offer.new.self) k) (g.D.Disk.now c.append.new.disk)) (sym c.in_ok-answer.ensures.kept)
+    (subst (λ (t : Terms). Stands c.append.new.self (journal_in t (kept_after bits kept bytes)) (g.D.Disk.now c.append.new.disk)) (sym (same_terms c.in_ok-answer.ensures.profile c.offer.ensures.bits)) held)
 
 pub returns-in_default-clause-fits : goal.returns-in_default-clause-fits
 returns-in_default-clause-fits g c =
     let bits = c.args.engine.now.bits in
+    let terms = terms_in c.args.engine.now in
     let kept = c.args.engine.now.kept in
     let bytes = c.args.bytes.now in
     let change = told_changes bits kept bytes _ _ c.kept_id.ensures c.in_ok-answer.ensures.answer in
     let same = c.in_ok-answer.ensures.kept ∙ subst (Changes bits kept bytes) c.in_default.is change in
-    fits_same bits c.offer.new.self.bits kept c.offer.new.self.kept c.args.journal.now c.offer.ensures.bits same c.requires.fits
+    fits_same terms (terms_in c.offer.new.self) kept c.offer.new.self.kept c.args.journal.now (same_terms c.in_ok-answer.ensures.profile c.offer.ensures.bits) same c.requires.fits
 
 pub returns-clause-fits : goal.returns-clause-fits
 returns-clause-fits g c =
     let bits = c.args.engine.now.bits in
+    let terms = terms_in c.args.engine.now in
     let kept = c.args.engine.now.kept in
     let bytes = c.args.bytes.now in
     let joins = told_joins bits kept bytes _ _ c.in-Some.id c.kept_id.ensures c.in_ok-answer.ensures.answer c.in-Some.is in
     let is = by_test c.append.result c.if-is_err.ensures.value c.append.ensures.ok in
-    fits_same bits c.offer.new.self.bits (kept_after bits kept bytes) c.offer.new.self.kept c.append.new.self c.offer.ensures.bits c.in_ok-answer.ensures.kept
-    (fits_more bits kept bytes c.in-Some-block.block.now.bytes c.in-Some.id c.args.journal.now c.append.new.self c.requires.fits joins is)
+    fits_same terms (terms_in c.offer.new.self) (kept_after bits kept bytes) c.offer.new.self.kept c.append.new.self (same_terms c.in_ok-answer.ensures.profile c.offer.ensures.bits) c.in_ok-answer.ensures.kept
+    (fits_more terms kept bytes c.in-Some-block.block.now.bytes c.in-Some.id c.args.journal.now c.append.new.self c.requires.fits joins is)

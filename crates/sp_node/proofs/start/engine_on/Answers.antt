@@ -9,7 +9,7 @@ use Rattle.sp_node.proofs.start.engine_on.Goals as goal
 pub engine_of-requires-clause-good : goal.engine_of-requires-clause-good
 engine_of-requires-clause-good c =
     let found = c.args.opened.now in
-    let head : ReadHead = record { bits = c.head.inside.bits; genesis = c.head.inside.genesis } in
+    let head : ReadHead = record { profile = c.head.inside.profile; bits = c.head.inside.bits; genesis = c.head.inside.genesis } in
     let is : IsOpening found = subst (λ (o : Opening). IsOpening o) c.opened.view_is c.opened.invariant in
     let same : IsSameChain found head = subst (λ (h : ReadHead). IsSameChain found h) (sym c.head.view_is) c.in_default.ensures.same in
     let found_id : found.genesis.id ≡ sha256_number found.genesis.bytes = search rules in

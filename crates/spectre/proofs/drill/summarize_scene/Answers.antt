@@ -5,6 +5,7 @@ use Rattle.sp_io.proofs.Stops.{stops_at_start}
 use Rattle.sp_node.specs.Node.{State}
 use Rattle.spectre.proofs.Played.{summary_is}
 use Rattle.spectre.proofs.drill.summarize_scene.Goals as goal
+use Rattle.sp_node.proofs.Started.{same_terms}
 
 pub returns-in_err-head-clause-err : goal.returns-in_err-head-clause-err
 returns-in_err-head-clause-err g c = stops_at_start c.from_residual.result _ _
@@ -17,7 +18,7 @@ returns-clause-ok g c =
     let taken = g.K.Sink.taken in
     let scene = c.args.scene.now in
     let genesis = c.in_ok-head.head.genesis in
-    let is = summary_is scene scene.names genesis c.in_ok-node.node.bits refl c.in_ok-node.ensures.genesis c.in_ok-head.ensures.genesis (ap (λ (n : State). n.bits) c.in_ok-node.ensures.node ∙ c.in_ok-head.ensures.bits) in
+    let is = summary_is scene scene.names genesis c.in_ok-node.node.terms refl c.in_ok-node.ensures.genesis c.in_ok-head.ensures.genesis (ap (λ (n : State). n.terms) c.in_ok-node.ensures.node ∙ same_terms c.in_ok-head.ensures.profile c.in_ok-head.ensures.bits) in
     subst (λ (t : List ℕ). OnOk c.keep_and_tell.result (Appends (taken c.args.sink.now) (taken c.keep_and_tell.new.sink) t)) is (c.keep_and_tell.ensures.ok genesis (ap (λ (n : State). n.kept) c.in_ok-node.ensures.node))
 
 pub returns-clause-err : goal.returns-clause-err
@@ -25,5 +26,5 @@ returns-clause-err g c =
     let taken = g.K.Sink.taken in
     let scene = c.args.scene.now in
     let genesis = c.in_ok-head.head.genesis in
-    let is = summary_is scene scene.names genesis c.in_ok-node.node.bits refl c.in_ok-node.ensures.genesis c.in_ok-head.ensures.genesis (ap (λ (n : State). n.bits) c.in_ok-node.ensures.node ∙ c.in_ok-head.ensures.bits) in
+    let is = summary_is scene scene.names genesis c.in_ok-node.node.terms refl c.in_ok-node.ensures.genesis c.in_ok-head.ensures.genesis (ap (λ (n : State). n.terms) c.in_ok-node.ensures.node ∙ same_terms c.in_ok-head.ensures.profile c.in_ok-head.ensures.bits) in
     subst (λ (t : List ℕ). OnErr c.keep_and_tell.result (AppendsFront (taken c.args.sink.now) (taken c.keep_and_tell.new.sink) t)) is (c.keep_and_tell.ensures.err genesis (ap (λ (n : State). n.kept) c.in_ok-node.ensures.node))

@@ -28,11 +28,11 @@ returns-clause-answers g c =
     let begun = c.in_ok-node.ensures.ok in
     let start = moment (g.S.Source.left c.args.source.now) (g.S.Source.faults c.args.source.now) 0 in
     let node = c.in_ok-node.node in
-    let rest = c.answer_rest.ensures.replies (bytes_of stored) start old (at_head {bits = node.bits} {kept = node.kept} (bytes_of stored) old refl begun.gives begun.spelled begun.bits (begun.sent)) in
+    let rest = c.answer_rest.ensures.replies (bytes_of stored) start old (at_head {terms = node.terms} {kept = node.kept} (bytes_of stored) old refl begun.gives begun.spelled begun.terms (begun.sent)) in
     let after = moment (g.S.Source.left c.answer_rest.new.source) (g.S.Source.faults c.answer_rest.new.source) c.answer_rest.new.reader.taken in
     subst (λ r. KeepAnswers stored start after old (g.K.Sink.taken c.answer_rest.new.sink) (now c.args.disk.now) (now c.answer_rest.new.disk) r) (sym c.as_kept.ensures)
-    (tried stored (now c.args.disk.now) (now c.begin.new.disk) (now c.answer_rest.new.disk) begun.head begun.gives c.in_ok-node.node.bits c.in_ok-node.node.kept c.in_ok-node.node.journal
-    begun.same begun.bits begun.kept begun.has begun.leaves (λ f. sym (ap now (c.in_ok-node.ensures.found f))) c.in_ok-node.ensures.told c.answer_rest.ensures.told (g.met.D.Disk.is_moment c.begin.new.disk) (g.met.D.Disk.is_moment c.answer_rest.new.disk) rest)
+    (tried stored (now c.args.disk.now) (now c.begin.new.disk) (now c.answer_rest.new.disk) begun.head begun.gives c.in_ok-node.node.terms c.in_ok-node.node.kept c.in_ok-node.node.journal
+    begun.same begun.terms begun.kept begun.has begun.leaves (λ f. sym (ap now (c.in_ok-node.ensures.found f))) c.in_ok-node.ensures.told c.answer_rest.ensures.told (g.met.D.Disk.is_moment c.begin.new.disk) (g.met.D.Disk.is_moment c.answer_rest.new.disk) rest)
 
 pub returns-clause-write_cause : goal.returns-clause-write_cause
 returns-clause-write_cause g c = λ is.

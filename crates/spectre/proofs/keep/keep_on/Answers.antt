@@ -46,7 +46,7 @@ returns-in-OtherChain-clause-ends g c = λ path fresh tells.
     let o = c.in-OtherChain in
     let line = c.other_line.ensures ∙ ap other_text o.is in
     exit_other path fresh c.args.stored (taken c.args.sink.now) (now c.args.disk.now) (now c.answer_stored.new.disk) (g.met.D.Disk.is_moment c.args.disk.now) (g.met.D.Disk.is_moment c.answer_stored.new.disk) tells
-    (taken c.end_with.new.sink) o.stored_bits o.stored o.fed_bits o.fed (rw o.is at c.in-Err.ensures.answers).1 c.end_with.result c.end_with.ensures.status
+    (taken c.end_with.new.sink) o.stored_bits o.stored o.stored_profile o.fed_bits o.fed o.fed_profile (rw o.is at c.in-Err.ensures.answers).1 c.end_with.result c.end_with.ensures.status
     (λ h. subst (λ (t : List ℕ). Appends (taken c.answer_stored.new.sink) (taken c.end_with.new.sink) t) line (c.end_with.ensures.text h))
     (subst (λ (t : List ℕ). AppendsFront (taken c.answer_stored.new.sink) (taken c.end_with.new.sink) t) line c.end_with.ensures.front)
 

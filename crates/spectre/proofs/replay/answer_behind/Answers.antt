@@ -15,4 +15,4 @@ pub returns-clause-replies : goal.returns-clause-replies
 returns-clause-replies g c = λ start z gives.
     let old = g.K.Sink.taken c.args.sink.now in
     (c.answer_rest.ensures.replies [] start old
-    (at_head [] old z gives c.in_ok-node.ensures.genesis (ap (λ n. n.bits) c.in_ok-node.ensures.node) (ap (λ n. n.kept) c.in_ok-node.ensures.node))).0
+    (at_head [] old z gives c.in_ok-node.ensures.genesis (ap (λ n. n.terms) c.in_ok-node.ensures.node) (ap (λ n. n.kept) c.in_ok-node.ensures.node))).0

@@ -22,7 +22,7 @@ messages-init g c = record {
   opened = c.requires.opened;
   unended = c.requires.unended;
   live = c.requires.live;
-  run = run_first c.args.node.now.bits c.args.node.now.kept c.args.node.now.journal (g.D.Disk.now c.args.disk.now) (g.met.D.Disk.is_moment c.args.disk.now) c.requires.stands;
+  run = run_first c.args.node.now.terms c.args.node.now.kept c.args.node.now.journal (g.D.Disk.now c.args.disk.now) (g.met.D.Disk.is_moment c.args.disk.now) c.requires.stands;
   uncalled = λ none. refl;
   disk_quiet = refl;
   answering = λ before start old h. h;
@@ -59,25 +59,25 @@ messages-preserved g c =
     let now = moment (g.S.Source.left c.next.new.source) (g.S.Source.faults c.next.new.source) c.next.new.self.taken in
     let s = tells c.message-message.result c.in_default.not-End in
     let is : last_of c.next.new.self.stage ≡ Some s.0 = sym c.message-message.ensures ∙ s.1 in
-    let bits = c.messages.node.bits in
+    let terms = c.messages.node.terms in
     let kept = c.messages.node.kept in
     let e = c.in_ok-message-in_default.ensures in
     let are = subst AreKept c.engine.ensures.kept c.kept_count-kept.ensures.blocks in
     let first = c.args.node.now in
-    let then = subst (λ (o : Option Said). IfSome o (λ said. c.message.new.self.kept ≡ kept_then bits kept said)) s.1 e.kept in
+    let then = subst (λ (o : Option Said). IfSome o (λ said. c.message.new.self.kept ≡ kept_then terms.bits kept said)) s.1 e.kept in
     record {
       limit = c.in_ok-next.ensures.limit ∙ c.messages.invariant.limit;
       opened = behind_open _ c.in_ok-next.ensures.ok;
       unended = λ e. let no : None ≡ Some s.0 = sym (ap last_of e) ∙ is in cc;
       live = e.stopped;
-      run = run_more first.bits first.kept first.journal (g.D.Disk.now c.args.disk.now) (g.D.Disk.now c.messages.disk) (g.D.Disk.now c.message.new.disk) bits kept c.messages.node.journal c.messages.invariant.run are
-          s.0 c.message.new.self.bits c.message.new.self.kept c.message.new.self.journal e.bits then e.has e.told e.acknowledged
-          (subst (λ (o : Option Said). IfSome o (λ said. LeavesOn c.messages.node.journal (g.D.Disk.now c.messages.disk) (g.D.Disk.now c.message.new.disk) (HoldsThen bits kept said))) s.1 e.any_moment);
+      run = run_more first.terms first.kept first.journal (g.D.Disk.now c.args.disk.now) (g.D.Disk.now c.messages.disk) (g.D.Disk.now c.message.new.disk) terms kept c.messages.node.journal c.messages.invariant.run are
+          s.0 c.message.new.self.terms c.message.new.self.kept c.message.new.self.journal e.terms then e.has e.told e.acknowledged
+          (subst (λ (o : Option Said). IfSome o (λ said. LeavesOn c.messages.node.journal (g.D.Disk.now c.messages.disk) (g.D.Disk.now c.message.new.disk) (HoldsThen terms kept said))) s.1 e.any_moment);
       uncalled = λ none. (e.uncalled (none_on c.messages.node.journal first.journal c.messages.invariant.run.has none)).0 ∙ c.messages.invariant.uncalled none;
       disk_quiet = e.disk_quiet (λ h. cc) ∙ c.messages.invariant.disk_quiet;
       answering = λ before start old h. one_more before s.0 (c.messages.invariant.answering before start old h) (from_limit {old = mid} {now = now} {r = Ok tt} c.messages.invariant.limit (c.in_ok-next.ensures.gives c.messages.invariant.unended)) is
-          (subst (λ (o : Option Said). IfSome o (λ said. Appends (g.K.Sink.taken c.messages.sink) (g.K.Sink.taken c.message.new.sink) (reply_of no_labels bits kept said))) s.1 e.ok)
-          then e.bits;
+          (subst (λ (o : Option Said). IfSome o (λ said. Appends (g.K.Sink.taken c.messages.sink) (g.K.Sink.taken c.message.new.sink) (reply_of no_labels terms kept said))) s.1 e.ok)
+          then e.terms;
       read_quiet = c.in_ok-next.ensures.quiet ∙ c.messages.invariant.read_quiet;
       write_quiet = e.quiet (λ h. cc) ∙ c.messages.invariant.write_quiet;
     }
@@ -89,20 +89,20 @@ returns-in_err-message-in_default g c =
     let p = err_from_is_err_and c.from_residual-in_err-message-in_default.result c.from_residual-in_err-message-in_default.ensures.1 in
     let s = tells c.message-message.result c.in_default.not-End in
     let is : last_of c.next.new.self.stage ≡ Some s.0 = sym c.message-message.ensures ∙ s.1 in
-    let bits = c.messages.node.bits in
+    let terms = c.messages.node.terms in
     let kept = c.messages.node.kept in
     let e = c.in_err-message-in_default.ensures in
     let first = c.args.node.now in
-    let front = subst (λ (o : Option Said). IfSome o (λ said. AppendsFront (g.K.Sink.taken c.messages.sink) (g.K.Sink.taken c.message.new.sink) (reply_of no_labels bits kept said))) s.1 e.err in
-    let then = subst (λ (o : Option Said). IfSome o (λ said. LeavesOn c.messages.node.journal (g.D.Disk.now c.messages.disk) (g.D.Disk.now c.message.new.disk) (HoldsThen bits kept said))) s.1 e.any_moment in
+    let front = subst (λ (o : Option Said). IfSome o (λ said. AppendsFront (g.K.Sink.taken c.messages.sink) (g.K.Sink.taken c.message.new.sink) (reply_of no_labels terms kept said))) s.1 e.err in
+    let then = subst (λ (o : Option Said). IfSome o (λ said. LeavesOn c.messages.node.journal (g.D.Disk.now c.messages.disk) (g.D.Disk.now c.message.new.disk) (HoldsThen terms kept said))) s.1 e.any_moment in
     let are = subst AreKept c.engine.ensures.kept c.kept_count-kept.ensures.blocks in
     let f = c.in_err-message-in_default.field-0.0 in
     let taken = g.K.Sink.taken in
     rw (p.1, p.2) (record {
       replies = λ before start old h. secures_stop before (c.messages.invariant.answering before start old h) c.messages.invariant.run s.0 are (g.met.D.Disk.is_moment c.messages.disk) (g.met.D.Disk.is_moment c.message.new.disk) e.told then
-          c.message.new.self.bits c.message.new.self.kept c.message.new.self.journal f (from_limit {old = mid} {now = now} {r = Ok tt} c.messages.invariant.limit (c.in_ok-next.ensures.gives c.messages.invariant.unended)) is
-          (λ d. ap taken (e.silent (ap (λ t. Err t) d))) (λ d. ap taken (e.memory (ap (λ t. Err t) d))) front e.bits
-          (λ d. subst (λ (o : Option Said). IfSome o (λ said. c.message.new.self.kept ≡ kept_then bits kept said)) s.1 (e.kept_unwritten (ap (λ t. Err t) d))) e.has (λ d. e.acknowledged_unwritten (ap (λ t. Err t) d));
+          c.message.new.self.terms c.message.new.self.kept c.message.new.self.journal f (from_limit {old = mid} {now = now} {r = Ok tt} c.messages.invariant.limit (c.in_ok-next.ensures.gives c.messages.invariant.unended)) is
+          (λ d. ap taken (e.silent (ap (λ t. Err t) d))) (λ d. ap taken (e.memory (ap (λ t. Err t) d))) front e.terms
+          (λ d. subst (λ (o : Option Said). IfSome o (λ said. c.message.new.self.kept ≡ kept_then terms.bits kept said)) s.1 (e.kept_unwritten (ap (λ t. Err t) d))) e.has (λ d. e.acknowledged_unwritten (ap (λ t. Err t) d));
       uncalled = λ none.
           let here = e.uncalled (none_on c.messages.node.journal first.journal c.messages.invariant.run.has none) in
           (here.0 ∙ c.messages.invariant.uncalled none, λ d. here.1 (disk_fault f d));

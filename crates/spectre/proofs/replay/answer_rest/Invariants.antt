@@ -14,11 +14,11 @@ invariant-messages g l =
       opened : IsTrue (is_open l.reader.stage);
       unended : l.reader.stage ≡ Behind None → ⊥;
       live : l.node.stopped ≡ false;
-      run : IsRun l.fn.node.bits l.fn.node.kept l.fn.node.journal (g.D.Disk.now l.fn.disk) (g.D.Disk.now l.disk) l.node.bits l.node.kept l.node.journal;
+      run : IsRun l.fn.node.terms l.fn.node.kept l.fn.node.journal (g.D.Disk.now l.fn.disk) (g.D.Disk.now l.disk) l.node.terms l.node.kept l.node.journal;
       uncalled : l.fn.node.journal ≡ None → l.disk ≡ l.fn.disk;
       disk_quiet : (g.D.Disk.now l.disk).faults ≡ (g.D.Disk.now l.fn.disk).faults;
-      answering : (before : List (List ℕ)) (start : Moment) (old : Option (List ℕ)) → Answering before start (moment (left l.fn.source) (faults l.fn.source) l.fn.reader.taken) old (taken l.fn.sink) l.fn.node.bits l.fn.node.kept
-          → Answering before start (moment (left l.source) (faults l.source) l.reader.taken) old (taken l.sink) l.node.bits l.node.kept;
+      answering : (before : List (List ℕ)) (start : Moment) (old : Option (List ℕ)) → Answering before start (moment (left l.fn.source) (faults l.fn.source) l.fn.reader.taken) old (taken l.fn.sink) l.fn.node.terms l.fn.node.kept
+          → Answering before start (moment (left l.source) (faults l.source) l.reader.taken) old (taken l.sink) l.node.terms l.node.kept;
       read_quiet : faults l.source ≡ faults l.fn.source;
       write_quiet : g.K.Sink.faults l.sink ≡ g.K.Sink.faults l.fn.sink;
     }

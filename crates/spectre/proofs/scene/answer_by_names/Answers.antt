@@ -5,6 +5,7 @@ use Rattle.sp_io.proofs.Stops.{stops_at_start}
 use Rattle.sp_node.specs.Node.{State}
 use Rattle.spectre.proofs.Played.{lines_are}
 use Rattle.spectre.proofs.scene.answer_by_names.Goals as goal
+use Rattle.sp_node.proofs.Started.{same_terms}
 
 pub returns-in_err-head-clause-err : goal.returns-in_err-head-clause-err
 returns-in_err-head-clause-err g c = stops_at_start c.from_residual.result _ _
@@ -17,7 +18,7 @@ returns-clause-ok g c =
     let taken = g.K.Sink.taken in
     let scene = c.args.scene.now in
     let genesis = c.in_ok-head.head.genesis in
-    let is = lines_are scene c.names.result.now genesis c.in_ok-node.node.bits c.names.ensures c.in_ok-node.ensures.genesis c.in_ok-head.ensures.genesis (ap (λ (n : State). n.bits) c.in_ok-node.ensures.node ∙ c.in_ok-head.ensures.bits) in
+    let is = lines_are scene c.names.result.now genesis c.in_ok-node.node.terms c.names.ensures c.in_ok-node.ensures.genesis c.in_ok-head.ensures.genesis (ap (λ (n : State). n.terms) c.in_ok-node.ensures.node ∙ same_terms c.in_ok-head.ensures.profile c.in_ok-head.ensures.bits) in
     subst (λ (t : List ℕ). OnOk c.answer_scene.result (Appends (taken c.args.sink.now) (taken c.answer_scene.new.sink) t)) is (c.answer_scene.ensures.ok genesis (ap (λ (n : State). n.kept) c.in_ok-node.ensures.node))
 
 pub returns-clause-err : goal.returns-clause-err
@@ -25,5 +26,5 @@ returns-clause-err g c =
     let taken = g.K.Sink.taken in
     let scene = c.args.scene.now in
     let genesis = c.in_ok-head.head.genesis in
-    let is = lines_are scene c.names.result.now genesis c.in_ok-node.node.bits c.names.ensures c.in_ok-node.ensures.genesis c.in_ok-head.ensures.genesis (ap (λ (n : State). n.bits) c.in_ok-node.ensures.node ∙ c.in_ok-head.ensures.bits) in
+    let is = lines_are scene c.names.result.now genesis c.in_ok-node.node.terms c.names.ensures c.in_ok-node.ensures.genesis c.in_ok-head.ensures.genesis (ap (λ (n : State). n.terms) c.in_ok-node.ensures.node ∙ same_terms c.in_ok-head.ensures.profile c.in_ok-head.ensures.bits) in
     subst (λ (t : List ℕ). OnErr c.answer_scene.result (AppendsFront (taken c.args.sink.now) (taken c.answer_scene.new.sink) t)) is (c.answer_scene.ensures.err genesis (ap (λ (n : State). n.kept) c.in_ok-node.ensures.node))

@@ -10,8 +10,8 @@ invariant-place g l =
     record {
       live : l.node.stopped ≡ false;
       plain : l.node.journal ≡ None;
-      bits : l.node.bits ≡ l.fn.node.bits;
+      terms : l.node.terms ≡ l.fn.node.terms;
       played : (genesis : ReadBlock) → l.fn.node.kept ≡ genesis ∷ [] →
-          Played (taken l.fn.sink) (taken l.sink) (labels_of l.naming) genesis l.fn.node.bits l.node.kept l.scene.messages l.place;
+          Played (taken l.fn.sink) (taken l.sink) (labels_of l.naming) genesis l.fn.node.terms l.node.kept l.scene.messages l.place;
       quiet : g.K.Sink.faults l.sink ≡ g.K.Sink.faults l.fn.sink;
     }

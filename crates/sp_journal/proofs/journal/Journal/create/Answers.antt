@@ -22,8 +22,8 @@ returns-in_err-open_over-clause-any_moment g c told quiet =
     let genesis = c.args.genesis.now in
     let block = spelled_block true genesis.bytes (parts_of genesis) c.requires.genesis in
     let copied = c.as_slice-bytes.ensures ∙ ap (λ (b : ReadBlock). b.bytes) c.genesis.view_is in
-    let filled = c.deref.ensures.value ∙ c.fill_head.ensures.filled ∙ (λ i. head_body c.args.bits (copied i) ++ 0 ∷ []) in
-    create_moments c.args.bits genesis.bytes c.deref.result.now c.requires.bits block filled old mid new (c.close_gate.ensures.any_moment told quiet) (c.open_over.ensures.any_moment [] refl (c.in_ok-close_gate.ensures.ok told))
+    let filled = c.deref.ensures.value ∙ c.fill_head.ensures.filled ∙ (λ i. head_body c.args.profile c.args.bits (copied i) ++ 0 ∷ []) in
+    create_moments c.args.profile c.args.bits genesis.bytes c.deref.result.now c.requires.bits block filled old mid new (c.close_gate.ensures.any_moment told quiet) (c.open_over.ensures.any_moment [] refl (c.in_ok-close_gate.ensures.ok told))
 
 pub returns-clause-any_moment : goal.returns-clause-any_moment
 returns-clause-any_moment g c told quiet =
@@ -34,8 +34,8 @@ returns-clause-any_moment g c told quiet =
     let genesis = c.args.genesis.now in
     let block = spelled_block true genesis.bytes (parts_of genesis) c.requires.genesis in
     let copied = c.as_slice-bytes.ensures ∙ ap (λ (b : ReadBlock). b.bytes) c.genesis.view_is in
-    let filled = c.deref.ensures.value ∙ c.fill_head.ensures.filled ∙ (λ i. head_body c.args.bits (copied i) ++ 0 ∷ []) in
-    create_moments c.args.bits genesis.bytes c.deref.result.now c.requires.bits block filled old mid new (c.close_gate.ensures.any_moment told quiet) (c.open_over.ensures.any_moment [] refl (c.in_ok-close_gate.ensures.ok told))
+    let filled = c.deref.ensures.value ∙ c.fill_head.ensures.filled ∙ (λ i. head_body c.args.profile c.args.bits (copied i) ++ 0 ∷ []) in
+    create_moments c.args.profile c.args.bits genesis.bytes c.deref.result.now c.requires.bits block filled old mid new (c.close_gate.ensures.any_moment told quiet) (c.open_over.ensures.any_moment [] refl (c.in_ok-close_gate.ensures.ok told))
 
 pub returns-clause-stands : goal.returns-clause-stands
 returns-clause-stands g c told =
@@ -46,8 +46,8 @@ returns-clause-stands g c told =
     let genesis = c.args.genesis.now in
     let block = spelled_block true genesis.bytes (parts_of genesis) c.requires.genesis in
     let copied = c.as_slice-bytes.ensures ∙ ap (λ (b : ReadBlock). b.bytes) c.genesis.view_is in
-    let filled = c.deref.ensures.value ∙ c.fill_head.ensures.filled ∙ (λ i. head_body c.args.bits (copied i) ++ 0 ∷ []) in
-    create_stands c.args.bits genesis.bytes c.deref.result.now c.requires.bits block filled c.as_slice-bytes.result.now new copied (c.in_ok-open_over.ensures.ok [] refl (c.in_ok-close_gate.ensures.ok told))
+    let filled = c.deref.ensures.value ∙ c.fill_head.ensures.filled ∙ (λ i. head_body c.args.profile c.args.bits (copied i) ++ 0 ∷ []) in
+    create_stands c.args.profile c.args.bits genesis.bytes c.deref.result.now c.requires.bits block filled c.as_slice-bytes.result.now new copied (c.in_ok-open_over.ensures.ok [] refl (c.in_ok-close_gate.ensures.ok told))
 
 pub returns-in_err-open_over-clause-lasts : goal.returns-in_err-open_over-clause-lasts
 returns-in_err-open_over-clause-lasts g c told =
@@ -56,9 +56,9 @@ returns-in_err-open_over-clause-lasts g c told =
     let genesis = c.args.genesis.now in
     let block = spelled_block true genesis.bytes (parts_of genesis) c.requires.genesis in
     let copied = c.as_slice-bytes.ensures ∙ ap (λ (b : ReadBlock). b.bytes) c.genesis.view_is in
-    let filled = c.deref.ensures.value ∙ c.fill_head.ensures.filled ∙ (λ i. head_body c.args.bits (copied i) ++ 0 ∷ []) in
+    let filled = c.deref.ensures.value ∙ c.fill_head.ensures.filled ∙ (λ i. head_body c.args.profile c.args.bits (copied i) ++ 0 ∷ []) in
     let has = c.in_ok-close_gate.ensures.ok told in
-    create_lasts c.args.bits genesis.bytes c.deref.result.now c.requires.bits block filled (now c.args.disk.now) (now c.close_gate.new.disk) (now c.open_over.new.disk)
+    create_lasts c.args.profile c.args.bits genesis.bytes c.deref.result.now c.requires.bits block filled (now c.args.disk.now) (now c.close_gate.new.disk) (now c.open_over.new.disk)
     (law c.close_gate.new.disk) (law c.open_over.new.disk) (c.close_gate.ensures.lasts told) (c.open_over.ensures.any_moment [] refl has) (c.open_over.ensures.lasts [] refl has)
 
 pub returns-clause-lasts : goal.returns-clause-lasts
@@ -68,7 +68,7 @@ returns-clause-lasts g c told =
     let genesis = c.args.genesis.now in
     let block = spelled_block true genesis.bytes (parts_of genesis) c.requires.genesis in
     let copied = c.as_slice-bytes.ensures ∙ ap (λ (b : ReadBlock). b.bytes) c.genesis.view_is in
-    let filled = c.deref.ensures.value ∙ c.fill_head.ensures.filled ∙ (λ i. head_body c.args.bits (copied i) ++ 0 ∷ []) in
+    let filled = c.deref.ensures.value ∙ c.fill_head.ensures.filled ∙ (λ i. head_body c.args.profile c.args.bits (copied i) ++ 0 ∷ []) in
     let has = c.in_ok-close_gate.ensures.ok told in
-    create_lasts c.args.bits genesis.bytes c.deref.result.now c.requires.bits block filled (now c.args.disk.now) (now c.close_gate.new.disk) (now c.open_over.new.disk)
+    create_lasts c.args.profile c.args.bits genesis.bytes c.deref.result.now c.requires.bits block filled (now c.args.disk.now) (now c.close_gate.new.disk) (now c.open_over.new.disk)
     (law c.close_gate.new.disk) (law c.open_over.new.disk) (c.close_gate.ensures.lasts told) (c.open_over.ensures.any_moment [] refl has) (c.open_over.ensures.lasts [] refl has)

@@ -18,7 +18,7 @@ returns-in-Block g c =
     record {
       ok = rw is done.ok;
       kept = rw is done.kept;
-      bits = done.bits;
+      terms = done.terms;
       kept_unwritten = rw is done.kept_unwritten;
       kept_unsure = rw is done.kept_unsure;
       acknowledged = done.acknowledged;
@@ -51,18 +51,18 @@ returns-in_default g c =
     let result = c.answer.result in
     let done = c.answer.ensures in
     let question : IfSome said IsQuestion = is_question c.args.message.now c.in_default.not-Block in
-    let keeps = question_keeps before.bits before.kept c.answer.new.self.kept said question (ap (λ (s : State). s.kept) done.state) in
-    let stands : IsKeptOn c.answer.new.self.bits c.answer.new.self.kept c.answer.new.self.journal (g.D.Disk.now c.args.disk.now) =
-    subst (λ (s : State). IsKeptOn s.bits s.kept s.journal (g.D.Disk.now c.args.disk.now)) (sym done.state) c.requires.stands in
+    let keeps = question_keeps before.terms.bits before.kept c.answer.new.self.kept said question (ap (λ (s : State). s.kept) done.state) in
+    let stands : IsKeptOn c.answer.new.self.terms c.answer.new.self.kept c.answer.new.self.journal (g.D.Disk.now c.args.disk.now) =
+    subst (λ (s : State). IsKeptOn s.terms s.kept s.journal (g.D.Disk.now c.args.disk.now)) (sym done.state) c.requires.stands in
     record {
       ok = done.ok;
       kept = on_ok result _ keeps;
-      bits = ap (λ (s : State). s.bits) done.state;
+      terms = ap (λ (s : State). s.terms) done.state;
       kept_unwritten = λ _. keeps;
       kept_unsure = λ _. keeps;
       acknowledged = on_ok result _ stands;
       acknowledged_unwritten = λ _. stands;
-      any_moment = question_leaves before.bits before.kept before.journal (g.D.Disk.now c.args.disk.now) said (g.met.D.Disk.is_moment c.args.disk.now) c.requires.stands;
+      any_moment = question_leaves before.terms before.kept before.journal (g.D.Disk.now c.args.disk.now) said (g.met.D.Disk.is_moment c.args.disk.now) c.requires.stands;
       uncalled = λ _. (refl, done.never);
       asked = if_question said _ (refl, done.never);
       has = ap (λ (s : State). is_some s.journal) done.state;

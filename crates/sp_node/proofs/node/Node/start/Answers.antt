@@ -2,8 +2,9 @@ use Rattle.std.proofs.Common.{◌∙◌, ◌∷◌, [], inl, inr, ⊎_elim, refl
 use Rattle.sp_node.specs.Journalled.{IsKeptOn}
 use Rattle.sp_node.specs.Node.{State}
 use Rattle.sp_node.specs.Stored.{IsReady}
+use Rattle.sp_node.specs.Terms.{terms_in, terms_of}
 use Rattle.sp_node.specs.declared.stored.Stored.{Stored}
-use Rattle.sp_node.proofs.Started.{found_stands, kept_on}
+use Rattle.sp_node.proofs.Started.{found_stands, kept_on, same_terms}
 use Rattle.sp_node.proofs.node.Node.start.Goals as goal
 
 pub returns-in-Ok : goal.returns-in-Ok
@@ -17,11 +18,11 @@ returns-in-Ok g c =
     record {
       kept = rw is (ap (λ (n : State). n.kept) made ∙ done.engine.kept_are);
       sent = rw is (ap (λ (n : State). n.kept) made ∙ done.engine.kept_are);
-      bits = ap (λ (n : State). n.bits) made ∙ done.engine.bits_are;
+      terms = ap (λ (n : State). n.terms) made ∙ same_terms done.engine.profile_is done.engine.bits_are;
       live = ap (λ (n : State). n.stopped) made;
       has = rw (ap (λ (n : State). n.journal) made) refl;
-      stands = subst (λ (n : State). IsKeptOn n.bits n.kept n.journal new) (sym made)
-          (kept_on head.bits engine.bits (head.genesis ∷ []) engine.kept c.in-Ok.journal new done.engine.bits_are done.engine.kept_are (λ told. done.stands (done.told.1 told)));
+      stands = subst (λ (n : State). IsKeptOn n.terms n.kept n.journal new) (sym made)
+          (kept_on (terms_of head.profile head.bits) (terms_in engine) (head.genesis ∷ []) engine.kept c.in-Ok.journal new (same_terms done.engine.profile_is done.engine.bits_are) done.engine.kept_are (λ told. done.stands (done.told.1 told)));
       any_moment = rw is (λ told. (done.any_moment told, done.lasts told));
       untouched = rw is (λ found. absurd found);
       told = done.told;
@@ -41,7 +42,7 @@ returns-in-Err g c =
     record {
       kept = tt;
       sent = tt;
-      bits = tt;
+      terms = tt;
       live = tt;
       has = tt;
       stands = tt;
@@ -70,11 +71,11 @@ returns-in-Ok-start_found g c =
     record {
       kept = rw is (ap (λ (n : State). n.kept) made ∙ done.engine.kept_are);
       sent = rw is (ap (λ (n : State). n.kept) made ∙ done.sent);
-      bits = ap (λ (n : State). n.bits) made ∙ done.engine.bits_are;
+      terms = ap (λ (n : State). n.terms) made ∙ same_terms done.engine.profile_is done.engine.bits_are;
       live = ap (λ (n : State). n.stopped) made;
       has = rw (ap (λ (n : State). n.journal) made) refl;
-      stands = subst (λ (n : State). IsKeptOn n.bits n.kept n.journal now) (sym made)
-          (kept_on head.bits engine.bits (head.genesis ∷ opened.blocks) engine.kept journal now done.engine.bits_are done.engine.kept_are
+      stands = subst (λ (n : State). IsKeptOn n.terms n.kept n.journal now) (sym made)
+          (kept_on (terms_of head.profile head.bits) (terms_in engine) (head.genesis ∷ opened.blocks) engine.kept journal now (same_terms done.engine.profile_is done.engine.bits_are) done.engine.kept_are
           (found_stands opened head journal now done.same done.journal (subst (λ (s : Stored). IsReady s now) is c.requires.ready)));
       any_moment = rw is tt;
       untouched = λ _. refl;
@@ -95,7 +96,7 @@ returns-in-Err-start_found g c =
     record {
       kept = tt;
       sent = tt;
-      bits = tt;
+      terms = tt;
       live = tt;
       has = tt;
       stands = tt;
