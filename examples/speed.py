@@ -66,8 +66,11 @@ RUNS = [
     drill(511, 1, 16),
     votes("511 blocks on genesis", graphs.star(511)),
     votes("two chains of 255 and 256", graphs.two_chains(511)),
+    votes("two chains of 255 and 256 in turns", graphs.in_turns(511)),
     votes("341 blocks on genesis, 170 on 64 of them each", graphs.crowd(511)),
     votes("layers of 64, each on all of the one below", graphs.layers(511)),
+    votes("511 blocks, each on the four that stand 19 to 16 before it", graphs.lagging(511, 19)),
+    votes("511 blocks, each on the four that stand 40 to 37 before it", graphs.lagging(511, 40)),
     votes("a chain takes in 255 blocks on genesis", graphs.taken_in(511)),
     ("votes: a chain takes in 255 blocks on genesis, children first", ["replay"], lambda: feeds.taken_in_at_once(511)),
     *(
@@ -80,17 +83,30 @@ RUNS = [
     payments("1000 spends that turn 25 times", lambda: feeds.turning(250, 4, 49, True)),
     payments("4000 spends that turn 25 times", lambda: feeds.turning(250, 16, 49, True)),
     payments("the blocks of these spends, without them", lambda: feeds.turning(250, 4, 49, False)),
-    payments(
-        "two chains in turns, 255 blocks with the same 256 spends or their rivals",
-        lambda: feeds.contested(graphs.in_turns(255), graphs.turn, 256, 1),
+    *(
+        payments(
+            f"two chains in turns, {count} blocks with the same 256 spends or their rivals",
+            lambda count=count: feeds.contested(graphs.in_turns(count), graphs.turn, 256, 1),
+        )
+        for count in (255, 511)
+    ),
+    *(
+        payments(
+            f"{count} blocks in a chain, and {count} on genesis with the rivals of their 102 payments of 16 coins",
+            lambda count=count: feeds.contested(graphs.chain_and_star(2 * count), lambda block: block > count, 102, 16),
+        )
+        for count in (128, 255)
+    ),
+    *(
+        payments(
+            f"{count} blocks at width 128, each with rivals of all others' 256 spends",
+            lambda count=count: feeds.contested(graphs.broad(count, 128), lambda block: block, 256, 1),
+        )
+        for count in (255, 511)
     ),
     payments(
-        "128 blocks in a chain, and 128 on genesis with the rivals of their 102 payments of 16 coins",
-        lambda: feeds.contested(graphs.chain_and_star(256), lambda block: block > 128, 102, 16),
-    ),
-    payments(
-        "255 blocks at width 128, each with rivals of all others' 256 spends",
-        lambda: feeds.contested(graphs.broad(255, 128), lambda block: block, 256, 1),
+        "two chains in turns, 511 blocks that hand on 256 coins each, with rivals in the first ones",
+        lambda: feeds.handed_on(graphs.in_turns(511), graphs.turn, 256),
     ),
 ]
 

@@ -155,6 +155,25 @@ def contested(graph, payee_of, count, width):
     return in_order(ledger)
 
 
+def handed_on(graph, side_of, count):
+    """Two chains, each of whose blocks pays on, coin by coin, what the block before it in its chain was paid:
+    `count` transactions of one coin each. The first blocks spend the same coins, which genesis grants, so that
+    all of one chain are rivals of all of the other by what they come from. Which ones are accepted isn't worked
+    out."""
+    pays = [(GRANTED + number, b"a") for number in range(count)]
+    grants = [transaction([], pays[first : first + 16]) for first in range(0, len(pays), 16)]
+    ledger = Ledger()
+    ledger.add([], grants)
+    coins = [coin for grant in grants for coin in grant.coins]
+    left, amounts = [coins, coins], [1, 2]
+    for number, parents in list(enumerate(graph))[1:]:
+        side = side_of(number)
+        txs = [transaction([coin], [(amounts[side], b"a")]) for coin in left[side]]
+        left[side], amounts[side] = [tx.coins[0] for tx in txs], 1
+        ledger.add(parents, txs)
+    return in_order(ledger)
+
+
 def paid_in_step(count):
     ledger, seconds = payments(in_step(count))
     return in_order(ledger, accepted_in_step(ledger, seconds))

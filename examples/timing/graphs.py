@@ -56,6 +56,11 @@ def broad(count, width):
     return [[], *([max(0, block - width)] for block in range(1, count + 1))]
 
 
+def lagging(count, far):
+    """Each on the four that stand so many to three fewer before it, and the first ones on the first four."""
+    return [[], *(list(range(max(0, block - far), min(block, max(0, block - far) + 4))) for block in range(1, count + 1))]
+
+
 def in_step(count):
     """Four blocks are under way at any time: each sees all but the three before it, and stands on the tips
     of what it sees. So block n is on n - 7 to n - 4, the first four are on genesis, and n stands side by
