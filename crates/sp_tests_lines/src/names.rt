@@ -9,7 +9,7 @@ use sp_feed::{FeedHead, Message};
 use sp_fixtures::genesis_of;
 use sp_ids::{BlockId, Lock, TxId};
 use sp_io::{Fails, MemSink};
-use sp_model::{Profile, Profile};
+use sp_model::Profile;
 use sp_names::{Name, Names};
 use sp_report::{Ask, Naming, Text, answer_line, ask_line, present_ids, write_text};
 use std::alloc::Global;
