@@ -11,7 +11,7 @@ use Rattle.sp_journal.proofs.journal.Journal.create.Goals as goal
 pub returns-in_err-close_gate-clause-any_moment : goal.returns-in_err-close_gate-clause-any_moment
 returns-in_err-close_gate-clause-any_moment g c told quiet =
     let now = g.D.Disk.now in
-    weaker (now c.args.disk.now) (now c.close_gate.new.disk) HoldsNone (HoldsNoneOrNew (contents c.args.bits c.args.genesis.now.bytes [])) (c.close_gate.ensures.any_moment told quiet) (λ image none. inl none)
+    weaker (now c.args.disk.now) (now c.close_gate.new.disk) HoldsNone (HoldsNoneOrNew (contents c.args.profile c.args.bits c.args.genesis.now.bytes [])) (c.close_gate.ensures.any_moment told quiet) (λ image none. inl none)
 
 pub returns-in_err-open_over-clause-any_moment : goal.returns-in_err-open_over-clause-any_moment
 returns-in_err-open_over-clause-any_moment g c told quiet =
