@@ -1,10 +1,10 @@
 #!/usr/bin/env python3
 """Stops `node FILE` wherever it can be stopped, and sees that no block which it acknowledged is lost.
 
-    python3 examples/node_crashes.py [BLOCKS]
+    python3 examples/node_crashes.py [BLOCKS [PROFILE]]
 
-A feed of so many blocks (4 where none are named) is answered into an empty file again and again, and stopped
-each time in another way: killed at each of its system calls in turn, and at random moments; with each
+A feed of so many blocks (4 where none are named), of profile 1 where no other is named, is answered into an
+empty file again and again, and stopped each time in another way: killed at each of its system calls in turn, and at random moments; with each
 call on a file or a stream failing in turn; and with a file that can't grow past each of its lengths. A
 kill leaves in the file what was written, synced or not. A loss of power need not, so that from the
 calls of one run the bytes are put together which such a loss may leave behind each of them: with the
@@ -49,11 +49,12 @@ def run(words, source="/dev/null", under=(), **more):
 class Trials:
     """Runs of `node` on one file, each from nothing, and what was found to be wrong with them."""
 
-    def __init__(self, folder, blocks):
+    def __init__(self, folder, blocks, profile):
         self.feed, self.file, self.log = (os.path.join(folder, name) for name in ("feed", "file", "log"))
         scenario = subprocess.run([PROGRAM, "make", str(blocks), "3", "3"], capture_output=True, check=True).stdout
         with open(self.feed, "wb") as feed:
-            subprocess.run([PROGRAM, "build"], input=scenario, stdout=feed, check=True)
+            head = b"profile %d\n" % profile
+            subprocess.run([PROGRAM, "build"], input=head + scenario, stdout=feed, check=True)
         self.kept = run(["replay"], self.feed)[1]
         self.counts = collections.Counter()
         self.wrong = []
@@ -168,7 +169,8 @@ def main():
     if "SPECTRE" not in os.environ:
         subprocess.run([ROOT / "bin/spectre", "make", "0", "0", "1"], check=True)
     with tempfile.TemporaryDirectory() as folder:
-        trials = Trials(folder, int(sys.argv[1]) if len(sys.argv) > 1 else 4)
+        given = list(map(int, sys.argv[1:3]))
+        trials = Trials(folder, *given, *(4, 1)[len(given) :])
         trials.inject("kills", "all", "signal=KILL")
         names = {call.split(b"(")[0].decode() for call in trials.traced(CALLS)}
         for name in sorted(names):

@@ -9,7 +9,7 @@ granted, the run has to end as it does with memory, and to write all. Of `node`,
 with at least the blocks whose lines were written, or none where no line was.
 
 The runs: a scenario of 40 blocks with a list of all pairs and a report, one in which payments turn, a feed
-of 60 blocks with payments, and a node that is sent two blocks. It needs gcc, and runs from anywhere;
+of 60 blocks with payments, and a node that is sent two blocks, in either profile. It needs gcc, and runs from anywhere;
 SPECTRE names another program than the one that bin/spectre has built."""
 
 import os
@@ -140,7 +140,8 @@ class Trials:
 def main():
     drawn = made("make", "40", "1", "4")
     feed = made("build", given=made("make", "60", "7", "3") + b"report\n")
-    two = made("build", given=b"block A on G\nblock B on G\n")
+    blocks = b"block A on G\nblock B on G\n"
+    two, ranked = made("build", given=blocks), made("build", given=b"profile 2\n" + blocks)
     with tempfile.TemporaryDirectory() as folder:
         shim = os.path.join(folder, "shim.so")
         build = ["gcc", "-shared", "-fPIC", "-x", "c", "-o", shim, "-", "-ldl"]
@@ -150,6 +151,7 @@ def main():
             ("payments that turn", ["play"], TURNS),
             ("a feed of 60 blocks", ["replay"], feed),
             ("a node", ["node"], two),
+            ("a node of profile 2", ["node"], ranked),
         ]
         for name, words, given in runs:
             Trials(folder, shim, name, words, given).all()
