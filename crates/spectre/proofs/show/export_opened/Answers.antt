@@ -12,7 +12,7 @@ returns-in_err-write_feed-clause-err g c =
     let o = c.args.opened.now in
     let a = g.K.Sink.taken c.args.sink.now in
     let b = g.K.Sink.taken c.write_feed.new.sink in
-    let is = ap (λ (blocks : List ReadBlock). blocks_text c.args.profile o.bits o.genesis.bytes blocks) c.as_slice.ensures ∙ exported_is c.args.profile o in
+    let is = ap (λ (blocks : List ReadBlock). blocks_text c.args.profile o.bits o.genesis.bytes blocks) c.as_slice-blocks.ensures ∙ exported_is c.args.profile o in
     on_err c.from_residual.result _ (subst (λ (t : List ℕ). AppendsFront a b t) is c.in_err-write_feed.ensures.err)
 
 pub returns-clause-ok : goal.returns-clause-ok
@@ -20,5 +20,5 @@ returns-clause-ok g c =
     let o = c.args.opened.now in
     let a = g.K.Sink.taken c.args.sink.now in
     let b = g.K.Sink.taken c.write_feed.new.sink in
-    let is = ap (λ (blocks : List ReadBlock). blocks_text c.args.profile o.bits o.genesis.bytes blocks) c.as_slice.ensures ∙ exported_is c.args.profile o in
+    let is = ap (λ (blocks : List ReadBlock). blocks_text c.args.profile o.bits o.genesis.bytes blocks) c.as_slice-blocks.ensures ∙ exported_is c.args.profile o in
     subst (λ (t : List ℕ). Appends a b t) is c.in_ok-write_feed.ensures.ok
