@@ -3,11 +3,12 @@
 
     python3 examples/locks.py
 
-A `node` that waits for its feed holds its file: another `node` and a `show` on it end with 124, say so on
-standard error, write nothing and leave the file as it is. So does a `node` where the file is shown, while a
-second `show` isn't hindered. A call on another file goes on, and so does the next one once the first has
-ended or was killed. Where there is no command `flock`, nothing is locked, and that is said. What isn't a
-file that can be opened is left to the program, which ends with 6, and a faulty command line makes no file.
+A `node` that waits for its feed holds its file: another `node`, a `show` and an `export` on it end with
+124, say so on standard error, write nothing and leave the file as it is. So does a `node` where the file is
+shown, while a second `show` and an `export` aren't hindered. A call on another file goes on, and so does the
+next one once the first has ended or was killed. Where there is no command `flock`, nothing is locked, and
+that is said. What isn't a file that can be opened is left to the program, which ends with 6, and a faulty
+command line makes no file.
 
 The program has to be built (`bin/spectre` builds it at its first call). The status is 1 where something is
 otherwise. This can be run from anywhere.
@@ -83,6 +84,7 @@ def try_nodes(folder):
         see("a second node is refused", is_refused(call("node", file), file, before))
         see("and with --fresh, in either place", is_refused(call("node", "--fresh", file), file, before) and is_refused(call("node", file, "--fresh"), file, before))
         see("a show beside a node is refused", is_refused(call("show", file), file, before))
+        see("and an export", is_refused(call("export", file, "2"), file, before))
         see("a node on another file goes on", call("node", other, given=FAULTY).returncode == 2)
     see("the next node goes on once the first has ended", call("node", file, given=FAULTY).returncode == 2)
     with waiting_node(file) as node:
@@ -97,6 +99,7 @@ def try_shows(folder):
     with open(file, "rb") as shown:
         fcntl.flock(shown, fcntl.LOCK_SH)
         see("a second show isn't hindered", call("show", file).returncode == 7)
+        see("nor an export", call("export", file, "1").returncode == 7)
         see("a node where the file is shown is refused", is_refused(call("node", file), file, b""))
 
 

@@ -73,11 +73,13 @@ not_damaged at c e = cc
 no_journal : (job : Option Job) (disk input : List ℕ) → IsNoJournal job disk → IsFaultless job disk input → ⊥
 no_journal (Some (jobs.Keep path fresh)) disk input bad good = (none_says fresh disk input bad).1 good.0
 no_journal (Some (jobs.Show path)) disk input bad good = not_none good.0 (one_kind disk good.0 good.1 NoJournal bad)
+no_journal (Some (jobs.Export path profile)) disk input bad good = not_none good.0 (one_kind disk good.0 good.1 NoJournal bad)
 no_journal other disk input bad good = bad
 
 damaged : (job : Option Job) (disk input : List ℕ) → IsDamaged job disk → IsFaultless job disk input → ⊥
 damaged (Some (jobs.Keep path fresh)) disk input bad good = (damaged_says fresh disk input bad.0 bad.1).1 good.0
 damaged (Some (jobs.Show path)) disk input bad good = not_damaged bad.0 good.0 (one_kind disk good.0 good.1 (Damaged bad.0) bad.1)
+damaged (Some (jobs.Export path profile)) disk input bad good = not_damaged bad.0 good.0 (one_kind disk good.0 good.1 (Damaged bad.0) bad.1)
 damaged other disk input bad good = bad
 
 other_chain : (job : Option Job) (disk input : List ℕ) → IsOtherChain job disk input → IsFaultless job disk input → ⊥
@@ -102,6 +104,7 @@ pub whatever_input : (job : Option Job) (reads before old new : Option (List ℕ
 whatever_input (Some jobs.Replay) reads before old new P any h = h
 whatever_input (Some (jobs.Keep path fresh)) reads before old new P any h = h
 whatever_input (Some (jobs.Show path)) reads before old new P any h = if_all before _ (λ input. if_each reads _ _ (λ disk x. (x.0, any tt disk input x.1)) h)
+whatever_input (Some (jobs.Export path profile)) reads before old new P any h = if_all before _ (λ input. if_each reads _ _ (λ disk x. (x.0, any tt disk input x.1)) h)
 whatever_input (Some jobs.Play) reads before old new P any h = h
 whatever_input (Some jobs.Build) reads before old new P any h = h
 whatever_input other reads before old new P any h = if_all before _ (λ input. (h.0, any tt [] input h.1))

@@ -38,6 +38,8 @@ use Rattle.spectre.proofs.TopCall.{in_all, on_all}
 use Rattle.spectre.proofs.WholeLines.{all_lines}
 use Rattle.spectre.specs.Replay.{head_terms}
 use Rattle.spectre.specs.Scenes.{scene_terms}
+use Rattle.spectre.specs.declared.shape.Shape.{Shape}
+use Rattle.spectre.specs.declared.shape.Shape.TheVariants.{Report, Feed}
 
 -- ---- what was written, in two parts
 
@@ -137,9 +139,9 @@ drilled_is s = refl
 -- ---- what the disk holds
 
 -- what is shown, by what the disk holds
-shown_is : (disk : List ℕ) (r : Records) → records disk ≡ r → shown_output disk ≡ shown_by r
+shown_is : (shape : Shape) (disk : List ℕ) (r : Records) → records disk ≡ r → shown_output shape disk ≡ shown_by shape r
 unfolding shown_output
-shown_is disk r is = ap shown_by is
+shown_is shape disk r is = ap (shown_by shape) is
 
 -- the feed is of another chain
 other_says : (fresh : Bool) (disk input : List ℕ) (h : HasOtherChain disk input) → kept_output fresh disk input ≡ other_chain_text h.contents.bits (sha256_number h.contents.genesis) h.contents.profile h.head.bits (sha256_number h.head.genesis) h.head.profile
@@ -184,12 +186,14 @@ module _ {old new : Option (List ℕ)} where
 
   no_journal : (job : Option Job) (disk input : List ℕ) → Appends old new (output_by job disk input) → IsNoJournal job disk → EndsInLine job disk input status.NotJournal old new
   no_journal (Some (jobs.Keep path fresh)) disk input took bad = alone _ not_journal_text (none_says fresh disk input bad).0 (bad.none, refl) took
-  no_journal (Some (jobs.Show path)) disk input took bad = alone _ not_journal_text (shown_is disk NoJournal bad) (bad, refl) took
+  no_journal (Some (jobs.Show path)) disk input took bad = alone _ not_journal_text (shown_is Report disk NoJournal bad) (bad, refl) took
+  no_journal (Some (jobs.Export path profile)) disk input took bad = alone _ not_journal_text (shown_is (Feed profile) disk NoJournal bad) (bad, refl) took
   no_journal other disk input took bad = absurd bad
 
   damaged : (job : Option Job) (disk input : List ℕ) → Appends old new (output_by job disk input) → IsDamaged job disk → EndsInLine job disk input status.Damaged old new
   damaged (Some (jobs.Keep path fresh)) disk input took bad = alone _ _ (damaged_says fresh disk input bad.0 bad.1).0 (bad.0, bad.1, refl) took
-  damaged (Some (jobs.Show path)) disk input took bad = alone _ _ (shown_is disk (Damaged bad.0) bad.1) (bad.0, bad.1, refl) took
+  damaged (Some (jobs.Show path)) disk input took bad = alone _ _ (shown_is Report disk (Damaged bad.0) bad.1) (bad.0, bad.1, refl) took
+  damaged (Some (jobs.Export path profile)) disk input took bad = alone _ _ (shown_is (Feed profile) disk (Damaged bad.0) bad.1) (bad.0, bad.1, refl) took
   damaged other disk input took bad = absurd bad
 
   other_chain : (job : Option Job) (disk input : List ℕ) → Appends old new (output_by job disk input) → IsOtherChain job disk input → EndsInLine job disk input status.OtherChain old new

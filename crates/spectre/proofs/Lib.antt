@@ -18,3 +18,5 @@ pub mod DiskFirst
 pub mod WholeLines
 pub mod LastLines
 pub mod SmallNumbers
+pub mod Exported
+pub mod Sending

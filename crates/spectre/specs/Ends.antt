@@ -59,6 +59,7 @@ Comes None s = s ≡ status.Usage
 Comes (Some jobs.Replay) s = Replays s
 Comes (Some (jobs.Keep path fresh)) s = KeepsTo s
 Comes (Some (jobs.Show path)) s = Shows s
+Comes (Some (jobs.Export path profile)) s = Shows s
 Comes (Some jobs.Play) s = Plays s
 Comes (Some jobs.Build) s = Plays s
 Comes (Some (jobs.Make n seed width)) s = Makes s

@@ -12,7 +12,7 @@ use Rattle.sp_play.specs.Source.{scenario_limit}
 use Rattle.spectre.specs.Journals.{Fits, HasNoJournal, HasOtherChain, HoldsJournal, IsDamagedDisk}
 use Rattle.spectre.specs.Replay.{fed, feed_limit}
 use Rattle.spectre.specs.declared.job.Job.{Job}
-use Rattle.spectre.specs.declared.job.Job.TheVariants.{Replay, Keep, Show, Play, Build, Make, Drill}
+use Rattle.spectre.specs.declared.job.Job.TheVariants.{Replay, Keep, Show, Export, Play, Build, Make, Drill}
 use Rattle.spectre.specs.declared.status.Status.{Status}
 use Rattle.spectre.specs.declared.status.Status.TheVariants as status
 
@@ -55,6 +55,7 @@ IsFaultless None disk input = ⊥
 IsFaultless (Some Replay) disk input = EndsWhole (fed input).end
 IsFaultless (Some (Keep path fresh)) disk input = Fits fresh disk input × EndsWhole (fed input).end
 IsFaultless (Some (Show path)) disk input = HoldsJournal disk
+IsFaultless (Some (Export path profile)) disk input = HoldsJournal disk
 IsFaultless (Some Play) disk input = IsWholeScene input
 IsFaultless (Some Build) disk input = IsWholeScene input
 IsFaultless (Some (Make n seed width)) disk input = Unit {0}
@@ -87,12 +88,14 @@ IsTooLong other input = ⊥
 abbrev pub IsNoJournal : Option Job → List ℕ → Type 0
 IsNoJournal (Some (Keep path fresh)) disk = HasNoJournal fresh disk
 IsNoJournal (Some (Show path)) disk = records disk ≡ NoJournal
+IsNoJournal (Some (Export path profile)) disk = records disk ≡ NoJournal
 IsNoJournal other disk = ⊥
 
 -- a damaged one
 abbrev pub IsDamaged : Option Job → List ℕ → Type 0
 IsDamaged (Some (Keep path fresh)) disk = IsDamagedDisk disk
 IsDamaged (Some (Show path)) disk = IsDamagedDisk disk
+IsDamaged (Some (Export path profile)) disk = IsDamagedDisk disk
 IsDamaged other disk = ⊥
 
 -- what the disk holds is at fault, before a feed is looked at

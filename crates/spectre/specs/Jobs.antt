@@ -8,7 +8,7 @@ use Rattle.spectre.specs.Words.{word_at}
 use Rattle.spectre.specs.declared.files.FileUse.{FileUse}
 use Rattle.spectre.specs.declared.files.FileUse.TheVariants as uses
 use Rattle.spectre.specs.declared.job.Job.{Job}
-use Rattle.spectre.specs.declared.job.Job.TheVariants.{Replay, Keep, Show, Play, Build, Make, Drill}
+use Rattle.spectre.specs.declared.job.Job.TheVariants.{Replay, Keep, Show, Export, Play, Build, Make, Drill}
 pub use Rattle.spectre.specs.Words.{texts}
 
 -- a job that is a single word
@@ -47,6 +47,7 @@ abbrev pub job_on : List ℕ → FileUse → Job
 job_on path uses.Keep = Keep path false
 job_on path uses.Fresh = Keep path true
 job_on path uses.Show = Show path
+job_on path (uses.Export profile) = Export path profile
 
 abbrev pub job_or : Option (List ℕ × FileUse) → Option Job → Option Job
 job_or (Some file) job = Some (job_on file.0 file.1)
@@ -86,13 +87,15 @@ TakesNothing (Some Replay) = ⊥
 TakesNothing (Some (Keep path fresh)) = ⊥
 TakesNothing other = Unit {0}
 
--- it shows a journal; it names the file of one; else it asks nothing of a disk
+-- it shows a journal, or the feed of its blocks; it names the file of one; else it asks nothing of a disk
 
 abbrev pub Shows : Option Job → Type 0
 Shows (Some (Show path)) = Unit {0}
+Shows (Some (Export path profile)) = Unit {0}
 Shows other = ⊥
 
 abbrev pub NamesFile : Option Job → Type 0
 NamesFile (Some (Keep path fresh)) = Unit {0}
 NamesFile (Some (Show path)) = Unit {0}
+NamesFile (Some (Export path profile)) = Unit {0}
 NamesFile other = ⊥

@@ -15,7 +15,10 @@ use Rattle.sp_journal.specs.Records.{Damaged, Found, NoJournal, Records, records
 use Rattle.sp_names.specs.Labels.{no_labels}
 use Rattle.sp_report.specs.Naming.{hex_label}
 use Rattle.sp_report.specs.Texts.{report_text}
+use Rattle.spectre.specs.Exports.{exported}
 use Rattle.spectre.specs.Replay.{fed, replayed}
+use Rattle.spectre.specs.declared.shape.Shape.{Shape}
+use Rattle.spectre.specs.declared.shape.Shape.TheVariants.{Report, Feed}
 
 -- `fault not-journal`
 unfoldable pub not_journal_text : List ℕ
@@ -71,14 +74,19 @@ abbrev pub report_by : Contents → Result ReadBlock BlockFault → List ℕ
 report_by c (Ok genesis) = report_text c.profile no_labels (kept_by_all c.bits genesis c.blocks)
 report_by c (Err fault) = []
 
-abbrev pub shown_by : Records → List ℕ
-shown_by NoJournal = not_journal_text
-shown_by (Damaged at) = damaged_text at
-shown_by (Found c) = recovered_text (length c.blocks) ++ report_by c (block_in true c.genesis)
+-- of a journal the report, or the feed of its blocks
+abbrev pub told_by : Shape → Contents → List ℕ
+told_by Report c = recovered_text (length c.blocks) ++ report_by c (block_in true c.genesis)
+told_by (Feed profile) c = exported profile c
 
--- what `show` writes
-unfoldable pub shown_output : List ℕ → List ℕ
-shown_output disk = shown_by (records disk)
+abbrev pub shown_by : Shape → Records → List ℕ
+shown_by shape NoJournal = not_journal_text
+shown_by shape (Damaged at) = damaged_text at
+shown_by shape (Found c) = told_by shape c
+
+-- what `show` and `export` write
+unfoldable pub shown_output : Shape → List ℕ → List ℕ
+shown_output shape disk = shown_by shape (records disk)
 
 -- the blocks of the journal that was found
 abbrev pub blocks_in : Records → List (List ℕ)

@@ -7,6 +7,8 @@ pub mod Lines
 pub mod Summary
 pub mod Scenes
 pub mod Replay
+pub mod Sent
+pub mod Exports
 pub mod Journals
 pub mod Output
 pub mod Crashes

@@ -13,6 +13,7 @@ use Rattle.spectre.specs.declared.job.Job.{Job}
 use Rattle.spectre.specs.declared.job.Job.TheVariants as jobs
 use Rattle.spectre.specs.declared.purpose.Purpose.{Purpose}
 use Rattle.spectre.specs.declared.purpose.Purpose.TheVariants.{Play, Build}
+use Rattle.spectre.specs.declared.shape.Shape.TheVariants.{Report, Feed}
 
 abbrev pub is_too_long : List ℕ → Bool
 is_too_long input = nat_le scenario_limit (length input)
@@ -27,7 +28,8 @@ abbrev pub output_by : Option Job → List ℕ → List ℕ → List ℕ
 output_by None disk input = []
 output_by (Some jobs.Replay) disk input = replayed [] input
 output_by (Some (jobs.Keep path fresh)) disk input = kept_output fresh disk input
-output_by (Some (jobs.Show path)) disk input = shown_output disk
+output_by (Some (jobs.Show path)) disk input = shown_output Report disk
+output_by (Some (jobs.Export path profile)) disk input = shown_output (Feed profile) disk
 output_by (Some jobs.Play) disk input = source_output Play input
 output_by (Some jobs.Build) disk input = source_output Build input
 output_by (Some (jobs.Make n seed width)) disk input = made n seed width
@@ -40,6 +42,7 @@ output words disk input = output_by (job_in words) disk input
 abbrev pub disk_told : Option Job → Option (List ℕ) → Option (List ℕ)
 disk_told (Some (jobs.Keep path fresh)) reads = reads
 disk_told (Some (jobs.Show path)) reads = reads
+disk_told (Some (jobs.Export path profile)) reads = reads
 disk_told other reads = Some []
 
 -- what is said of them
@@ -62,6 +65,7 @@ OnInput job left P = IfSome (input_told job left) P
 abbrev pub blocks_before : Option Job → List ℕ → List (List ℕ)
 blocks_before (Some (jobs.Keep path fresh)) disk = found_blocks disk
 blocks_before (Some (jobs.Show path)) disk = found_blocks disk
+blocks_before (Some (jobs.Export path profile)) disk = found_blocks disk
 blocks_before other disk = []
 
 -- what is said of a run that keeps a journal

@@ -6,10 +6,10 @@ use std::alloc::{AllocError, Global};
 
 /// The usage line, without its end.
 pub const USAGE: &str =
-    "usage: spectre play | build | make N SEED WIDTH | drill N SEED WIDTH | replay | node [--fresh] FILE | show FILE";
+    "usage: spectre play | build | make N SEED WIDTH | drill N SEED WIDTH | replay | node [--fresh] FILE | show FILE | export FILE N";
 
 /// The words of each command, and what it reads and writes.
-const COMMANDS: [(&str, &str); 8] = [
+const COMMANDS: [(&str, &str); 9] = [
     (
         "play",
         "reads a scenario, writes the answers to it, with its names",
@@ -33,6 +33,10 @@ const COMMANDS: [(&str, &str); 8] = [
         "makes a new journal also where FILE holds other bytes",
     ),
     ("show FILE", "writes what the journal in FILE holds"),
+    (
+        "export FILE N",
+        "writes the feed of its blocks, N being their profile, 1 or 2",
+    ),
 ];
 
 /// A command of the list.

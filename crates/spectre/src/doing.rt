@@ -15,6 +15,7 @@ use crate::made::{drill_text, make_text};
 use crate::play::from_source;
 use crate::purpose::Purpose;
 use crate::replay::replay;
+use crate::shape::Shape;
 use crate::show::show;
 use crate::status::Status;
 use sp_disk::Disk;
@@ -51,7 +52,8 @@ pub fn do_job<S: Source, K: Sink, D: Disk>(
     match job {
         Job::Replay => replay(alloc, source, sink),
         Job::Keep { fresh, .. } => keep(alloc, *fresh, source, sink, disk),
-        Job::Show { .. } => show(alloc, sink, disk),
+        Job::Show { .. } => show(alloc, Shape::Report, sink, disk),
+        Job::Export { profile, .. } => show(alloc, Shape::Feed(*profile), sink, disk),
         Job::Play => from_source(alloc, Purpose::Play, source, sink),
         Job::Build => from_source(alloc, Purpose::Build, source, sink),
         Job::Make { n, seed, width } => make_text(alloc, *n, *seed, *width, sink),

@@ -8,6 +8,7 @@ ghost use Rattle.spectre.specs.declared.job.JobFault.TheVariants as faults;
 
 use crate::file_name::FileName;
 use crate::files::{FileUse, file_of};
+use sp_model::Profile;
 use sp_play::number_of;
 use std::alloc::Global;
 use thiserror::Error;
@@ -22,6 +23,8 @@ pub enum Job {
     Keep { path: FileName, fresh: bool },
     /// To write what the journal in a file holds.
     Show { path: FileName },
+    /// To write the feed of the blocks that the journal in a file holds, in this profile.
+    Export { path: FileName, profile: Profile },
     /// To answer a scenario.
     Play,
     /// To write the feed of a scenario.
@@ -111,13 +114,14 @@ fn job_on(path: FileName, how: FileUse) -> Job
         FileUse::Keep => Job::Keep { path, fresh: false },
         FileUse::Fresh => Job::Keep { path, fresh: true },
         FileUse::Show => Job::Show { path },
+        FileUse::Export(profile) => Job::Export { path, profile },
     }
 }
 
 /// The job that the words after the program's name ask for: `replay`, `node FILE`, `node --fresh FILE`,
-/// `node FILE --fresh`, `show FILE`, `play`, `build`, `make N SEED WIDTH` or `drill N SEED WIDTH`. FILE
-/// isn't empty and doesn't begin with `-`. The numbers are decimal digits without a leading zero unless
-/// the number is 0.
+/// `node FILE --fresh`, `show FILE`, `export FILE N`, `play`, `build`, `make N SEED WIDTH` or
+/// `drill N SEED WIDTH`. FILE isn't empty and doesn't begin with `-`. The N of `export` is 1 or 2. The
+/// numbers are decimal digits without a leading zero unless the number is 0.
 ///
 /// # Errors
 ///

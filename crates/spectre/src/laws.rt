@@ -3,6 +3,7 @@
 
 ghost use Rattle.std.specs.Prelude.{ℕ, List, Option};
 ghost use Rattle.sp_form.specs.Bytes.{IsBytes};
+ghost use Rattle.spectre.specs.Exports.{ExportIsRead};
 ghost use Rattle.spectre.specs.Rests.{KeptAgree};
 ghost use Rattle.spectre.specs.Talks.{JobAgrees, Talk, TalksAnswerAlike};
 ghost use Rattle.spectre.specs.declared.job.Job.{Job};
@@ -27,4 +28,11 @@ pub fn jobs_agree()
 /// arrived for it, in whatever order.
 pub fn talks_are_alike()
     ensures { (talk other : Talk) → TalksAnswerAlike talk other }
+{}
+
+/// A reader of the feed that is written of a journal finds the profile that was asked for, the journal's
+/// bits of work and genesis block, and its blocks in their order, and that nothing follows.
+#[tactic(auto, using(crate::proofs::Exported::export_is_read))]
+pub fn exports_are_read()
+    ensures { ExportIsRead }
 {}

@@ -18,7 +18,7 @@ use std::alloc::Global;
 use std::fs::Files;
 
 /// The file that the words name as a disk; it is made where it isn't there for `node`, and not for
-/// `show`. Where they name none, the path is empty, and no file is opened.
+/// `show` and `export`. Where they name none, the path is empty, and no file is opened.
 fn disk_of<'a, R: Files>(rt: &'a R, words: &'a [String]) -> FileDisk<'a, R>
     ensures file { IfSome (path_in (texts words.now)) (λ file.
         (result.path.now ≡ file.0) × (result.make ≡ file.1)) }

@@ -1,4 +1,4 @@
-//! What a journal holds: how many records, and the report on its blocks.
+//! What a journal holds: how many records and the report on its blocks, or the feed of these.
 
 ghost use Rattle.std.specs.Prelude.{◌≡◌, ◌≢◌, ◌++◌, false, length, Err, IfErr, IfOk, IfSome, Ok, OnErr, OnOk};
 ghost use Rattle.std.specs.Io.KnownBytes.{Appends};
@@ -10,16 +10,20 @@ ghost use Rattle.sp_journal.specs.Records.{Found, NoJournal, records};
 ghost use Rattle.sp_names.specs.Labels.{no_labels};
 ghost use Rattle.sp_report.specs.Texts.{report_text};
 ghost use Rattle.spectre.specs.Ends.{HasStopCause, Shows};
-ghost use Rattle.spectre.specs.Journals.{HoldsJournal, IsDamagedDisk, recovered_text, shown_by, shown_output};
+ghost use Rattle.spectre.specs.Exports.{exported};
+ghost use Rattle.spectre.specs.Journals.{HoldsJournal, IsDamagedDisk, recovered_text, shown_by, shown_output, told_by};
 
 use crate::ending::Stop;
+use crate::feeding::write_feed;
 use crate::keep::end_with;
 use crate::lines::{damaged_line, not_journal_line, recovered_line};
+use crate::shape::Shape;
 use crate::status::Status;
 use sp_disk::Disk;
 use sp_engine::Engine;
 use sp_io::{Sink, write_whole};
 use sp_journal::{JournalFault, Opened};
+use sp_model::Profile;
 use sp_node::{Stored, recovered};
 use sp_report::{Naming, Text, TextFault, write_text};
 use std::alloc::Global;
@@ -42,13 +46,13 @@ fn tell<K: Sink>(alloc: Global, engine: &Engine, count: u16, sink: &mut K) -> Re
     }
 }
 
-/// Writes what an opened journal holds.
+/// Writes how many records an opened journal has, and the report on its blocks.
 #[tactic(auto, using(sp_io::proofs::Stops::stops_at_start))]
 fn tell_opened<K: Sink>(alloc: Global, opened: Opened, sink: &mut K) -> Result<(), Stop>
     ensures ok { OnOk result (Appends (K.taken sink.old) (K.taken sink.new)
-        (shown_by (Found (contents_in opened)))) }
+        (told_by Shape.Report (contents_in opened))) }
     ensures err { OnErr result (AppendsFront (K.taken sink.old) (K.taken sink.new)
-        (shown_by (Found (contents_in opened)))) }
+        (told_by Shape.Report (contents_in opened))) }
     ensures cause { IfErr result (HasStopCause (K.faults sink.old) (K.faults sink.new)) }
     ensures quiet { result ≢ Err Stop.WriteFault → K.faults sink.new ≡ K.faults sink.old }
 {
@@ -57,19 +61,48 @@ fn tell_opened<K: Sink>(alloc: Global, opened: Opened, sink: &mut K) -> Result<(
     tell(alloc, &engine, count, sink)
 }
 
+/// Writes the feed of an opened journal's blocks.
+fn export_opened<K: Sink>(profile: Profile, opened: &Opened, sink: &mut K) -> Result<(), Stop>
+    ensures ok { OnOk result (Appends (K.taken sink.old) (K.taken sink.new)
+        (exported profile (contents_in opened.now))) }
+    ensures err { OnErr result (AppendsFront (K.taken sink.old) (K.taken sink.new)
+        (exported profile (contents_in opened.now))) }
+    ensures cause { IfErr result (HasStopCause (K.faults sink.old) (K.faults sink.new)) }
+    ensures quiet { result ≢ Err Stop.WriteFault → K.faults sink.new ≡ K.faults sink.old }
+{
+    let blocks = opened.blocks.as_slice();
+    write_feed(profile, opened.bits, &opened.genesis, blocks, sink)?;
+    Ok(())
+}
+
+/// Writes what is asked of an opened journal.
+fn tell_of<K: Sink>(alloc: Global, shape: Shape, opened: Opened, sink: &mut K) -> Result<(), Stop>
+    ensures ok { OnOk result (Appends (K.taken sink.old) (K.taken sink.new)
+        (shown_by shape (Found (contents_in opened)))) }
+    ensures err { OnErr result (AppendsFront (K.taken sink.old) (K.taken sink.new)
+        (shown_by shape (Found (contents_in opened)))) }
+    ensures cause { IfErr result (HasStopCause (K.faults sink.old) (K.faults sink.new)) }
+    ensures quiet { result ≢ Err Stop.WriteFault → K.faults sink.new ≡ K.faults sink.old }
+{
+    match shape {
+        Shape::Report => tell_opened(alloc, opened, sink),
+        Shape::Feed(profile) => export_opened(profile, &opened, sink),
+    }
+}
+
 /// Writes what the journal on a disk holds: `recovered N`, N being the number of its records, and the
-/// report on its blocks. The disk is only looked at.
-pub fn show<K: Sink, D: Disk>(alloc: Global, sink: &mut K, disk: &mut D) -> Status
+/// report on its blocks; or the feed of its blocks. The disk is only looked at.
+pub fn show<K: Sink, D: Disk>(alloc: Global, shape: Shape, sink: &mut K, disk: &mut D) -> Status
     ensures done { result ≡ Status.Done → IfSome (D.now disk.old).reads (λ bytes.
-        Appends (K.taken sink.old) (K.taken sink.new) (shown_output bytes) × HoldsJournal bytes) }
+        Appends (K.taken sink.old) (K.taken sink.new) (shown_output shape bytes) × HoldsJournal bytes) }
     ensures not_journal { result ≡ Status.NotJournal → IfSome (D.now disk.old).reads (λ bytes.
-        Appends (K.taken sink.old) (K.taken sink.new) (shown_output bytes) × (records bytes ≡ NoJournal)) }
+        Appends (K.taken sink.old) (K.taken sink.new) (shown_output shape bytes) × (records bytes ≡ NoJournal)) }
     ensures damaged { result ≡ Status.Damaged → IfSome (D.now disk.old).reads (λ bytes.
-        Appends (K.taken sink.old) (K.taken sink.new) (shown_output bytes) × IsDamagedDisk bytes) }
+        Appends (K.taken sink.old) (K.taken sink.new) (shown_output shape bytes) × IsDamagedDisk bytes) }
     ensures write_fault { result ≡ Status.WriteFault → IfSome (D.now disk.old).reads (λ bytes.
-        AppendsFront (K.taken sink.old) (K.taken sink.new) (shown_output bytes)) }
+        AppendsFront (K.taken sink.old) (K.taken sink.new) (shown_output shape bytes)) }
     ensures memory { result ≡ Status.Memory → IfSome (D.now disk.old).reads (λ bytes.
-        AppendsFront (K.taken sink.old) (K.taken sink.new) (shown_output bytes)) }
+        AppendsFront (K.taken sink.old) (K.taken sink.new) (shown_output shape bytes)) }
     ensures disk_fault { result ≡ Status.DiskFault → sink.new ≡ sink.old }
     ensures looks { Looks (D.now disk.old) (D.now disk.new) }
     ensures write_cause { result ≡ Status.WriteFault → Rose (K.faults sink.old) (K.faults sink.new) }
@@ -79,7 +112,7 @@ pub fn show<K: Sink, D: Disk>(alloc: Global, sink: &mut K, disk: &mut D) -> Stat
     ensures among { Shows result }
 {
     match Stored::open(alloc, disk, false) {
-        Ok(Stored::Found(opened)) => match tell_opened(alloc, opened, sink) {
+        Ok(Stored::Found(opened)) => match tell_of(alloc, shape, opened, sink) {
             Ok(()) => Status::Done,
             Err(Stop::WriteFault) => Status::WriteFault,
             Err(Stop::Memory) => Status::Memory,

@@ -16,6 +16,10 @@ pub const FRESH: &[u8] = b"node\n--fresh\nf";
 
 pub const SHOW: &[u8] = b"show\nf";
 
+pub const EXPORT: &[u8] = b"export\nf\n1";
+
+pub const EXPORT_SECOND: &[u8] = b"export\nf\n2";
+
 /// The feed of the two blocks.
 pub fn both(alloc: Global) -> Text {
     feed_of(alloc, 0, b"A\nB\n", END)

@@ -1,8 +1,8 @@
-//! Journals that are damaged: each cause, at the place of the record's gate, by both commands that open
+//! Journals that are damaged: each cause, at the place of the record's gate, by the commands that open
 //! one, which leave it as it is and read nothing of a feed.
 
 use crate::status::Status;
-use crate::tests::crashes::{FRESH, NODE, SHOW};
+use crate::tests::crashes::{EXPORT_SECOND, FRESH, NODE, SHOW};
 use crate::tests::disks::{EMPTY, Held, Left, bytes_of, tries_on};
 use crate::tests::feed_bytes::{head_of, put_front};
 use crate::tests::text::{Text, joined};
@@ -67,7 +67,7 @@ fn finds(
     tries_on(rt, alloc, name, &trial, &wanted, bytes, Left::AsBefore);
 }
 
-const ALL: &[&[u8]] = &[NODE, FRESH, SHOW];
+const ALL: &[&[u8]] = &[NODE, FRESH, SHOW, EXPORT_SECOND];
 
 #[test]
 fn each_cause(rt: HostRuntime) {

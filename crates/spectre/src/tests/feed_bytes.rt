@@ -144,17 +144,32 @@ fn put_message(out: &mut Text, message: &[u8]) {
     }
 }
 
-/// The head of a feed.
-pub fn head_of(alloc: Global, bits: u8) -> Text {
-    let mut out = Text::of(alloc, b"SPCTRF01");
+/// What a feed of profile 1 begins with.
+pub const FIRST: &[u8] = b"SPCTRF01";
+
+/// What a feed of profile 2 begins with.
+pub const SECOND: &[u8] = b"SPCTRF02";
+
+fn head_as(alloc: Global, version: &[u8], bits: u8) -> Text {
+    let mut out = Text::of(alloc, version);
     out.put(&[bits]);
     put_block(&mut out, b'G', 0);
     out
 }
 
+/// The head of a feed.
+pub fn head_of(alloc: Global, bits: u8) -> Text {
+    head_as(alloc, FIRST, bits)
+}
+
 /// A feed: the head, the frame of each line's message, and then these bytes.
 pub fn feed_of(alloc: Global, bits: u8, messages: &[u8], tail: &[u8]) -> Text {
-    let mut out = head_of(alloc, bits);
+    feed_as(alloc, FIRST, bits, messages, tail)
+}
+
+/// The same, where it begins so.
+pub fn feed_as(alloc: Global, version: &[u8], bits: u8, messages: &[u8], tail: &[u8]) -> Text {
+    let mut out = head_as(alloc, version, bits);
     for message in str::from_utf8(messages).unwrap_or("?").lines() {
         put_message(&mut out, message.as_bytes());
     }

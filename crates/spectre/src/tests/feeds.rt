@@ -2,7 +2,7 @@
 //! SHA-256 by another program, and the answers were worked out by hand from the rules.
 
 use crate::status::Status;
-use crate::tests::feed_bytes::{END, feed_of, in_full};
+use crate::tests::feed_bytes::{END, FIRST, SECOND, feed_as, in_full};
 use crate::tests::text::Text;
 use crate::tests::{Rest, Trial, WIDE, Wanted, tries};
 use std::alloc::Global;
@@ -83,14 +83,26 @@ pub fn replays(
     tries(rt, alloc, name, at, &trial, &wanted);
 }
 
+/// Feeds of profile 2.
+#[rattlefmt::skip]
+const OF_SECOND: &[Fed] = &[
+    Fed { name: "a report alone", bits: 0, messages: b"", tail: b"R\0\0\0\0E\0\0\0\0", output: b"blocks 1 waiting 0\naccepted 0\nbalances 0\n", ended: DONE },
+    Fed { name: "a block on both is for the lower salt", bits: 0, messages: b"A\nB\nAB\nH\nAB\n", tail: END, output: b"kept A present 1\nkept B present 1\nvote A B tie\nkept H present 1\nvote A B before\n", ended: DONE },
+];
+
+fn are_answered(rt: &impl Abort, alloc: Global, version: &[u8], feeds: &[Fed]) {
+    for (at, fed) in feeds.iter().enumerate() {
+        let input = feed_as(alloc, version, fed.bits, fed.messages, fed.tail);
+        let output = in_full(alloc, fed.output);
+        let (input, output) = (input.whole(rt), output.whole(rt));
+        replays(rt, alloc, (fed.name, at), input, fed.ended, output);
+    }
+}
+
 #[test]
 fn answers(rt: HostRuntime) {
-    for (at, fed) in FEEDS.iter().enumerate() {
-        let input = feed_of(rt.alloc(), fed.bits, fed.messages, fed.tail);
-        let output = in_full(rt.alloc(), fed.output);
-        let (input, output) = (input.whole(&rt), output.whole(&rt));
-        replays(&rt, rt.alloc(), (fed.name, at), input, fed.ended, output);
-    }
+    are_answered(&rt, rt.alloc(), FIRST, FEEDS);
+    are_answered(&rt, rt.alloc(), SECOND, OF_SECOND);
 }
 
 /// The smallest feed: the head with the smallest genesis block, and the end.
@@ -104,7 +116,8 @@ pub const SMALLEST: &[u8] = &[
 const CHANGED: &[(usize, u8, Ending, &[u8])] = &[
     (0, b'S', DONE, b""),
     (0, b's', (Status::Malformed, None), b"fault malformed 0\n"),
-    (7, b'2', (Status::Malformed, None), b"fault malformed 0\n"),
+    (7, b'2', DONE, b""),
+    (7, b'3', (Status::Malformed, None), b"fault malformed 0\n"),
     (8, 65, (Status::Malformed, None), b"fault malformed 8\n"),
     (9, b'E', (Status::Malformed, None), b"fault malformed 9\n"),
     (10, 19, (Status::Malformed, None), b"fault malformed 14\n"),

@@ -21,6 +21,8 @@ const SHOW: &[u8] = b"show\nspectre_tests.journal\n";
 
 const OTHER: &[u8] = b"show\nspectre_tests.other\n";
 
+const NO_EXPORT: &[u8] = b"export\nspectre_tests.other\n2\n";
+
 const NEW: &[u8] = b"kept A present 1\nkept B present 1\n";
 
 const OLD: &[u8] = b"known A\nknown B\n";
@@ -37,6 +39,7 @@ const ROWS: &[Row] = &[
     (NODE, true, Status::Done, OLD),
     (SHOW, false, Status::Done, SHOWN),
     (OTHER, false, Status::DiskFault, b""),
+    (NO_EXPORT, false, Status::DiskFault, b""),
 ];
 
 /// Compares what a row writes, by what is on the files.
@@ -56,7 +59,7 @@ fn try_row<R: Files + Abort>(rt: &R, alloc: Global, at: usize, (words, fed, stat
     assert!(rt; is_so, "{at}: {ended:?}");
 }
 
-/// `show` makes no file.
+/// `show` and `export` make no file.
 #[test]
 fn a_journal_in_a_file(rt: HostRuntime) {
     let _ = fs::remove_file(&rt, PATH);

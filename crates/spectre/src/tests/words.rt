@@ -6,6 +6,7 @@ use crate::job::{Job, JobFault, read_job};
 use crate::status::Status;
 use crate::tests::text::Text;
 use crate::tests::{Ends, SAMPLE, Trial, WIDE, Wanted, tries, words_of};
+use sp_model::Profile;
 use std::alloc::Global;
 use std::process::Abort;
 
@@ -75,6 +76,20 @@ show|--fresh|
 show|--fresh|f|
 show|f|--fresh|
 show|f|g|
+export|
+export|f|
+export||1|
+export|-f|1|
+export|f|3|
+export|f|0|
+export|f|01|
+export|f|2 |
+export|f||
+export|1|f|
+export|f|2|1|
+export|f|--fresh|
+export|--fresh|f|
+exports|f|1|
 shown|f|
 play|f|
 replay|f|
@@ -199,6 +214,7 @@ enum Done {
     /// With a new journal where it holds none.
     KeptFresh,
     Shown,
+    Exported(Profile),
 }
 
 /// Words that name a file, and the file.
@@ -220,6 +236,10 @@ const FILES: &[(&[u8], &str, Done)] = &[
     (b"show\n -f", " -f", Done::Shown),
     (b"node\n\xc3\xa4", "\u{e4}", Done::Kept),
     (b"node\nf\0g", "f\0g", Done::Kept),
+    (b"export\nf\n1", "f", Done::Exported(Profile::One)),
+    (b"export\nf\n2", "f", Done::Exported(Profile::Two)),
+    (b"export\nexport\n2", "export", Done::Exported(Profile::Two)),
+    (b"export\n1\n1", "1", Done::Exported(Profile::One)),
 ];
 
 /// Whether the words ask for this.
@@ -230,6 +250,9 @@ fn asks_for(alloc: Global, words: &[String], file: &str, done: Done) -> bool {
             path.as_str() == file && done == wanted
         }
         Ok(Job::Show { path }) => path.as_str() == file && done == Done::Shown,
+        Ok(Job::Export { path, profile }) => {
+            path.as_str() == file && done == Done::Exported(profile)
+        }
         _ => false,
     }
 }
@@ -238,7 +261,7 @@ fn asks_for(alloc: Global, words: &[String], file: &str, done: Done) -> bool {
 fn files(rt: HostRuntime) {
     for (at, (words, file, done)) in FILES.iter().enumerate() {
         let words = words_of(&rt, rt.alloc(), words);
-        let made = *done != Done::Shown;
+        let made = matches!(done, Done::Kept | Done::KeptFresh);
         let is_so = path_of(&words) == Some((*file, made));
         assert!(&rt; is_so && asks_for(rt.alloc(), &words, file, *done), "{at}");
     }
@@ -270,6 +293,7 @@ const ROWS: &[&str] = &[
     "  node FILE ",
     "  node --fresh FILE ",
     "  show FILE ",
+    "  export FILE N ",
 ];
 
 /// Whether these rows and no others stand behind the first line.

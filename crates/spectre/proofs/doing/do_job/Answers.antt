@@ -88,6 +88,41 @@ returns-in-Show-clause-ends g c =
 pub returns-in-Show-clause-read_cause : goal.returns-in-Show-clause-read_cause
 returns-in-Show-clause-read_cause g c = λ s. absurd (subst Shows s c.show.ensures.among)
 
+pub returns-in-Export-clause-ends : goal.returns-in-Export-clause-ends
+returns-in-Export-clause-ends g c =
+    let first = g.D.Disk.now c.args.disk.now in
+    let last = g.D.Disk.now c.show-in-Export.new.disk in
+    let before = g.S.Source.left c.args.source.now in
+    let after = before in
+    let old = g.K.Sink.taken c.args.sink.now in
+    let new = g.K.Sink.taken c.show-in-Export.new.sink in
+    let e = c.show-in-Export.ensures in
+    let job = jobs.Export c.in-Export.path c.in-Export.profile in
+    subst (λ (j : Job). JobEnds (Some j) first.reads before after old new first last c.show-in-Export.result) (sym c.in-Export.is) record {
+      by = on_status (WritesBy (Some job) first.reads before after old new) c.show-in-Export.result
+          (λ s. (e.done s, left_whole before))
+          (λ s. absurd (subst Shows s e.among))
+          (λ s. absurd (subst Shows s e.among))
+          (λ s. absurd (subst Shows s e.among))
+          (λ s. absurd (subst Shows s e.among))
+          (λ s. e.write_fault s)
+          (λ s. λ fed. absurd fed)
+          (λ s. e.not_journal s)
+          (λ s. absurd (subst Shows s e.among))
+          (λ s. e.memory s)
+          (λ s. e.damaged s)
+          (λ s. absurd (subst Shows s e.among));
+      taken = λ takes. absurd takes;
+      taken_fed = λ fed. absurd fed;
+      chain = if_all first.reads _ (λ bytes other. absurd other);
+      onward = tt;
+      lasting = tt;
+      crash = tt;
+    }
+
+pub returns-in-Export-clause-read_cause : goal.returns-in-Export-clause-read_cause
+returns-in-Export-clause-read_cause g c = λ s. absurd (subst Shows s c.show-in-Export.ensures.among)
+
 pub returns-in-Play-clause-ends : goal.returns-in-Play-clause-ends
 returns-in-Play-clause-ends g c =
     let first = g.D.Disk.now c.args.disk.now in
@@ -255,3 +290,7 @@ returns-in-Keep-clause-disk_first g c = first_of (Some c.args.job.now) (Some (jo
 pub returns-in-Show-clause-disk_first : goal.returns-in-Show-clause-disk_first
 returns-in-Show-clause-disk_first g c = first_of (Some c.args.job.now) (Some (jobs.Show c.in-Show.path)) (g.D.Disk.now c.args.disk.now).reads _ (ap Some c.in-Show.is)
     (shown_first c.show.result (g.D.Disk.now c.args.disk.now).reads c.show.ensures.among (λ s. shown_journal _ (g.D.Disk.now c.args.disk.now).reads (c.show.ensures.done s)) refl)
+
+pub returns-in-Export-clause-disk_first : goal.returns-in-Export-clause-disk_first
+returns-in-Export-clause-disk_first g c = first_of (Some c.args.job.now) (Some (jobs.Export c.in-Export.path c.in-Export.profile)) (g.D.Disk.now c.args.disk.now).reads _ (ap Some c.in-Export.is)
+    (shown_first c.show-in-Export.result (g.D.Disk.now c.args.disk.now).reads c.show-in-Export.ensures.among (λ s. shown_journal _ (g.D.Disk.now c.args.disk.now).reads (c.show-in-Export.ensures.done s)) refl)
