@@ -122,8 +122,20 @@ fn on_a_journal(rt: HostRuntime) -> Result<(), Fail> {
 /// The two profiles, and the byte by which a journal names each.
 const NAMED: [(Profile, u8); 2] = [(Profile::One, b'1'), (Profile::Two, b'2')];
 
+/// The fault of a start on a journal of one profile with a head of another one.
+fn other_profile(stored: Profile, fed: Profile) -> Result<StartFault, Fail> {
+    Ok(StartFault::OtherChain {
+        stored_bits: 0,
+        stored: genesis_id(0)?,
+        stored_profile: stored,
+        fed_bits: 0,
+        fed: genesis_id(0)?,
+        fed_profile: fed,
+    })
+}
+
 /// Whether a journal of one profile serves a head of another one just where they are the same, and
-/// the fault names both.
+/// the fault names both; and the disk is as it was.
 fn is_of_profile(blocks: &Numbered, stored: (Profile, u8), fed: Profile) -> Result<bool, Fail> {
     let mut bytes = journal(0, 0, blocks, &[1])?;
     if let Some(there) = bytes.get_mut(8) {
@@ -131,24 +143,16 @@ fn is_of_profile(blocks: &Numbered, stored: (Profile, u8), fed: Profile) -> Resu
     }
     let disk = disk_of(blocks.alloc, &bytes, 4096, Fails::Never)?;
     let head = head_in(blocks.alloc, fed, 0, 0)?;
-    match start(blocks.alloc, disk, false, head) {
-        Started::Refused(_, why) => {
-            let fault = StartFault::OtherChain {
-                stored_bits: 0,
-                stored: genesis_id(0)?,
-                stored_profile: stored.0,
-                fed_bits: 0,
-                fed: genesis_id(0)?,
-                fed_profile: fed,
-            };
-            Ok(stored.0 != fed && why == Why::Starting(fault))
-        }
+    let fault = other_profile(stored.0, fed)?;
+    let (is_so, disk) = match start(blocks.alloc, disk, false, head) {
+        Started::Refused(disk, why) => { (stored.0 != fed && why == Why::Starting(fault), disk) }
         Started::Served(served) => {
             let profile = served.engine().profile();
-            drop(served);
-            Ok(stored.0 == fed && profile == fed)
+            let disk = served.into_disk();
+            (stored.0 == fed && profile == fed, disk)
         }
-    }
+    };
+    Ok(is_so && disk.image(Pick::Fill(7))?.as_slice() == bytes.as_slice())
 }
 
 #[test]
