@@ -197,8 +197,8 @@ class NotJournal(Ended):
 
 
 class OtherChain(Ended):
-    """The journal has other bits of work or another genesis block: `numbers` are the bits and `ids` the
-    genesis ids, first of the journal and then of what was asked for."""
+    """The journal has other bits of work, another genesis block or another profile: `numbers` are bits and
+    profile and `ids` the genesis ids, first of the journal and then of what was asked for."""
 
 
 class Memory(Ended):

@@ -260,7 +260,23 @@ class Files(Case):
         self.opened().close()
         with self.assertRaises(errors.OtherChain) as caught:
             self.opened(EMPTY, bits=3)
-        self.assertEqual((caught.exception.numbers, caught.exception.ids), ([0, 3], [G, sha256(EMPTY)]))
+        self.assertEqual((caught.exception.numbers, caught.exception.ids), ([0, 1, 3, 1], [G, sha256(EMPTY)]))
+
+    def test_profiles(self) -> None:
+        """The block on two tied ones settles the tie in profile 2, and a journal stays of its profile."""
+        on_both = block(4, sorted([ID_A, ID_B]))
+        for profile, word in ((1, "tie"), (2, "before")):
+            self.file = os.path.join(os.path.dirname(self.file), f"journal {profile}")
+            with self.opened(profile=profile) as ledger:
+                ledger.offer(A), ledger.offer(B)
+                self.assertEqual(ledger.vote(ID_A, ID_B).word, "tie")
+                ledger.offer(on_both)
+                self.assertEqual(ledger.vote(ID_A, ID_B).word, word)
+            with Ledger(self.file) as ledger:
+                self.assertEqual((ledger.profile, ledger.vote(ID_A, ID_B).word), (profile, word))
+            with self.assertRaises(errors.OtherChain) as caught:
+                Ledger(self.file, profile=3 - profile)
+            self.assertEqual(caught.exception.numbers, [0, profile, 0, 3 - profile])
 
     def test_other_bytes(self) -> None:
         pathlib.Path(self.file).write_bytes(b"hello, this is no journal")
@@ -373,7 +389,7 @@ class Ends(Case):
         ids = "ab" * 32
         cases = [
             ("echo fault too-long 4294967295; exit 11", errors.TooLong, [4294967295], b""),
-            (f"echo fault other-chain 8 {ids} 0 {ids}; exit 8", errors.OtherChain, [8, 0], b""),
+            (f"echo fault other-chain 8 {ids} 1 0 {ids} 2; exit 8", errors.OtherChain, [8, 1, 0, 2], b""),
             ("printf 'vote 12'; exit 9", errors.Memory, [], b"vote 12"),
             ("printf 'vote 12'; exit 5", errors.WriteFault, [], b"vote 12"),
             ("printf 'vote 12'; kill -9 $$", errors.CutLine, [], b"vote 12"),
