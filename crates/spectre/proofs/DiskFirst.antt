@@ -1,12 +1,13 @@
 -- What the disk holds is looked at first: where it is at fault, the run ends by that.
 use Rattle.std.proofs.Common.{◌≡◌, ◌⊎◌, inl, inr, ℕ, Bool, true, false, List, Option, Some, None, IfSome, Ok, sym, subst, ◌∙◌}
+use Rattle.sp_journal.specs.Creation.{HoldsJournal}
 use Rattle.sp_journal.specs.Records.{Damaged, Found, NoJournal, Records, records}
 use Rattle.sp_node.specs.Stored.{Tells}
 use Rattle.sp_node.specs.declared.stored.Stored.{Stored}
 use Rattle.sp_node.specs.declared.stored.Stored.TheVariants as stores
 use Rattle.spectre.specs.Ends.{EndsByDisk, Shows}
 use Rattle.spectre.specs.Faults.{IsDiskAtFault}
-use Rattle.spectre.specs.Journals.{HasNoJournal, HoldsJournal, IsDamagedDisk}
+use Rattle.spectre.specs.Journals.{HasNoJournal, IsDamagedDisk}
 use Rattle.spectre.specs.Output.{OnDisk}
 use Rattle.spectre.specs.declared.job.Job.{Job}
 use Rattle.spectre.specs.declared.status.Status.{Status}

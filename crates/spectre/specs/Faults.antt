@@ -5,11 +5,12 @@ use Rattle.sp_feed.specs.Feed.{End, Malformed, TooLong, Truncated, Whole}
 use Rattle.sp_feed.specs.declared.fault.FeedFault.{FeedFault}
 use Rattle.sp_feed.specs.declared.fault.FeedFault.TheVariants as faults
 use Rattle.sp_report.specs.Lines.{malformed_text, too_long_text, truncated_text}
+use Rattle.sp_journal.specs.Creation.{HoldsJournal}
 use Rattle.sp_journal.specs.Records.{NoJournal, records}
 use Rattle.sp_make.specs.Made.{made}
 use Rattle.sp_play.specs.Scene.{scene}
 use Rattle.sp_play.specs.Source.{scenario_limit}
-use Rattle.spectre.specs.Journals.{Fits, HasNoJournal, HasOtherChain, HoldsJournal, IsDamagedDisk}
+use Rattle.spectre.specs.Journals.{Fits, HasNoJournal, HasOtherChain, IsDamagedDisk}
 use Rattle.spectre.specs.Replay.{fed, feed_limit}
 use Rattle.spectre.specs.declared.job.Job.{Job}
 use Rattle.spectre.specs.declared.job.Job.TheVariants.{Replay, Keep, Show, Export, Play, Build, Make, Drill}

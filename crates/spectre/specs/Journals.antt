@@ -114,11 +114,7 @@ FitsHead fresh disk (Found c) (Some head) = IsChainOf c head
 abbrev pub Fits : Bool → List ℕ → List ℕ → Type 0
 Fits fresh disk input = FitsHead fresh disk (records disk) (fed input).head
 
--- it holds a journal
-abbrev pub HoldsJournal : List ℕ → Type 0
-HoldsJournal disk = (c : Contents) × (records disk ≡ Found c)
-
--- it holds none, and none may be made
+-- the disk holds no journal, and none may be made
 pub record HasNoJournal (fresh : Bool) (disk : List ℕ) : Type 0 where
   pub none : records disk ≡ NoJournal
   pub some : length disk ≢ 0

@@ -5,13 +5,14 @@ ghost use Rattle.std.specs.Io.KnownBytes.{Appends};
 ghost use Rattle.sp_io.specs.Causes.{Rose};
 ghost use Rattle.sp_io.specs.Whole.{AppendsFront};
 ghost use Rattle.sp_disk.specs.Moments.{Looks};
+ghost use Rattle.sp_journal.specs.Creation.{HoldsJournal};
 ghost use Rattle.sp_journal.specs.Opening.{contents_in};
 ghost use Rattle.sp_journal.specs.Records.{Found, NoJournal, records};
 ghost use Rattle.sp_names.specs.Labels.{no_labels};
 ghost use Rattle.sp_report.specs.Texts.{report_text};
 ghost use Rattle.spectre.specs.Ends.{HasStopCause, Shows};
 ghost use Rattle.spectre.specs.Exports.{exported};
-ghost use Rattle.spectre.specs.Journals.{HoldsJournal, IsDamagedDisk, recovered_text, shown_by, shown_output, told_by};
+ghost use Rattle.spectre.specs.Journals.{IsDamagedDisk, recovered_text, shown_by, shown_output, told_by};
 
 use crate::ending::Stop;
 use crate::feeding::write_feed;
