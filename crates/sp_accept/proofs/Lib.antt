@@ -19,3 +19,4 @@ pub mod Reached
 pub mod Updated
 pub mod Outcome
 pub mod Rowwise
+pub mod Accepting

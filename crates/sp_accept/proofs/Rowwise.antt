@@ -1,7 +1,7 @@
 -- What rows of blocks say of the rivals of a carrier is what one look after another finds.
 use Rattle.std.proofs.Common.{◌≡◌, ℕ, ◌+◌, ◌<◌, Bool, true, false, cond, ◌&&◌, ◌||◌, not, nat_lt, List, [], ◌∷◌, length, refl, sym, ap, ◌∙◌, subst, inl, inr, arith, eqb}
 use Rattle.std.specs.List.{list_all, list_any}
-use Rattle.std.proofs.lemmas.Bool.{and_from, and_parts, cases_lt, eqb-true, eq-eqb, false≢true, false_from_ne_true, le-ltb, lt-ltb, ne_eqb, not-true}
+use Rattle.std.proofs.lemmas.Bool.{and_from, and_parts, cases_lt, eqb-true, eq-eqb, false≢true, false_from_ne_true, le-ltb, lt-ltb, ne_eqb, not-true, not_from_false}
 use Rattle.sp_bits.specs.Members.{has-places_where}
 use Rattle.sp_bits.proofs.Counts.{has-small}
 use Rattle.sp_model.specs.Graph.{has}
@@ -13,7 +13,13 @@ use Rattle.sp_carry.specs.Carried.{Carried, IsCarried}
 use Rattle.sp_carry.specs.Lookups.{is_spent_by}
 use Rattle.sp_carry.specs.RivalBlocks.{has_rival_in, is_rival_in, rival_blocks}
 use Rattle.sp_carry.proofs.Members.{IsIn, any_of_member, member_of_all, member_of_any}
+use Rattle.sp_carry.specs.Carried.{carriers_in}
 use Rattle.sp_carry.specs.Flags.{is_set}
+use Rattle.sp_carry.specs.Lookups.{spenders_in}
+use Rattle.sp_tx.specs.Parts.{of_parts}
+use Rattle.sp_model.proofs.Sets.{same_truth}
+use Rattle.sp_accept.specs.AcceptedRows.{is_other_outside, is_spent_outside, stands_outside}
+use Rattle.sp_accept.proofs.Numbers.{carrier_of, of_carrier, of_spender, spender_of}
 use Rattle.sp_accept.specs.Around.{is_unbeaten, IsAround}
 use Rattle.sp_accept.specs.Pass.{has_source, inputs_at, is_lost, is_next}
 use Rattle.sp_accept.specs.Rows.{no_row, payment_at, row_at, AreOf}
@@ -93,14 +99,14 @@ around_fewer table z rivals fewer beaten safe within h = record {
 
 -- ---- lists
 
-in_row : (set : List ℕ) (w : ℕ) → has set w ≡ true → IsIn set w
+pub in_row : (set : List ℕ) (w : ℕ) → has set w ≡ true → IsIn set w
 in_row set w h =
     (let m : (p : ℕ) × IsIn set p × (eqb p w ≡ true) = member_of_any (λ p. eqb p w) set h in subst (IsIn set) (eqb-true m.0 w m.2) m.1)
 
-has_in : (set : List ℕ) (w : ℕ) → IsIn set w → has set w ≡ true
+pub has_in : (set : List ℕ) (w : ℕ) → IsIn set w → has set w ≡ true
 has_in set w h = any_of_member (λ p. eqb p w) set w h (eq-eqb w w refl)
 
-one_out : (p : ℕ → Bool) (xs : List ℕ) → list_all p xs ≡ false → (x : ℕ) × IsIn xs x × (p x ≡ false)
+pub one_out : (p : ℕ → Bool) (xs : List ℕ) → list_all p xs ≡ false → (x : ℕ) × IsIn xs x × (p x ≡ false)
 one_out p [] h = absurd (false≢true (sym h))
 one_out p (x ∷ xs) h = at (λ rest. one_out p xs rest) (p x) refl h
   where
@@ -190,31 +196,107 @@ module _ (table : Numbered) (k : Carried) (carried : IsCarried k) (of : AreOf ta
           lost_at table k kept of.long of.order of.sound none flags c e i.0 (record { within = le; input = i.1; spent = i.2; apart = i.3; valid = p.0 })
           (and_from (row_at k.rows e).sound _ p.0 (pick (is_below table (block_of e) (block_of c)) (is_set flags e) (rest e) s.0 s.1))
 
+  -- where none stands in the way from beside, those do that are accepted outside of the safe blocks
+  abbrev is_near : Bool
+  is_near = list_any (is_spent_outside k flags safe (tx_of c)) (inputs_at k (tx_of c))
+
+  free_is : list_all (has beaten) (rival_blocks k (tx_of c)) ≡ true → (e : ℕ) (i : Input) → IsRivalAt table k kept of.long of.order of.sound none c i e
+      → (not (is_unbeaten table (block_of c) (block_of e)) ≡ true) × (has safe (block_of e) ≡ (not (is_unbeaten table (block_of c) (block_of e)) && not (is_below table (block_of e) (block_of c))))
+  free_is h e i r =
+      let there : has (rival_blocks k (tx_of c)) (block_of e) ≡ true = has_in (rival_blocks k (tx_of c)) (block_of e) (rival_in e i r) in (
+        sym (around.beaten_are (block_of e) (block_in e r.within) there) ∙ member_of_all (has beaten) (rival_blocks k (tx_of c)) (block_of e) h (rival_in e i r),
+        around.safe_are (block_of e) (block_in e r.within) there,
+      )
+
+  near_forth : list_all (has beaten) (rival_blocks k (tx_of c)) ≡ true → is_near ≡ true → is_outdone ≡ true
+  near_forth h n =
+      let i : (i : Input) × IsIn (inputs_at k (tx_of c)) i × (is_spent_outside k flags safe (tx_of c) i ≡ true) =
+      member_of_any (is_spent_outside k flags safe (tx_of c)) (inputs_at k (tx_of c)) n in
+      let s : (s : ℕ) × IsIn (spenders_in k.txs i.0.from) s × (is_other_outside k flags safe (tx_of c) s ≡ true) =
+      member_of_any (is_other_outside k flags safe (tx_of c)) (spenders_in k.txs i.0.from) i.2 in
+      let q : (not (eqb s.0 (tx_of c)) ≡ true) × (list_any (stands_outside k flags safe) (carriers_in k.rows s.0) ≡ true) =
+      and_parts (not (eqb s.0 (tx_of c))) _ s.2 in
+      let e : (e : ℕ) × IsIn (carriers_in k.rows s.0) e × (stands_outside k flags safe e ≡ true) =
+      member_of_any (stands_outside k flags safe) (carriers_in k.rows s.0) q.1 in
+      let p : (e.0 < length k.rows) × (tx_of e.0 ≡ s.0) = carrier_of k.rows s.0 e.0 e.1 in
+      let t = spender_of k.txs (of_parts [] []) i.0.from s.0 s.1 in
+      let f : (is_set flags e.0 ≡ true) × (((row_at k.rows e.0).sound && not (has safe (block_of e.0))) ≡ true) = and_parts (is_set flags e.0) _ e.2 in
+      let g : ((row_at k.rows e.0).sound ≡ true) × (not (has safe (block_of e.0)) ≡ true) = and_parts (row_at k.rows e.0).sound _ f.1 in
+      by_number e.0 i.0
+      (record {
+        within = p.0;
+        input = i.1;
+        spent = ap (λ (t : ℕ). is_spent_by i.0.from (inputs_at k t)) p.1 ∙ t.1;
+        apart = ap (λ (t : ℕ). eqb t (tx_of c)) p.1 ∙ not-true (eqb s.0 (tx_of c)) q.0;
+        valid = g.0;
+      })
+      f.0 g.1
+    where
+      below_from : (u b s : Bool) → not u ≡ true → s ≡ (not u && not b) → not s ≡ true → b ≡ true
+      below_from true b s a e n = absurd (false≢true a)
+      below_from false true s a e n = refl
+      below_from false false s a e n = absurd (false≢true (sym (not-true s n) ∙ e))
+
+      by_number : (e : ℕ) (i : Input) → IsRivalAt table k kept of.long of.order of.sound none c i e → is_set flags e ≡ true → not (has safe (block_of e)) ≡ true → is_outdone ≡ true
+      by_number e i r flag out =
+          let w = free_is h e i r in
+          let under : is_below table (block_of e) (block_of c) ≡ true = below_from (is_unbeaten table (block_of c) (block_of e)) (is_below table (block_of e) (block_of c)) (has safe (block_of e)) w.0 w.1 out in
+          lost_at table k kept of.long of.order of.sound none flags c e i r (rw (r.valid, under) flag)
+
+  near_back : list_all (has beaten) (rival_blocks k (tx_of c)) ≡ true → is_outdone ≡ true → is_near ≡ true
+  near_back h l = by (lost_found table k kept of.long of.order of.sound none flags c l)
+    where
+      split : (b f u : Bool) → not (not b && u) ≡ true → cond b f u ≡ true → (b ≡ true) × (f ≡ true)
+      split true f u a s = (refl, s)
+      split false f u a s = absurd (false≢true (sym (not-true u a) ∙ s))
+
+      off : (u b s : Bool) → b ≡ true → s ≡ (not u && not b) → not s ≡ true
+      off u false s e f = absurd (false≢true e)
+      off true true s e f = ap (λ (b : Bool). not b) f
+      off false true s e f = ap (λ (b : Bool). not b) f
+
+      by : HasRival table k kept of.long of.order of.sound none flags c → is_near ≡ true
+      by (i, e, r, beats) =
+          let w = free_is h e i r in
+          let d : (is_below table (block_of e) (block_of c) ≡ true) × (is_set flags e ≡ true) =
+          split (is_below table (block_of e) (block_of c)) (is_set flags e) (rest e) w.0 (and_parts (row_at k.rows e).sound _ beats).1 in
+          any_of_member (is_spent_outside k flags safe (tx_of c)) (inputs_at k (tx_of c)) i r.input
+          (any_of_member (is_other_outside k flags safe (tx_of c)) (spenders_in k.txs i.from) (tx_of e)
+          (of_spender k.txs _ i.from (tx_of e) (kept.known e r.within) r.spent)
+          (and_from (not (eqb (tx_of e) (tx_of c))) _ (not_from_false (eqb (tx_of e) (tx_of c)) r.apart)
+          (any_of_member (stands_outside k flags safe) (carriers_in k.rows (tx_of e)) e (of_carrier k.rows (tx_of e) e r.within refl)
+          (and_from (is_set flags e) _ d.1
+          (and_from (row_at k.rows e).sound _ r.valid
+          (off (is_unbeaten table (block_of c) (block_of e)) (is_below table (block_of e) (block_of c)) (has safe (block_of e)) d.0 w.1))))))
+
+  pub near_lost : list_all (has beaten) (rival_blocks k (tx_of c)) ≡ true → is_near ≡ is_outdone
+  near_lost h = same_truth is_near is_outdone (near_forth h) (near_back h)
+
   -- so a decision by rows is that of one look after another
   pub next_by_rows :
       ((row_at k.rows c).sound
       && (list_all (has beaten) (rival_blocks k (tx_of c))
-      && (list_all (has_source table k flags (block_of c)) (inputs_at k (tx_of c)) && not (not (list_all (has safe) (rival_blocks k (tx_of c))) && is_outdone))))
+      && (list_all (has_source table k flags (block_of c)) (inputs_at k (tx_of c)) && not (not (list_all (has safe) (rival_blocks k (tx_of c))) && is_near))))
       ≡ is_next table k flags c
   next_by_rows =
       joined (row_at k.rows c).sound (list_all (has beaten) (rival_blocks k (tx_of c))) (list_all (has_source table k flags (block_of c)) (inputs_at k (tx_of c)))
-      (list_all (has safe) (rival_blocks k (tx_of c))) is_outdone unbeaten_lost safe_stays
+      (list_all (has safe) (rival_blocks k (tx_of c))) is_near is_outdone unbeaten_lost safe_stays near_lost
     where
       off : (s t : Bool) → (s && false) ≡ (s && (t && false))
       off true true = refl
       off true false = refl
       off false t = refl
 
-      joined : (s x t y l : Bool) → (x ≡ false → l ≡ true) → (y ≡ true → l ≡ false) → (s && (x && (t && not (not y && l)))) ≡ (s && (t && not l))
-      joined s false t y l f g = off s t ∙ ap (λ (b : Bool). s && (t && not b)) (sym (f refl))
-      joined s true t true l f g = ap (λ (b : Bool). s && (t && not b)) (sym (g refl))
-      joined s true t false l f g = refl
+      joined : (s x t y n l : Bool) → (x ≡ false → l ≡ true) → (y ≡ true → l ≡ false) → (x ≡ true → n ≡ l) → (s && (x && (t && not (not y && n)))) ≡ (s && (t && not l))
+      joined s false t y n l f g h = off s t ∙ ap (λ (b : Bool). s && (t && not b)) (sym (f refl))
+      joined s true t true n l f g h = ap (λ (b : Bool). s && (t && not b)) (sym (g refl))
+      joined s true t false n l f g h = ap (λ (b : Bool). s && (t && not b)) (h refl)
 
   abbrev by_rows : Carrier → List Input → Bool
   by_rows row inputs =
       row.sound
       && (list_all (has beaten) (rival_blocks k row.tx)
-      && (list_all (has_source table k flags row.block) inputs && not (not (list_all (has safe) (rival_blocks k row.tx)) && list_any (is_lost table k flags row) inputs)))
+      && (list_all (has_source table k flags row.block) inputs && not (not (list_all (has safe) (rival_blocks k row.tx)) && list_any (is_spent_outside k flags safe row.tx) inputs)))
 
   -- the same for the carrier and the inputs that were read
   next_read : (row : Carrier) (inputs : List Input) → row ≡ row_at k.rows c → inputs ≡ inputs_at k row.tx → by_rows row inputs ≡ is_next table k flags c
@@ -230,7 +312,7 @@ module _ (table : Numbered) (k : Carried) (carried : IsCarried k) (of : AreOf ta
         second false x r g = refl
 
     pub rest_next : (out : Bool) → row.sound ≡ true → not (list_all (has beaten) (rival_blocks k row.tx)) ≡ false → list_all (has_source table k flags row.block) inputs ≡ true
-        → out ≡ (not (list_all (has safe) (rival_blocks k row.tx)) && list_any (is_lost table k flags row) inputs) → not out ≡ is_next table k flags c
+        → out ≡ (not (list_all (has safe) (rival_blocks k row.tx)) && list_any (is_spent_outside k flags safe row.tx) inputs) → not out ≡ is_next table k flags c
     rest_next out s x t o =
         last row.sound (list_all (has beaten) (rival_blocks k row.tx)) (list_all (has_source table k flags row.block) inputs) out _ s (not_false (list_all (has beaten) (rival_blocks k row.tx)) x) t o
         ∙ next_read row inputs e f

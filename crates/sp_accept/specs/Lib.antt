@@ -7,3 +7,4 @@ pub mod Pass
 pub mod States
 pub mod Todo
 pub mod Around
+pub mod AcceptedRows

@@ -102,11 +102,13 @@ impl Accepted {
     /// It looks again at the carriers of whole blocks, block by block and ascending, at each once: of the
     /// new blocks with a sound carrier, of the older blocks that don't come before a new one with a sound
     /// carrier that has rivals, of both blocks of each pair, and of each block above one in which a carrier
-    /// turned. Each carrier takes two tests of rows and a look-up of each transaction that it spends, with
-    /// the carriers of that one; its rivals are looked at only where some stand in the past of its block, as
-    /// in one step of `rebuild`. The order is asked of each older block beside each such new one, for each
-    /// block that is decided on again of the blocks in which its carriers have rivals, and of each block
-    /// above one in which a carrier turned. Memory is taken for the flags, for what turned, and for the
+    /// turned. Each carrier takes two tests of rows, and a look-up of each transaction that it spends, with
+    /// the carriers of that one. Where some of its rivals stand in the past of its block, it takes a look-up
+    /// of each outpoint that it spends, too, and a test of a row for each other spender of it: such a row is
+    /// filled from the carriers of its transaction when it is first asked for, and when one of these turned.
+    /// The order is asked of each older block beside each such new one, for each block that is decided on
+    /// again of the blocks in which its carriers have rivals, and of each block above one in which a carrier
+    /// turned. Memory is taken for the flags, for the rows that were asked for, for what turned, and for the
     /// answer.
     ///
     /// # Errors

@@ -16,7 +16,8 @@ use sp_carry::Carriers;
 /// Rows of the blocks around a block.
 #[derive(Drop)]
 pub(crate) struct Around {
-    /// The block itself, those related to it, and those that it comes before.
+    /// Of the blocks in which some of its carriers have rivals: itself, those related to it, and those that
+    /// it comes before.
     pub(crate) beaten: Row,
     /// Those of them that aren't in its past.
     pub(crate) safe: Row,
@@ -37,7 +38,7 @@ fn is_unbeaten<O: Order>(order: &O, block: u16, other: u16) -> bool
 }
 
 /// Adds a block to a row.
-fn put(row: &mut Row, block: u16)
+pub(crate) fn put(row: &mut Row, block: u16)
     requires { block < 512 }
     ensures { (w : ℕ) → has row.new w ≡ (has row.old w || (w == block)) }
 {

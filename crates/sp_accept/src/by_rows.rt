@@ -1,22 +1,25 @@
-//! Whether a carrier is accepted, by rows of blocks: those in which its transaction has rivals, and
-//! those around its own block. What it spends is looked at one after another, and so are the rivals of a
-//! carrier that has some in its past.
+//! Whether a carrier is accepted, by rows of blocks: those in which its transaction has rivals, those
+//! around its own block, and those in which other transactions are accepted. What it spends is looked at
+//! one after another.
 
-ghost use Rattle.std.specs.Prelude.{◌≡◌, ◌<◌, ◌&&◌, not, length};
+ghost use Rattle.std.specs.Prelude.{◌≡◌, ◌<◌, ◌&&◌, not, length, IfOk};
 ghost use Rattle.std.specs.List.{list_all, list_any};
 ghost use Rattle.sp_model.specs.Graph.{has};
 ghost use Rattle.sp_carry.specs.RivalBlocks.{rival_blocks};
+ghost use Rattle.sp_accept.specs.AcceptedRows.{is_spent_outside, AreAccepted};
 ghost use Rattle.sp_accept.specs.Around.{IsAround};
-ghost use Rattle.sp_accept.specs.Pass.{is_lost, is_next};
+ghost use Rattle.sp_accept.specs.Pass.{is_next};
 ghost use Rattle.sp_accept.specs.Rows.{row_at, AreOf};
 
+use crate::accepted_rows::AcceptedRows;
 use crate::around::Around;
 use crate::lookups::carrier_at;
 use crate::order::Order;
-use crate::rivals::is_outdone;
+use crate::outside::is_any_outside;
 use crate::sources::are_sources_accepted;
-use sp_carry::{Carrier, Carriers};
+use sp_carry::Carriers;
 use sp_tx::Input;
+use std::alloc::AllocError;
 
 /// Whether a rival of the transaction stands in the way from beside.
 fn is_beaten_beside(carriers: &Carriers, around: &Around, tx: u32) -> bool
@@ -26,23 +29,26 @@ fn is_beaten_beside(carriers: &Carriers, around: &Around, tx: u32) -> bool
     !carriers.rival_blocks(tx).within(&around.beaten)
 }
 
-/// Whether a rival stands in the way, of which one after another is looked at where some may.
-fn is_outdone_near<O: Order>(
-    order: &O,
+/// Whether a rival in the past stands in the way, where none does from beside.
+fn is_outdone_below(
     carriers: &Carriers,
     flags: &[bool],
+    rows: &mut AcceptedRows,
     around: &Around,
-    row: Carrier,
+    tx: u32,
     inputs: &[Input],
-) -> bool
-    requires blocks { length (O.table order.now).parents ≡ carriers.now.blocks }
-    requires block { row.block < carriers.now.blocks }
-    requires tx { row.tx < length carriers.now.txs }
-    ensures { result ≡ (not (list_all (has around.now.safe) (rival_blocks carriers.now row.tx))
-        && list_any (is_lost (O.table order.now) carriers.now flags.now row) inputs.now) }
+) -> Result<bool, AllocError>
+    requires tx { tx < length carriers.now.txs }
+    requires kept { AreAccepted carriers.now flags.now rows.old.places.items rows.old.rows.items }
+    ensures kept { AreAccepted carriers.now flags.now rows.new.places.items rows.new.rows.items }
+    ensures outdone { IfOk result (λ outdone. outdone ≡ (not (list_all (has around.now.safe) (rival_blocks carriers.now tx))
+        && list_any (is_spent_outside carriers.now flags.now around.now.safe tx) inputs.now)) }
 {
-    !carriers.rival_blocks(row.tx).within(&around.safe)
-        && is_outdone(order, carriers, flags, row, inputs)
+    if carriers.rival_blocks(tx).within(&around.safe) {
+        return Ok(false);
+    }
+    let any = is_any_outside(carriers, flags, rows, &around.safe, tx, inputs)?;
+    Ok(any)
 }
 
 /// Whether the carrier of this number is accepted, where the flags say it of those before it.
@@ -50,14 +56,17 @@ pub(crate) fn is_next_by_rows<O: Order>(
     order: &O,
     carriers: &Carriers,
     flags: &[bool],
+    rows: &mut AcceptedRows,
     around: &Around,
     c: u32,
-) -> bool
+) -> Result<bool, AllocError>
     requires of { AreOf (O.table order.now) carriers.now }
     requires c { c < length carriers.now.rows }
     requires around { IsAround (O.table order.now) (row_at carriers.now.rows c).block
         (rival_blocks carriers.now (row_at carriers.now.rows c).tx) around.now.beaten around.now.safe }
-    ensures { result ≡ is_next (O.table order.now) carriers.now flags.now c }
+    requires kept { AreAccepted carriers.now flags.now rows.old.places.items rows.old.rows.items }
+    ensures kept { AreAccepted carriers.now flags.now rows.new.places.items rows.new.rows.items }
+    ensures next { IfOk result (λ next. next ≡ is_next (O.table order.now) carriers.now flags.now c) }
 {
     // Tells the proof what carriers are.
     let _blocks = carriers.block_count();
@@ -65,13 +74,14 @@ pub(crate) fn is_next_by_rows<O: Order>(
     let tx = carriers.tx(row.tx);
     let inputs = tx.inputs.as_slice();
     if !row.sound {
-        return false;
+        return Ok(false);
     }
     if is_beaten_beside(carriers, around, row.tx) {
-        return false;
+        return Ok(false);
     }
     if !are_sources_accepted(order, carriers, flags, row.block, inputs) {
-        return false;
+        return Ok(false);
     }
-    !is_outdone_near(order, carriers, flags, around, row, inputs)
+    let outdone = is_outdone_below(carriers, flags, rows, around, row.tx, inputs)?;
+    Ok(!outdone)
 }

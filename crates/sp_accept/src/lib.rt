@@ -5,6 +5,7 @@
 #![tactic(auto)]
 
 mod accepted;
+mod accepted_rows;
 mod around;
 mod by_rows;
 mod flags;
@@ -12,6 +13,7 @@ mod flips;
 pub mod laws;
 mod lookups;
 mod order;
+mod outside;
 mod pass;
 mod rivals;
 mod settle;

@@ -1,5 +1,6 @@
-//! Whether a rival stands in the way of a carrier. Rivals are found by who spends the same outpoints,
-//! one after another, and the search stops at the first that stands in the way: no list is made.
+//! Whether a rival stands in the way of a carrier, as a pass over all carriers asks it. Rivals are found by
+//! who spends the same outpoints, one after another, and the search stops at the first that stands in the
+//! way: no list is made.
 
 ghost use Rattle.std.specs.Prelude.{◌≡◌, ◌<◌, length};
 ghost use Rattle.std.specs.List.{list_any};

@@ -7,16 +7,18 @@ ghost use Rattle.sp_model.specs.Graph.{has};
 ghost use Rattle.sp_dag.specs.Numbered.{AreInOrder};
 ghost use Rattle.sp_carry.specs.Flags.{is_set};
 ghost use Rattle.sp_carry.specs.RivalBlocks.{rival_blocks};
+ghost use Rattle.sp_accept.specs.AcceptedRows.{AreAccepted};
 ghost use Rattle.sp_accept.specs.Around.{IsAround};
 ghost use Rattle.sp_accept.specs.Pass.{is_next};
 ghost use Rattle.sp_accept.specs.Rows.{row_at, AreOf};
 ghost use Rattle.sp_accept.specs.Standing.{is_below};
 ghost use Rattle.sp_accept.specs.Todo.{all_turned, AreSettledBut, AreTurned, is_due, turned_at};
 
+use crate::accepted_rows::AcceptedRows;
 use crate::around::{Around, around_of, rivals_of};
 use crate::by_rows::is_next_by_rows;
 use crate::flags::differ;
-use crate::lookups::first_from;
+use crate::lookups::{carrier_at, first_from};
 use crate::order::Order;
 use crate::todo::note;
 use sp_bits::Row;
@@ -42,6 +44,7 @@ fn settle_one<O: Order>(
     carriers: &Carriers,
     flags: &mut Vec<bool>,
     turned: &mut Vec<u32>,
+    rows: &mut AcceptedRows,
     around: &Around,
     c: u32,
 ) -> Result<bool, AllocError>
@@ -50,7 +53,9 @@ fn settle_one<O: Order>(
     requires around { IsAround (O.table order.now) (row_at carriers.now.rows c).block
         (rival_blocks carriers.now (row_at carriers.now.rows c).tx) around.now.beaten around.now.safe }
     requires long { length flags.old.items ≡ length carriers.now.rows }
+    requires kept { AreAccepted carriers.now flags.old.items rows.old.places.items rows.old.rows.items }
     ensures turned { AreTurned flags.old.items flags.new.items turned.old.items turned.new.items }
+    ensures kept { OnOk result (AreAccepted carriers.now flags.new.items rows.new.places.items rows.new.rows.items) }
     ensures own { OnOk result (is_set flags.new.items c
         ≡ is_next (O.table order.now) carriers.now flags.new.items c) }
     ensures others { IfOk result (λ any. (d : ℕ) → c ≢ d → d < length carriers.now.rows →
@@ -60,9 +65,10 @@ fn settle_one<O: Order>(
 {
     // Tells the proof what carriers are.
     let _blocks = carriers.block_count();
-    let now = is_next_by_rows(order, carriers, flags, around, c);
+    let now = is_next_by_rows(order, carriers, flags, rows, around, c)?;
     if differ(is_set(flags, c), now) {
         turn(flags, turned, c)?;
+        rows.forget(carrier_at(carriers, c).tx);
         return Ok(true);
     }
     Ok(false)
@@ -75,6 +81,7 @@ fn settle_block<O: Order>(
     todo: &Row,
     flags: &mut Vec<bool>,
     turned: &mut Vec<u32>,
+    rows: &mut AcceptedRows,
     block: u16,
 ) -> Result<bool, AllocError>
     requires of { AreOf (O.table order.now) carriers.now }
@@ -82,7 +89,9 @@ fn settle_block<O: Order>(
     requires long { length flags.old.items ≡ length carriers.now.rows }
     requires settled { AreSettledBut (O.table order.now) carriers.now flags.old.items
         (is_due carriers.now.rows todo.now block) }
+    requires kept { AreAccepted carriers.now flags.old.items rows.old.places.items rows.old.rows.items }
     ensures turned { AreTurned flags.old.items flags.new.items turned.old.items turned.new.items }
+    ensures kept { OnOk result (AreAccepted carriers.now flags.new.items rows.new.places.items rows.new.rows.items) }
     ensures settled { IfOk result (λ any. AreSettledBut (O.table order.now) carriers.now flags.new.items
         (λ d. is_due carriers.now.rows todo.now (block + 1) d
         || (any && is_below (O.table order.now) block (row_at carriers.now.rows d).block))) }
@@ -94,7 +103,7 @@ fn settle_block<O: Order>(
     let around = around_of(order, block, &rivals, count);
     let mut any = false;
     'carriers: for c in first..end {
-        if settle_one(order, carriers, flags, turned, &around, c)? {
+        if settle_one(order, carriers, flags, turned, rows, &around, c)? {
             any = true;
         }
     }
@@ -126,6 +135,7 @@ fn settle_next<O: Order>(
     todo: &mut Row,
     flags: &mut Vec<bool>,
     turned: &mut Vec<u32>,
+    rows: &mut AcceptedRows,
     block: u16,
 ) -> Result<(), AllocError>
     requires of { AreOf (O.table order.now) carriers.now }
@@ -133,7 +143,9 @@ fn settle_next<O: Order>(
     requires long { length flags.old.items ≡ length carriers.now.rows }
     requires settled { AreSettledBut (O.table order.now) carriers.now flags.old.items
         (is_due carriers.now.rows todo.old block) }
+    requires kept { AreAccepted carriers.now flags.old.items rows.old.places.items rows.old.rows.items }
     ensures turned { AreTurned flags.old.items flags.new.items turned.old.items turned.new.items }
+    ensures kept { OnOk result (AreAccepted carriers.now flags.new.items rows.new.places.items rows.new.rows.items) }
     ensures settled { OnOk result (AreSettledBut (O.table order.now) carriers.now flags.new.items
         (is_due carriers.now.rows todo.new (block + 1))) }
 {
@@ -141,7 +153,7 @@ fn settle_next<O: Order>(
     if !todo.test(block) {
         return Ok(());
     }
-    if settle_block(order, carriers, todo, flags, turned, block)? {
+    if settle_block(order, carriers, todo, flags, turned, rows, block)? {
         note_future(todo, order, block, count);
         return Ok(());
     }
@@ -156,17 +168,20 @@ pub(crate) fn settle<O: Order>(
     todo: &mut Row,
     flags: &mut Vec<bool>,
     turned: &mut Vec<u32>,
+    rows: &mut AcceptedRows,
 ) -> Result<(), AllocError>
     requires of { AreOf (O.table order.now) carriers.now }
     requires long { length flags.old.items ≡ length carriers.now.rows }
     requires settled { AreSettledBut (O.table order.now) carriers.now flags.old.items
         (is_due carriers.now.rows todo.old 0) }
+    requires kept { AreAccepted carriers.now flags.old.items rows.old.places.items rows.old.rows.items }
     ensures turned { AreTurned flags.old.items flags.new.items turned.old.items turned.new.items }
+    ensures kept { OnOk result (AreAccepted carriers.now flags.new.items rows.new.places.items rows.new.rows.items) }
     ensures settled { OnOk result
         (AreSettledBut (O.table order.now) carriers.now flags.new.items (λ _. false)) }
 {
     'due: for block in 0..carriers.block_count() {
-        settle_next(order, carriers, todo, flags, turned, block)?;
+        settle_next(order, carriers, todo, flags, turned, rows, block)?;
     }
     Ok(())
 }

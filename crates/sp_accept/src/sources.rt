@@ -1,12 +1,13 @@
 //! Whether what a carrier spends is accepted in the past of its block.
 
-ghost use Rattle.std.specs.Prelude.{◌≡◌, ◌<◌, length};
+ghost use Rattle.std.specs.Prelude.{◌≡◌, ◌<◌, length, IsTrue, Some};
 ghost use Rattle.std.specs.List.{list_all};
 ghost use Rattle.sp_accept.specs.Pass.{has_source, is_accepted_below, is_paid};
 
 use crate::lookups::{carrier_at, carriers_of};
 use crate::order::Order;
 use sp_carry::{Carriers, is_set};
+use sp_ids::TxId;
 use sp_tx::Input;
 
 /// Whether the carrier is accepted and stands in the past of the block.
@@ -59,7 +60,18 @@ fn has_source<O: Order>(
     }
 }
 
-/// Whether each input's transaction has an accepted carrier in the past of the block.
+/// Whether this is the transaction that was looked at last.
+fn is_last(last: &Option<TxId>, tx: &TxId) -> bool
+    ensures { IsTrue result → last.now ≡ Some tx.now }
+{
+    match last {
+        Some(one) => one == tx,
+        None => false,
+    }
+}
+
+/// Whether each input's transaction has an accepted carrier in the past of the block. One that several
+/// inputs name is looked at once: inputs are sorted, so they stand side by side.
 pub(crate) fn are_sources_accepted<O: Order>(
     order: &O,
     carriers: &Carriers,
@@ -71,10 +83,15 @@ pub(crate) fn are_sources_accepted<O: Order>(
     requires block { block < carriers.now.blocks }
     ensures { result ≡ list_all (has_source (O.table order.now) carriers.now flags.now block) inputs.now }
 {
+    let mut last = None;
     'inputs: for input in inputs {
+        if is_last(&last, &input.from.tx) {
+            continue;
+        }
         if !has_source(order, carriers, flags, block, input) {
             return false;
         }
+        last = Some(input.from.tx);
     }
     true
 }

@@ -12,6 +12,7 @@ ghost use Rattle.sp_accept.specs.Pass.{is_carried_flag};
 ghost use Rattle.sp_accept.specs.Todo.{AreSettledBut, AreTurned, grown, is_due};
 ghost use Rattle.sp_accept.specs.Rows.{row_at, AreOf};
 
+use crate::accepted_rows::AcceptedRows;
 use crate::flags::grow;
 use crate::order::Order;
 use crate::settle::{settle, turn_back};
@@ -63,7 +64,8 @@ fn flips_by<O: Order>(
     ensures flips { IfOk result (λ flips. flips.items ≡ flips_among txs.now (is_carried_flag carriers.now flags.new.items)
         (filter (λ tx. list_any (λ c. (row_at carriers.now.rows c).tx == tx) turned.new.items) (range_with_len 0 (length carriers.now.txs)))) }
 {
-    settle(order, carriers, todo, flags, turned)?;
+    let mut rows = AcceptedRows::new(alloc);
+    settle(order, carriers, todo, flags, turned, &mut rows)?;
     let flips = turned_txs(alloc, carriers, turned, flags, txs)?;
     Ok(flips)
 }

@@ -11,4 +11,5 @@ due-preserved g c = record {
   settled = c.in_ok-settle_next.ensures.settled;
   turned = turned_on c.args.flags.now.items c.due.flags.items c.settle_next.new.flags.items c.args.turned.now.items c.due.turned.items c.settle_next.new.turned.items c.due.invariant.turned
       c.in_ok-settle_next.ensures.turned;
+  kept = c.in_ok-settle_next.ensures.kept;
 }

@@ -45,4 +45,5 @@ carriers-preserved g c =
           c.in_ok-settle_one.ensures.own c.in_ok-settle_one.ensures.others c.carriers.invariant.settled);
       turned = turned_on c.args.flags.now.items c.carriers.flags.items c.settle_one.new.flags.items c.args.turned.now.items c.carriers.turned.items c.settle_one.new.turned.items c.carriers.invariant.turned
           c.in_ok-settle_one.ensures.turned;
+      kept = c.in_ok-settle_one.ensures.kept;
     }
