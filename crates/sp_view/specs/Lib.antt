@@ -6,3 +6,4 @@ pub mod Changed
 pub mod Moving
 pub mod Sums
 pub mod Summed
+pub mod Ends

@@ -13,11 +13,13 @@ ghost use Rattle.sp_view.specs.Settled.{IsAsked};
 ghost use Rattle.sp_view.specs.Sums.{sum_of, AreJoined, IsLone};
 ghost use Rattle.sp_view.specs.Summed.{AreRight};
 ghost use Rattle.sp_view.specs.Views.{Viewed, entry_at, held, IsBest, IsStart, IsView, AreFresh, AreKeptIds, AreListed};
+ghost use Rattle.sp_view.specs.Ends.{IsEnd};
 ghost use Rattle.sp_view.specs.Moving.{changed_rows, moved_rows};
 
 use crate::asking::entry_of;
 use crate::best::best_within;
 use crate::derive::derive_entries;
+use crate::ends::end_of;
 use crate::entries::join_entries;
 use crate::sharing::{give_entries, share_entries};
 use crate::stored::{RowName, row_at};
@@ -222,14 +224,15 @@ impl View {
     {
         // Tells the proof that there are at most 512 blocks, in order.
         let _blocks = dag.len();
-        let pairs = dag.pair_count() as usize;
+        let pairs = dag.pair_count();
         let before = self.members;
         let mut members = before;
         members.set(b);
-        self.entries.reserve(pairs - self.entries.len())?;
+        let end = end_of(dag, &members, self.entries.len() as u32) as usize;
+        self.entries.reserve(end - self.entries.len())?;
         // Each pair may take both its rows anew.
-        pool.reserve(2 * dag.pair_count())?;
-        grow(&mut self.entries, pairs);
+        pool.reserve(2 * pairs)?;
+        grow(&mut self.entries, end);
         join_entries(
             dag,
             frozen,
@@ -349,7 +352,8 @@ impl View {
     /// It goes over the pairs once. For a pair inside that view it takes a few steps over rows, three
     /// for each block that joins, is frozen on the pair and isn't in the past of another such block,
     /// and two for each voter that is asked anew; where none is asked, both rows are shared as they
-    /// stand. For another pair inside the set it takes two for each loose voter.
+    /// stand. For another pair inside the set it takes two for each loose voter. Its entries end behind
+    /// the last pair inside the set, and take 12 bytes each.
     ///
     /// # Errors
     ///
@@ -372,6 +376,7 @@ impl View {
         requires few { live pool.old < 2 ^ 29 }
         ensures ok { IfOk result (λ view. IsView dag.now view pool.new) }
         ensures members { IfOk result (λ view. view.members ≡ target.now) }
+        ensures long { IfOk result (λ view. IsEnd dag.now target.now 0 (length view.entries)) }
         ensures kept { IfOk result (λ view. (i : ℕ) (base : Viewed) →
             IsBest views.now target.now i base →
             AreKeptIds dag.now base.members target.now base.entries view.entries) }
@@ -383,9 +388,10 @@ impl View {
             base.members target.now (pairs_of dag.now)) }
         ensures err { OnErr result ((r : ℕ) → count_of pool.new r ≡ count_of pool.old r) }
     {
-        // Tells the proof that there are at most 130,816 pairs, of blocks that stand in order.
+        // Tells the proof that the blocks stand in order.
         let _blocks = dag.len();
-        let mut entries = Vec::with_capacity(alloc, dag.pair_count() as usize)?;
+        let end = end_of(dag, target, 0);
+        let mut entries = Vec::with_capacity(alloc, end as usize)?;
         let nothing = View::empty(alloc);
         let base = start(views, &nothing, target);
         match derive_entries(
@@ -395,6 +401,7 @@ impl View {
             base.members(),
             target,
             base.entries(),
+            end,
             &mut entries,
         ) {
             Ok(()) => Ok(View {
