@@ -7,3 +7,4 @@ pub mod Moving
 pub mod Sums
 pub mod Summed
 pub mod Ends
+pub mod Adding
