@@ -1,1 +1,2 @@
 pub mod Voting
+pub mod Summing

@@ -1,5 +1,5 @@
 -- Graphs whose blocks have frozen votes, and views of their blocks over one pool.
-use Rattle.std.specs.Prelude.{ℕ, ◌≡◌, ◌+◌, List, length}
+use Rattle.std.specs.Prelude.{ℕ, ◌≡◌, ◌+◌, length}
 use Rattle.sp_dag.specs.Numbered.{Numbered}
 use Rattle.sp_frozen.specs.Voters.{FrozenRows, HoldsFrozen}
 use Rattle.sp_rows.specs.Pool.{Pool}

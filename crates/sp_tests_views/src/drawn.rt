@@ -61,7 +61,7 @@ fn is_whole(
 }
 
 /// Whether the view of all of an engine votes as the plain votes of all say.
-fn all_is_right(alloc: Global, engine: &Engine) -> Result<bool, Fail> {
+pub(crate) fn all_is_right(alloc: Global, engine: &Engine) -> Result<bool, Fail> {
     let (frozen, pool) = (engine.frozen(), engine.row_pool());
     is_right(alloc, engine.dag(), frozen, pool, engine.view_all())
 }

@@ -9,9 +9,9 @@
 //! judges a table's row.
 //!
 //! The tests: `small` has graphs worked out by hand, `drawn` graphs that are drawn, `ties` the voters in
-//! these that settle ties, `orders` what is said in the end in several orders of arrival, `layer` a block
-//! on 64 others, `shared` two views of a small graph that share rows, and `refused` what is left where
-//! memory is refused.
+//! these that settle ties, `hostile` shapes of about 60 blocks, `orders` what is said in the end in several
+//! orders of arrival, `layer` a block on 64 others, `summed` sums that grow with a view, `shared` two views of
+//! a small graph that share rows, and `refused` what is left where memory is refused.
 #![tactic(auto)]
 
 #[cfg(test)]
@@ -24,6 +24,8 @@ mod drawn;
 mod engines;
 #[cfg(test)]
 mod graphs;
+#[cfg(test)]
+mod hostile;
 #[cfg(test)]
 mod layer;
 #[cfg(test)]
@@ -40,6 +42,8 @@ mod shared;
 mod signs;
 #[cfg(test)]
 mod small;
+#[cfg(test)]
+mod summed;
 #[cfg(test)]
 mod ties;
 #[cfg(test)]

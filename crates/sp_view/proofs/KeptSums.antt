@@ -42,7 +42,7 @@ sums_step table before more i sums sums' others turned known j x y at =
         rw (tests, others j other) (known j x y at)
 
 -- what is said only of a pair inside may be shown for one
-inside_sum : (g : Graph) (set : List ℕ) (x y : ℕ) (sum : Option ℤ) → ((has set x && has set y) ≡ true → IsSum g set x y sum) → IsSum g set x y sum
+pub inside_sum : (g : Graph) (set : List ℕ) (x y : ℕ) (sum : Option ℤ) → ((has set x && has set y) ≡ true → IsSum g set x y sum) → IsSum g set x y sum
 inside_sum g set x y None h = tt
 inside_sum g set x y (Some sum) h = λ inside. h inside inside
 

@@ -3,6 +3,7 @@ pub mod Balances
 pub mod Settling
 pub mod Downward
 pub mod Kept
+pub mod Behind
 pub mod Bound
 pub mod JoinedRows
 pub mod Several

@@ -6,3 +6,5 @@ pub mod Changed
 pub mod Moving
 pub mod Sums
 pub mod Summed
+pub mod Ends
+pub mod Adding

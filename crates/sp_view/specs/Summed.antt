@@ -1,7 +1,8 @@
 -- Sums of votes that are kept beside a view, by the numbers of the pairs.
-use Rattle.std.specs.Prelude.{ℕ, true, ◌≡◌, ◌<◌, List, length, ℤ, Option, Some, slice_get, IfSome}
+use Rattle.std.specs.Prelude.{ℕ, true, ◌≡◌, ◌≢◌, ◌<◌, List, length, ℤ, Option, Some, slice_get, IfSome}
 use Rattle.sp_model.specs.Graph.{Graph}
 use Rattle.sp_model.specs.Loose.{plus, minus}
+use Rattle.sp_model.specs.Votes.{sgn}
 use Rattle.sp_dag.specs.Numbered.{Numbered, graph_of, pairs_of}
 use Rattle.sp_view.specs.Changed.{is_inside}
 use Rattle.sp_view.specs.Sums.{sum_of}
@@ -28,3 +29,7 @@ pub record IsStill (g : Graph) (set more : List ℕ) (x y : ℕ) : Type 0 where
   pub inside : is_inside set (x, y) ≡ true
   pub plus_is : plus g set x y ≡ plus g more x y
   pub minus_is : minus g set x y ≡ minus g more x y
+
+-- there is a sum before and one after, of other signs
+abbrev pub HasTurned : Option ℤ → Option ℤ → Type 0
+HasTurned old new = (a b : ℤ) × (old ≡ Some a) × (new ≡ Some b) × (sgn a ≢ sgn b)

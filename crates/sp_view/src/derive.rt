@@ -6,6 +6,7 @@ ghost use Rattle.sp_dag.specs.Numbered.{graph_of, pairs_of};
 ghost use Rattle.sp_view.specs.Stored.{count_of, row_of, spare, live};
 ghost use Rattle.sp_view.specs.Voting.{IsGrown, IsVoting};
 ghost use Rattle.sp_view.specs.Views.{holds, held, moved_of, AreEntries, AreKeptIds, IsEntry, IsOnce, KeepIds};
+ghost use Rattle.sp_view.specs.Ends.{NoneFrom};
 ghost use Rattle.sp_view.specs.Moving.{moved_rows};
 
 use crate::asking::{entry_of, has_both, is_none};
@@ -193,7 +194,8 @@ fn derived_entry(
     }
 }
 
-// The entries of the view of a set, from those of the view of a set within it.
+// The entries of the view of a set, from those of the view of a set within it: up to a number from which no
+// pair is inside the set.
 pub(crate) fn derive_entries(
     dag: &Dag,
     frozen: &Frozen,
@@ -201,6 +203,7 @@ pub(crate) fn derive_entries(
     from: &Row,
     target: &Row,
     base: &[Option<(RowName, RowName)>],
+    end: u32,
     entries: &mut Vec<Option<(RowName, RowName)>>,
 ) -> Result<(), Memory>
     requires grown { IsGrown dag.now frozen.now from.now target.now }
@@ -208,10 +211,12 @@ pub(crate) fn derive_entries(
     requires live { (r : ℕ) → held base.now r ≤ count_of pool.old r }
     requires once { (r : ℕ) → held base.now r ≤ 1 }
     requires few { (r : ℕ) → 0 < held base.now r → count_of pool.old r < 2 ^ 32 - 1 }
+    requires within { end ≤ length (pairs_of dag.now) }
+    requires none { NoneFrom dag.now target.now end }
     requires empty { entries.old.items ≡ [] }
-    requires capacity { length (pairs_of dag.now) ≤ vec_capacity entries.old }
+    requires capacity { end ≤ vec_capacity entries.old }
     requires room { live pool.old < 2 ^ 29 }
-    ensures long { OnOk result (length entries.new.items ≡ length (pairs_of dag.now)) }
+    ensures long { OnOk result (length entries.new.items ≡ end) }
     ensures entry { OnOk result
         (AreEntries dag.now target.now pool.new entries.new.items) }
     ensures kept { OnOk result (AreKeptIds dag.now from.now target.now
@@ -223,7 +228,9 @@ pub(crate) fn derive_entries(
     ensures live { OnOk result (live pool.new ≤ live pool.old
         + moved_rows (graph_of dag.now) from.now target.now (pairs_of dag.now)) }
 {
-    'pairs: for pair in 0..dag.pair_count() {
+    // Tells the proof that there are at most 130,816 pairs.
+    let _pairs = dag.pair_count();
+    'pairs: for pair in 0..end {
         let before = entry_of(base, pair as usize);
         let entry = derived_entry(dag, frozen, pool, from, target, pair, before)?;
         entries.push_reserved(entry);

@@ -9,6 +9,7 @@ ghost use Rattle.sp_view.specs.Settled.{AreSides, AreOpen, AreKept};
 ghost use Rattle.sp_view.specs.Voting.{IsVoting, IsJoined};
 ghost use Rattle.sp_view.specs.Summed.{AreRight, IsStill};
 ghost use Rattle.sp_view.specs.Views.{holds, held, entry_at, moved_of, IsEntry, IsFresh, IsOnce, AreFresh, KeepIds, AreEntries, AreKeptIds};
+ghost use Rattle.sp_view.specs.Ends.{NoneFrom};
 ghost use Rattle.sp_view.specs.Moving.{changes_of, moves_of, moved_rows};
 
 use crate::asking::{asked, has_both, is_none};
@@ -305,7 +306,7 @@ fn step_entry(
     }
 }
 
-// The entries of all pairs after the block joined, and those of their sums that are kept.
+// The entries after the block joined, behind which no pair is inside the set, and those of the pairs' sums that are kept.
 pub(crate) fn join_entries(
     dag: &Dag,
     frozen: &Frozen,
@@ -317,7 +318,8 @@ pub(crate) fn join_entries(
     sums: &mut Sums,
 )
     requires joined { IsJoined dag.now frozen.now b before.now members.now }
-    requires long { vec_len entries.old ≡ length (pairs_of dag.now) }
+    requires long { vec_len entries.old ≤ length (pairs_of dag.now) }
+    requires none { NoneFrom dag.now members.now (vec_len entries.old) }
     requires inside { (i x y : ℕ) → slice_get (pairs_of dag.now) i ≡ Some (x, y) →
         IfSome (entry_at entries.old.items i) (λ _. y < frozen.now.blocks) }
     requires live { (r : ℕ) → held entries.old.items r ≤ count_of pool.old r }

@@ -5,6 +5,7 @@
 mod asking;
 mod best;
 mod derive;
+mod ends;
 mod entries;
 pub mod laws;
 mod missing;

@@ -1,8 +1,9 @@
 //! Sums of votes that are kept beside a view, one for each pair, so that the virtual vote of its members is a look-up.
 
-ghost use Rattle.std.specs.Prelude.{◌≡◌, ◌≢◌, ◌<◌, ◌≤◌, [], ℕ, ℤ, length, IfOk, OnOk, OnErr, All, Contains, pos, slice_get, slice_index_or, Some, vec_len, vec_capacity};
+ghost use Rattle.std.specs.Prelude.{◌≡◌, ◌≢◌, ◌<◌, ◌≤◌, ◌⊎◌, [], ℕ, ℤ, length, IfOk, OnOk, OnErr, All, Contains, pos, slice_get, slice_index_or, Some, vec_len, vec_capacity};
 ghost use Rattle.sp_model.specs.Votes.{sgn};
 ghost use Rattle.sp_dag.specs.Numbered.{pairs_of};
+ghost use Rattle.sp_view.specs.Summed.{HasTurned};
 
 use crate::tally::side;
 use sp_dag::Dag;
@@ -60,6 +61,8 @@ fn note_turned(
     ensures kept { OnOk result ((j : ℕ) → Contains list.old.items j → Contains list.new.items j) }
     ensures turned { OnOk result ((a b : ℤ) → old ≡ Some a → new ≡ Some b → sgn a ≢ sgn b →
         Contains list.new.items pair) }
+    ensures only { OnOk result ((j : ℕ) → Contains list.new.items j →
+        Contains list.old.items j ⊎ ((j ≡ pair) × HasTurned old new)) }
 {
     let Some(old) = old else { return Ok(()) };
     let Some(new) = new else { return Ok(()) };
@@ -76,6 +79,8 @@ fn turned_of(alloc: Global, count: u32, older: &[i32], newer: &[i32]) -> Result<
     ensures turned { IfOk result (λ list. (i : ℕ) (a b : ℤ) → i < count →
         slice_get older.now i ≡ Some a → slice_get newer.now i ≡ Some b → sgn a ≢ sgn b →
         Contains list.items i) }
+    ensures only { IfOk result (λ list. (i : ℕ) → Contains list.items i →
+        HasTurned (slice_get older.now i) (slice_get newer.now i)) }
 {
     let mut list = Vec::new(alloc);
     'pairs: for pair in 0..count {
@@ -150,6 +155,8 @@ impl Sums {
         ensures turned { IfOk result (λ list. (i : ℕ) (a b : ℤ) → i < length (pairs_of dag.now) →
             slice_get older.now i ≡ Some a → slice_get self.now i ≡ Some b → sgn a ≢ sgn b →
             Contains list.items i) }
+        ensures only { IfOk result (λ list. (i : ℕ) → Contains list.items i →
+            HasTurned (slice_get older.now i) (slice_get self.now i)) }
     {
         let list = turned_of(
             self.alloc,

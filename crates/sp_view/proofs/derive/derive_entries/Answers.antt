@@ -4,8 +4,9 @@ use Rattle.sp_dag.specs.Numbered.{Numbered, graph_of, pairs_of}
 use Rattle.sp_model.specs.Graph.{Graph}
 use Rattle.sp_view.specs.Stored.{count_of, row_of}
 use Rattle.sp_view.specs.Views.{entry_at, holds, held, IsEntry, IsOnce, KeepIds}
+use Rattle.sp_view.proofs.Behind.{entries_end, kept_end}
 use Rattle.sp_view.proofs.Held.{entry_moves, entry_next, held_push, held_take_le, held_take_next, holds_held, once_end, once_more, some_pair}
-use Rattle.sp_view.proofs.Moves.{moved_few, moved_moves, moved_take}
+use Rattle.sp_view.proofs.Moves.{moved_few, moved_moves, moved_take, moved_take_le}
 use Rattle.sp_view.proofs.derive.derive_entries.Goals as goal
 
 pub derived_entry-requires-clause-live : goal.derived_entry-requires-clause-live
@@ -35,7 +36,7 @@ derived_entry-requires-clause-few c = λ r some.
     )
 
 pub derived_entry-requires-clause-room : goal.derived_entry-requires-clause-room
-derived_entry-requires-clause-room c = omega (arith, c.pairs.invariant.few, c.requires.room, c.pair_count-pair-end.ensures.bound, c.pairs-test.true)
+derived_entry-requires-clause-room c = omega (arith, c.pairs.invariant.few, c.requires.room, c.requires.within, c.pair_count-pairs.ensures.value, c.pair_count-pairs.ensures.bound, c.pairs-test.true)
 
 pub derived_entry-requires-clause-entry : goal.derived_entry-requires-clause-entry
 derived_entry-requires-clause-entry c = λ x y at.
@@ -52,7 +53,7 @@ pairs-preserved c =
     let i : ℕ = c.pairs.pair in
     let entries = c.pairs.entries.items in
     let entry = c.in_ok-entry.entry in
-    let listed : i < length (pairs_of table) = omega (arith, c.pairs-test.true, c.pair_count-pair-end.ensures.value) in
+    let listed : i < length (pairs_of table) = omega (arith, c.pairs-test.true, c.requires.within) in
     let pair = get_or (pairs_of table) i (0, 0) in
     let at_i : slice_get (pairs_of table) i ≡ Some (pair.0, pair.1) = some_pair (pairs_of table) i listed in
     let long : length entries ≡ i = omega (arith, c.pairs.invariant.long, c.pairs.entries.ok.0) in
@@ -106,3 +107,17 @@ pub returns-clause-once : goal.returns-clause-once
 returns-clause-once c = λ r.
     once_end (count_of c.args.pool.now r) (held (take c.pairs.pair c.args.base.now) r) (held c.pairs.entries.items r) (c.pairs.invariant.once r)
     (omega (arith, held_take_le c.args.base.now c.pairs.pair r, c.requires.once r))
+
+pub returns-clause-entry : goal.returns-clause-entry
+returns-clause-entry c =
+    entries_end c.args.dag.now c.args.target.now c.args.end c.requires.none c.pairs.pool c.pairs.entries.items (omega (arith, c.pairs.invariant.long, c.pairs.entries.ok.0))
+    (λ j x y less at. c.pairs.invariant.entry j x y (omega (arith, less)) at)
+
+pub returns-clause-kept : goal.returns-clause-kept
+returns-clause-kept c =
+    kept_end c.args.dag.now c.args.target.now c.args.end c.requires.none c.args.from.now c.args.pool.now c.args.base.now c.pairs.entries.items c.requires.grown.into c.requires.entry
+    (λ j x y less at. c.pairs.invariant.kept j x y (omega (arith, less)) at)
+
+pub returns-clause-live : goal.returns-clause-live
+returns-clause-live c =
+    omega (arith, c.pairs.invariant.live, moved_take_le (graph_of c.args.dag.now) c.args.from.now c.args.target.now (pairs_of c.args.dag.now) c.pairs.pair)

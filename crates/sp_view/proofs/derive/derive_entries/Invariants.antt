@@ -1,4 +1,4 @@
-use Rattle.std.proofs.Common.{◌≡◌, ◌<◌, ◌≤◌, ◌+◌, ◌*◌, ℕ, Some, length, take}
+use Rattle.std.proofs.Common.{◌≡◌, ◌<◌, ◌≤◌, ◌+◌, ◌*◌, ℕ, Some, take}
 use Rattle.std.specs.Prelude.{slice_get, vec_capacity, vec_len}
 use Rattle.sp_dag.specs.Numbered.{graph_of, pairs_of}
 use Rattle.sp_view.specs.Moving.{moved_rows}
@@ -9,7 +9,7 @@ use Rattle.sp_view.proofs.derive.derive_entries.Given as goal
 abbrev pub invariant-pairs : goal.invariant-pairs
 invariant-pairs l = record {
   long : vec_len l.entries ≡ l.pair;
-  room : length (pairs_of l.dag) ≤ vec_capacity l.entries;
+  room : l.end ≤ vec_capacity l.entries;
   entry : (j x y : ℕ) → j < l.pair → slice_get (pairs_of l.dag) j ≡ Some (x, y) → IsEntry (graph_of l.dag) l.target x y l.pool (entry_at l.entries.items j);
   kept : (j x y : ℕ) → j < l.pair → slice_get (pairs_of l.dag) j ≡ Some (x, y) → KeepIds (graph_of l.dag) l.from l.target x y (entry_at l.base j) (entry_at l.entries.items j);
   counts : (r : ℕ) → count_of l.pool r ≡ count_of l.fn.pool r + held l.entries.items r;

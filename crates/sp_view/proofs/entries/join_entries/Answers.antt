@@ -1,12 +1,12 @@
 use Rattle.std.proofs.Common.{◌≡◌, ◌≢◌, ◌∙◌, ◌<◌, ◌≤◌, ◌+◌, ℕ, List, Option, Some, None, arith, get_or, length, refl, subst, sym, get_or-set_other}
-use Rattle.std.specs.Prelude.{slice_get, IfSome}
+use Rattle.std.specs.Prelude.{slice_get, vec_len, IfSome}
 use Rattle.std.proofs.lemmas.Bool.{lt-ltb, le-ltb}
 use Rattle.std.proofs.lemmas.List.{get_or_default}
-use Rattle.std.proofs.lemmas.Option.{slice_get_within}
 use Rattle.sp_dag.specs.Numbered.{Numbered, graph_of, pairs_of}
 use Rattle.sp_model.specs.Graph.{Graph}
 use Rattle.sp_view.specs.Stored.{count_of, row_of}
 use Rattle.sp_view.specs.Views.{entry_at, holds, held, IsEntry, IsFresh, IsOnce, KeepIds}
+use Rattle.sp_view.proofs.Behind.{entries_end, sums_end}
 use Rattle.sp_view.proofs.Fresh.{fresh_none, fresh_step}
 use Rattle.sp_view.proofs.Held.{entries_step, held_set, holds_held, if_there, keeps_itself, kept_step, once_step, some_pair}
 use Rattle.sp_view.proofs.KeptSums.{sums_step}
@@ -134,19 +134,18 @@ pairs-preserved c =
     }
 
 pub returns : goal.returns
-returns c = record {
-  long = c.pairs.invariant.long;
-  entry = λ i x y at.
-      let listed : i < length (pairs_of c.args.dag.now) = slice_get_within (pairs_of c.args.dag.now) i (x, y) at in
-      rw (lt-ltb i c.pairs.i (omega (arith, c.requires.long))) at (c.pairs.invariant.entry i x y at);
-  kept = c.pairs.invariant.kept;
-  counts = c.pairs.invariant.counts;
-  others = c.pairs.invariant.others;
-  once = c.pairs.invariant.once;
-  fresh = c.pairs.invariant.fresh;
-  sums = λ i x y at.
-      let listed : i < length (pairs_of c.args.dag.now) = slice_get_within (pairs_of c.args.dag.now) i (x, y) at in
-      rw (lt-ltb i c.pairs.i (omega (arith, c.requires.long))) at (c.pairs.invariant.sums i x y at);
-  as_long = c.pairs.invariant.as_long;
-  live = omega (arith, c.pairs.invariant.live, moved_take_le (graph_of c.args.dag.now) c.args.before.now c.args.members.now (pairs_of c.args.dag.now) c.pairs.i);
-}
+returns c =
+    let n : ℕ = vec_len c.args.entries.now in
+    record {
+      long = c.pairs.invariant.long;
+      entry = entries_end c.args.dag.now c.args.members.now n c.requires.none c.pairs.pool c.pairs.entries.items (omega (arith, c.pairs.entries.ok.0, c.pairs.invariant.long))
+          (λ j x y less at. rw (lt-ltb j c.pairs.i (omega (arith, less))) at (c.pairs.invariant.entry j x y at));
+      kept = c.pairs.invariant.kept;
+      counts = c.pairs.invariant.counts;
+      others = c.pairs.invariant.others;
+      once = c.pairs.invariant.once;
+      fresh = c.pairs.invariant.fresh;
+      sums = sums_end c.args.dag.now c.args.members.now n c.requires.none c.args.before.now c.pairs.i c.pairs.sums (omega arith) c.pairs.invariant.sums;
+      as_long = c.pairs.invariant.as_long;
+      live = omega (arith, c.pairs.invariant.live, moved_take_le (graph_of c.args.dag.now) c.args.before.now c.args.members.now (pairs_of c.args.dag.now) c.pairs.i);
+    }

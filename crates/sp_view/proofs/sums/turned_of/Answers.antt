@@ -1,6 +1,7 @@
-use Rattle.std.proofs.Common.{◌≡◌, ◌∙◌, ℕ, Some, arith, inl, inr, subst, sym}
-use Rattle.std.specs.Prelude.{Contains, slice_get}
+use Rattle.std.proofs.Common.{◌≡◌, ◌∙◌, ℕ, Option, Some, arith, inl, inr, subst, sym}
+use Rattle.std.specs.Prelude.{ℤ, Contains, slice_get}
 use Rattle.std.proofs.lemmas.Bool.{cases_lt}
+use Rattle.sp_view.specs.Summed.{HasTurned}
 use Rattle.sp_view.proofs.sums.turned_of.Goals as goal
 
 pub pairs-preserved : goal.pairs-preserved
@@ -12,5 +13,11 @@ pairs-preserved c = record {
         let here : i ≡ c.pairs.pair = omega (arith, lt, more) in
         subst (λ (k : ℕ). Contains c.note_turned.new.list.items k) (sym here)
         (c.in_ok-note_turned.ensures.turned a b (c.sum_at.ensures ∙ subst (λ (k : ℕ). slice_get c.args.older.now k ≡ Some a) here old) (c.sum_at-in-pairs.ensures ∙ subst (λ (k : ℕ). slice_get c.args.newer.now k ≡ Some b) here new) other)
+  ];
+  only = λ i inside. elim (c.in_ok-note_turned.ensures.only i inside) [
+    | inl before ↦ c.pairs.invariant.only i before
+    | inr here ↦ subst (λ (k : ℕ). HasTurned (slice_get c.args.older.now k) (slice_get c.args.newer.now k)) (sym here.0)
+        (subst (λ (o : Option ℤ). HasTurned o (slice_get c.args.newer.now c.pairs.pair)) c.sum_at.ensures
+        (subst (λ (o : Option ℤ). HasTurned c.sum_at.result o) c.sum_at-in-pairs.ensures here.1))
   ];
 }

@@ -32,6 +32,9 @@ join_entries-requires-clause-entry c =
     (entries_grown c.args.dag.now c.args.self.now c.args.pool.now c.reserve-2.new.self c.grow.new.entries.items c.requires.view same
     (λ r. row_of_words c.args.pool.now c.reserve-2.new.self r (ap (λ (l : List Counted). words_of l r) c.in_ok-reserve-2.ensures.rows)))
 
+pub join_entries-requires-clause-none : goal.join_entries-requires-clause-none
+join_entries-requires-clause-none c = λ i x y le at. c.end_of-end.ensures.none i x y (omega (arith, le, c.grow.ensures.long)) at
+
 pub join_entries-requires-clause-room : goal.join_entries-requires-clause-room
 join_entries-requires-clause-room c =
     let table : Numbered = c.args.dag.now in
@@ -57,7 +60,7 @@ returns-clause-ok c =
       order = voting.order;
       asked = voting.asked;
       below = voting.below;
-      few = omega (arith, c.join_entries.ensures.long, c.grow.ensures.long, c.join_entries.new.entries.ok.0, c.pair_count-pairs.ensures.value);
+      few = omega (arith, c.join_entries.ensures.long, c.grow.ensures.long, c.join_entries.new.entries.ok.0, c.end_of-end.ensures.within);
       entry = c.join_entries.ensures.entry;
       live = λ r. omega (arith, c.join_entries.ensures.counts r, held_is r, ap (λ (l : List Counted). counted.count_of l r) c.in_ok-reserve-2.ensures.rows, c.requires.view.live r);
       once = c.join_entries.ensures.once;
