@@ -9,7 +9,7 @@ ghost use Rattle.sp_report.specs.Naming.{labels_of};
 
 use crate::line::Line;
 use crate::lines::{full_line, kept_line, known_line, refused_line, waiting_line};
-use crate::naming::{Naming, label};
+use crate::naming::{Naming, block_label};
 use sp_engine::Answer;
 use sp_io::{Failed, Sink, write_whole};
 
@@ -19,11 +19,11 @@ fn line_of(answer: &Answer, naming: &Naming<'_>) -> Line
 {
     match answer {
         Answer::Kept { id, present } => kept_line(
-            label(naming, id).as_slice(),
+            block_label(naming, id).as_slice(),
             u32::from(*present),
         ),
-        Answer::Held { id } => waiting_line(label(naming, id).as_slice()),
-        Answer::Known { id } => known_line(label(naming, id).as_slice()),
+        Answer::Held { id } => waiting_line(block_label(naming, id).as_slice()),
+        Answer::Known { id } => known_line(block_label(naming, id).as_slice()),
         Answer::Refused(refusal) => refused_line(*refusal),
         Answer::Full => full_line(),
     }

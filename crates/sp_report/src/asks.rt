@@ -10,7 +10,7 @@ ghost use Rattle.sp_report.specs.Naming.{labels_of};
 use crate::ask::Ask;
 use crate::line::Line;
 use crate::lines::{balance_line, tx_line, vote_line};
-use crate::naming::{Naming, label, lock_label, tx_label};
+use crate::naming::{Naming, block_label, lock_label, tx_label};
 use sp_engine::Engine;
 use sp_io::{Failed, Sink, write_whole};
 
@@ -22,8 +22,8 @@ pub(crate) fn line_of(engine: &Engine, ask: &Ask, naming: &Naming<'_>) -> Line
         Ask::Vote(x, y) => {
             let word = engine.vote(x, y);
             vote_line(
-                label(naming, x).as_slice(),
-                label(naming, y).as_slice(),
+                block_label(naming, x).as_slice(),
+                block_label(naming, y).as_slice(),
                 word,
             )
         }

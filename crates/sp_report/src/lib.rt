@@ -29,9 +29,10 @@ pub use faults::{malformed_line, too_long_line, truncated_line};
 pub use line::Line;
 pub use lines::{
     accepted_count_line, balance_count_line, balance_line, blocks_line, full_line, kept_line,
-    known_line, pair_count_line, refused_line, tx_line, vote_line, waiting_line,
+    known_line, pair_count_line, refused_line, state_text, tx_line, vote_line, waiting_line,
+    word_text,
 };
-pub use naming::Naming;
+pub use naming::{Naming, block_label, lock_label, tx_label};
 pub use ordered::present_ids;
 pub use pairs::pair_count;
 pub use text::{Text, TextFault};

@@ -87,8 +87,8 @@ pub fn full_line() -> Line
     line
 }
 
-// The word for what is said of two blocks.
-fn word_text(word: Word) -> &'static [u8]
+/// The word for what is said of two blocks, as it stands in a line.
+pub fn word_text(word: Word) -> &'static [u8]
     ensures word { result.now ≡ meant.word_text word }
     ensures short { length result.now ≤ 6 }
 {
@@ -119,8 +119,8 @@ pub fn vote_line(x: &[u8], y: &[u8], word: Word) -> Line
     line
 }
 
-// The word for the state of a transaction.
-fn state_text(state: TxState) -> &'static [u8]
+/// The word for the state of a transaction, as it stands in a line.
+pub fn state_text(state: TxState) -> &'static [u8]
     ensures word { result.now ≡ meant.state_text state }
     ensures short { length result.now ≤ 8 }
 {

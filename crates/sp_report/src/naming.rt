@@ -28,9 +28,10 @@ fn hex_label(bytes: &[u8; 32]) -> Name
     Name::of(&digits)
 }
 
-/// What stands in a line for the block of this id.
+/// What stands in a line for the block of this id: its name, or else 64 digits. The time is that of a
+/// look-up in an ordered map, and it takes no memory.
 #[tactic(auto, unfolding(crate::specs::Naming::hex_label))]
-pub(crate) fn label(naming: &Naming<'_>, id: &BlockId) -> Name
+pub fn block_label(naming: &Naming<'_>, id: &BlockId) -> Name
     ensures { result ≡ label_of (labels_of naming.now).blocks id.now }
 {
     match naming {
@@ -42,9 +43,9 @@ pub(crate) fn label(naming: &Naming<'_>, id: &BlockId) -> Name
     }
 }
 
-/// What stands in a line for the transaction of this id.
+/// What stands in a line for the transaction of this id, as `block_label` gives it.
 #[tactic(auto, unfolding(crate::specs::Naming::hex_label))]
-pub(crate) fn tx_label(naming: &Naming<'_>, id: &TxId) -> Name
+pub fn tx_label(naming: &Naming<'_>, id: &TxId) -> Name
     ensures { result ≡ label_of (labels_of naming.now).txs id.now }
 {
     match naming {
@@ -56,9 +57,9 @@ pub(crate) fn tx_label(naming: &Naming<'_>, id: &TxId) -> Name
     }
 }
 
-/// What stands in a line for a lock.
+/// What stands in a line for a lock, as `block_label` gives it; its digits are those of its bytes.
 #[tactic(auto, unfolding(crate::specs::Naming::hex_label))]
-pub(crate) fn lock_label(naming: &Naming<'_>, lock: &Lock) -> Name
+pub fn lock_label(naming: &Naming<'_>, lock: &Lock) -> Name
     ensures { result ≡ label_of (labels_of naming.now).locks lock.now }
 {
     match naming {

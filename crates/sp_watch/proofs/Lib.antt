@@ -1,0 +1,5 @@
+pub mod Notes
+pub mod Kept
+pub mod Digits
+pub mod Told
+pub mod LinesLeft
