@@ -1,0 +1,11 @@
+pub mod Keeping
+pub mod Growing
+pub mod Outside
+pub mod Heard
+pub mod Peers
+pub mod Taking
+pub mod Reports
+pub mod Spelled
+pub mod Readings
+pub mod Cuts
+pub mod Within
