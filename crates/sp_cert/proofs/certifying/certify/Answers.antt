@@ -1,0 +1,96 @@
+use Rattle.std.proofs.Common.{◌≡◌, ◌<◌, ◌∙◌, Bool, false, ◌&&◌, not, ap, sym, subst, ℕ, List, eqb}
+use Rattle.std.specs.Prelude.{All, ◌^◌, is_err}
+use Rattle.sp_block.specs.Block.{IsBlock, ReadBlock}
+use Rattle.sp_dag.specs.Numbered.{Numbered}
+use Rattle.sp_model.specs.declared.profile.Profile.{Profile}
+use Rattle.sp_model.specs.Graph.{has}
+use Rattle.sp_model.specs.Votes.{virt}
+use Rattle.sp_pool.specs.Kept.{graph_in, ids_of, present}
+use Rattle.sp_cert.specs.Certificate.{AreListed}
+use Rattle.sp_cert.specs.Made.{certificate_of}
+use Rattle.sp_cert.specs.Refusals.{are_two, numbered_of}
+use Rattle.sp_cert.proofs.Determined.{certificate_is}
+use Rattle.sp_cert.proofs.Given.{IfOk-both, IfOk-to, in_own, in_profile, kept_in, not_two, numbered_in}
+use Rattle.sp_cert.proofs.Listing.{all_placed, are_listed, each_block, sign_of_kept}
+use Rattle.sp_cert.proofs.WrittenCerts.{written_is_read}
+use Rattle.sp_cert.proofs.certifying.certify.Goals as goal
+
+pub graph-requires : goal.graph-requires
+graph-requires c =
+    let ids = c.in_ok-blocks.ensures.ids ∙ sym c.dag-numbered.ensures.ids in
+    subst (λ (l : List ReadBlock). AreListed l) (sym c.deref.ensures.value)
+    (are_listed c.args.engine.now.kept c.dag-numbered.result.now c.in_ok-blocks.blocks.items c.kept_count-kept.ensures.blocks c.dag-numbered.ensures.numbered c.dag-numbered.ensures.blocks
+    ids c.in_ok-blocks.ensures.kept)
+
+pub certificate-requires-clause-listed : goal.certificate-requires-clause-listed
+certificate-requires-clause-listed c =
+    let ids = c.in_ok-blocks.ensures.ids ∙ sym c.dag-numbered.ensures.ids in
+    are_listed c.args.engine.now.kept c.dag-numbered.result.now c.in_ok-blocks.blocks.items c.kept_count-kept.ensures.blocks c.dag-numbered.ensures.numbered c.dag-numbered.ensures.blocks
+    ids c.in_ok-blocks.ensures.kept
+
+pub certificate-requires-clause-placed : goal.certificate-requires-clause-placed
+certificate-requires-clause-placed c =
+    let ids = c.in_ok-blocks.ensures.ids ∙ sym c.dag-numbered.ensures.ids in
+    all_placed c.args.engine.now.kept c.dag-numbered.result.now c.in_ok-blocks.blocks.items c.kept_count-kept.ensures.blocks c.dag-numbered.ensures.numbered c.dag-numbered.ensures.blocks
+    ids c.in_ok-blocks.ensures.kept
+
+pub returns-clause-sign : goal.returns-clause-sign
+returns-clause-sign c =
+    let kept = c.args.engine.now.kept in
+    let profile = c.args.engine.now.profile in
+    let own = in_profile profile c.dag-numbered.result.now in
+    let ids = c.in_ok-blocks.ensures.ids ∙ sym c.dag-numbered.ensures.ids in
+    let of = ap (λ (d : Numbered). d.profile) c.in_ok-dag.ensures ∙ c.profile.ensures in
+    let e = c.certificate.ensures in
+    IfOk-to c.certificate.result
+    (λ cert h. sign_of_kept kept own c.in_ok-blocks.blocks.items c.kept_count-kept.ensures.blocks (numbered_in profile c.dag-numbered.result.now c.dag-numbered.ensures.numbered)
+    (kept_in profile kept c.dag-numbered.result.now c.dag-numbered.ensures.blocks) ids c.in_ok-blocks.ensures.kept
+    cert c.args.x.now c.args.y.now (λ id. ap (λ (l : List ℕ). has l id) c.dag-numbered.ensures.ids ∙ c.present-present.ensures.order id) h.0 (h.1.0 ∙ of) h.1.1.0 h.1.1.1.0 h.1.1.1.1.0 h.1.1.1.1.1)
+    (IfOk-both _ _ c.certificate.result e.shown (IfOk-both _ _ c.certificate.result e.profile (IfOk-both _ _ c.certificate.result e.blocks (IfOk-both _ _ c.certificate.result e.two (IfOk-both _ _ c.certificate.result e.x e.y)))))
+
+pub returns-clause-made : goal.returns-clause-made
+returns-clause-made c =
+    let kept = c.args.engine.now.kept in
+    let profile = c.args.engine.now.profile in
+    let blocks = c.in_ok-blocks.blocks.items in
+    let dag = c.in_ok-dag.dag in
+    let of : dag.profile ≡ profile = ap (λ (d : Numbered). d.profile) c.in_ok-dag.ensures ∙ c.profile.ensures in
+    let e = c.certificate.ensures in
+    let r = c.certificate.result in
+    IfOk-to r
+    (λ cert h. subst (λ (p : Profile). cert ≡ certificate_of p kept c.args.x.now c.args.y.now) of
+    (certificate_is kept blocks dag cert c.args.x.now c.args.y.now c.in_ok-blocks.ensures.ids c.in_ok-blocks.ensures.kept
+    (in_own c.profile.result blocks dag (c.in_ok-dag.ensures ∙ ap (numbered_of c.profile.result) c.deref.ensures.value)) h.0 h.1.0 h.1.1.0 h.1.1.1.0
+    (h.1.1.1.1.0 ∙ ap (λ (p : Profile). virt (graph_in p kept) (present kept) c.args.x.now c.args.y.now) (sym of)) h.1.1.1.1.1))
+    (IfOk-both _ _ r e.profile (IfOk-both _ _ r e.blocks (IfOk-both _ _ r e.x (IfOk-both _ _ r e.y (IfOk-both _ _ r (returns-clause-sign c) e.worlds)))))
+
+pub returns-clause-read : goal.returns-clause-read
+returns-clause-read c =
+    let kept = c.args.engine.now.kept in
+    let blocks = c.in_ok-blocks.blocks.items in
+    let ids = c.in_ok-blocks.ensures.ids ∙ sym c.dag-numbered.ensures.ids in
+    let all : All IsBlock blocks =
+    each_block kept c.dag-numbered.result.now blocks c.kept_count-kept.ensures.blocks c.dag-numbered.ensures.numbered c.dag-numbered.ensures.blocks ids c.in_ok-blocks.ensures.kept in
+    let e = c.certificate.ensures in
+    let r = c.certificate.result in
+    IfOk-to r
+    (λ cert h. written_is_read cert h.0 (record {
+      blocks = subst (λ (l : List ReadBlock). All IsBlock l) (sym h.1.0) all;
+      x = subst (λ (n : ℕ). n < 2 ^ 256) (sym h.1.1.0) c.as_bytes-x.ensures.bound;
+      y = subst (λ (n : ℕ). n < 2 ^ 256) (sym h.1.1.1.0) c.as_bytes-y.ensures.bound;
+      numbers = h.1.1.1.1;
+    }))
+    (IfOk-both _ _ r e.is (IfOk-both _ _ r e.blocks (IfOk-both _ _ r e.x (IfOk-both _ _ r e.y e.numbers))))
+
+pub returns-clause-no_pair : goal.returns-clause-no_pair
+returns-clause-no_pair c = λ none.
+    let kept = c.args.engine.now.kept in
+    let ids = ids_of c.in_ok-blocks.blocks.items in
+    let x = c.args.x.now in
+    let y = c.args.y.now in
+    let same : (id : ℕ) → has ids id ≡ has (present kept) id = λ id. ap (λ (l : List ℕ). has l id) c.in_ok-blocks.ensures.ids ∙ c.present-present.ensures.order id in
+    let two : are_two ids x y ≡ false =
+    ap (λ (b : Bool). not (eqb x y) && (b && has ids y)) (same x)
+    ∙ ap (λ (b : Bool). not (eqb x y) && (has (present kept) x && b)) (same y)
+    ∙ not_two (has (present kept) x) (has (present kept) y) (eqb x y) (virt (graph_in c.args.engine.now.profile kept) (present kept) x y) none in
+    ap is_err (c.certificate.ensures.no_pair two)
