@@ -9,7 +9,8 @@
 //! `arrivals`, `refusals` and `full_engine` test what an engine says of the bytes that come, and
 //! `acceptance` which transactions it accepts. `purse` tests what is left as transactions are accepted
 //! and taken back, by the purse itself, and `balances` what an engine says is left. `spent_twice` tests
-//! both after each arrival of drawn feeds, and `long_chain` that a long chain of spends turns.
+//! both after each arrival of drawn feeds, `contested` that acceptance by what changed is right where rivals
+//! stand in each other's way, and `long_chain` that a long chain of spends turns.
 //!
 //! `arrival_rows`, `acceptance_rows`, `balance_rows`, `purse_rows` and `turn_rows` are tables of these.
 //! `engine` makes an engine and runs it, `beside` asks a ledger beside it, `plain` asks the plain votes,
@@ -39,6 +40,8 @@ mod blocks;
 mod changes;
 #[cfg(test)]
 mod collisions;
+#[cfg(test)]
+mod contested;
 #[cfg(test)]
 mod drawn;
 #[cfg(test)]

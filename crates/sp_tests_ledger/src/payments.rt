@@ -95,7 +95,8 @@ fn inputs(alloc: Global, ids: &[TxId], spends: &[Spend]) -> Result<Inputs, Fail>
     Ok(Inputs::of(inputs))
 }
 
-fn outputs(alloc: Global, paid: &[Paid]) -> Result<Outputs, Fail> {
+/// The outputs that pay these.
+pub fn outputs(alloc: Global, paid: &[Paid]) -> Result<Outputs, Fail> {
     let mut outputs = Vec::new(alloc);
     for (amount, word) in paid {
         outputs.push(Output {
