@@ -16,7 +16,7 @@ STYLE = """
   rect.after { fill: #ffdfb3; stroke: #b05a00; }
   rect.tie { fill: #e4dcf5; stroke: #6b4fa8; }
   rect.waits { fill: none; stroke-dasharray: 6 4; }
-  rect.unsent { fill: none; stroke-dasharray: 2 3; }
+  rect.unsent, rect.away { fill: none; stroke-dasharray: 2 3; }
   rect.refused { fill: #fdeceb; stroke: #b3261e; stroke-dasharray: 2 3; }
   rect.asked { stroke-width: 3.2; }
   path.arrow { fill: none; stroke: #818a95; stroke-width: 1.2; }
@@ -33,7 +33,7 @@ STYLE = """
     rect.after { fill: #5a3505; stroke: #ffb454; }
     rect.tie { fill: #3d2f60; stroke: #bfa6ff; }
     rect.waits { fill: none; }
-    rect.unsent { fill: none; }
+    rect.unsent, rect.away { fill: none; }
     rect.refused { fill: #48191a; stroke: #ff8a80; }
     path.arrow { stroke: #8a939e; }
     path.head { fill: #8a939e; }

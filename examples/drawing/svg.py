@@ -69,7 +69,7 @@ def kind_of(block):
     """The class of a block's box."""
     if block.standing == "present":
         return block.word if block.word in WORDS else ""
-    return {"waits": "waits", "not sent": "unsent"}.get(block.standing, "refused")
+    return {"waits": "waits", "not sent": "unsent", "not here": "away"}.get(block.standing, "refused")
 
 
 def size_of(lines):
@@ -181,6 +181,7 @@ def meanings(graph):
         rows += [("", "", "the pair wasn't asked for yet")] if "" in kinds else []
     rows += [("waits", "waits", "kept, and an ancestor isn't present")] if "waits" in kinds else []
     rows += [("unsent", "not sent", "made, and never sent")] if "unsent" in kinds else []
+    rows += [("away", "not here", "made, and not kept by this node")] if "away" in kinds else []
     rows += [("refused", "", "sent, and not kept")] if "refused" in kinds else []
     return rows
 

@@ -1,5 +1,5 @@
 -- Where nothing failed, and neither the input nor what the disk held has a fault, a run is done, or memory was refused.
-use Rattle.std.proofs.Common.{◌≡◌, ◌⊎◌, inl, inr, ℕ, ◌<◌, ◌≤◌, true, false, List, [], length, Option, Some, None, IfSome, IsNone, IsSome, refl, sym, ◌∙◌, arith}
+use Rattle.std.proofs.Common.{◌≡◌, ◌⊎◌, inl, inr, ℕ, ◌<◌, ◌≤◌, true, false, List, [], length, Option, Some, None, IfSome, IsNone, IsSome, refl, sym, subst, ◌∙◌, arith}
 use Rattle.std.specs.Io.KnownBytes.{Appends}
 use Rattle.sp_disk.specs.Moments.{Moment}
 use Rattle.sp_feed.specs.Feed.{End, Malformed, TooLong, Truncated}
@@ -7,11 +7,13 @@ use Rattle.sp_journal.specs.Journal.{Contents}
 use Rattle.sp_journal.specs.Records.{Damaged, Found, NoJournal, Records, records}
 use Rattle.sp_make.specs.Made.{made}
 use Rattle.sp_play.specs.Scene.{scene}
-use Rattle.spectre.specs.Faults.{EndsMalformed, EndsTooLong, EndsTruncated, EndsWhole, IsDamaged, IsFaultless, IsMalformed, IsNoJournal, IsOtherChain, IsTooLong, IsTruncated}
+use Rattle.spectre.specs.Faults.{EndsMalformed, EndsTooLong, EndsTruncated, EndsWhole, IsDamaged, IsFaultless, IsLarge, IsMalformed, IsNoJournal, IsOtherChain, IsPoor, IsTooLong, IsTruncated}
+use Rattle.spectre.specs.Gossips.{gossip}
 use Rattle.spectre.specs.JobEnds.{JobEnds, WritesBy}
 use Rattle.spectre.specs.Jobs.{TakesNothing}
 use Rattle.spectre.specs.Output.{disk_told, input_told, OnDisk, OnInput, output_by}
 use Rattle.spectre.specs.Replay.{fed}
+use Rattle.spectre.specs.Spends.{IsLargeBy, IsPoorBy, IsSpend, spend_fed, Spent}
 use Rattle.spectre.specs.declared.job.Job.{Job}
 use Rattle.spectre.specs.declared.job.Job.TheVariants as jobs
 use Rattle.spectre.specs.declared.status.Status.{Status}
@@ -47,11 +49,16 @@ malformed (Some (jobs.Keep path fresh)) disk input bad good = malformed_end (fed
 malformed (Some jobs.Play) disk input bad good = some_none (scene input).fault bad.wrong good.right
 malformed (Some jobs.Build) disk input bad good = some_none (scene input).fault bad.wrong good.right
 malformed (Some (jobs.Drill n seed width)) disk input bad good = some_none (scene (made n seed width)).fault bad good
+malformed (Some jobs.Gossip) disk input bad good = some_none (gossip input).fault bad.wrong good.right
+malformed (Some (jobs.Spend amount to words)) disk input bad good = malformed_end (fed input).end bad good.0
+malformed (Some (jobs.Watch items)) disk input bad good = malformed_end (fed input).end bad good
 malformed other disk input bad good = bad
 
 truncated : (job : Option Job) (disk input : List ℕ) → IsTruncated job input → IsFaultless job disk input → ⊥
 truncated (Some jobs.Replay) disk input bad good = truncated_end (fed input).end bad good
 truncated (Some (jobs.Keep path fresh)) disk input bad good = truncated_end (fed input).end bad good.1
+truncated (Some (jobs.Spend amount to words)) disk input bad good = truncated_end (fed input).end bad good.0
+truncated (Some (jobs.Watch items)) disk input bad good = truncated_end (fed input).end bad good
 truncated other disk input bad good = bad
 
 long : (job : Option Job) (disk input : List ℕ) → IsTooLong job input → IsFaultless job disk input → ⊥
@@ -59,7 +66,24 @@ long (Some jobs.Replay) disk input bad good = long_end (fed input).end bad good
 long (Some (jobs.Keep path fresh)) disk input bad good = long_end (fed input).end bad good.1
 long (Some jobs.Play) disk input bad good = too_long (length input) _ bad good.short
 long (Some jobs.Build) disk input bad good = too_long (length input) _ bad good.short
+long (Some jobs.Gossip) disk input bad good = too_long (length input) _ bad good.short
+long (Some (jobs.Spend amount to words)) disk input bad good = long_end (fed input).end bad good.0
+long (Some (jobs.Watch items)) disk input bad good = long_end (fed input).end bad good
 long other disk input bad good = bad
+
+poor_spend : (s : Option Spent) → IsPoorBy s → IsSpend s → ⊥
+poor_spend s bad good = subst IsSpend bad.1 good
+
+large_spend : (s : Option Spent) → IsLargeBy s → IsSpend s → ⊥
+large_spend s bad good = subst IsSpend bad.1 good
+
+poor : (job : Option Job) (disk input : List ℕ) → IsPoor job input → IsFaultless job disk input → ⊥
+poor (Some (jobs.Spend amount to words)) disk input bad good = poor_spend (spend_fed words amount to input) bad.1 good.1
+poor other disk input bad good = bad
+
+large : (job : Option Job) (disk input : List ℕ) → IsLarge job input → IsFaultless job disk input → ⊥
+large (Some (jobs.Spend amount to words)) disk input bad good = large_spend (spend_fed words amount to input) bad.1 good.1
+large other disk input bad good = bad
 
 one_kind : (disk : List ℕ) (c : Contents) → records disk ≡ Found c → (r : Records) → records disk ≡ r → r ≡ Found c
 one_kind disk c found r is = sym is ∙ found
@@ -107,6 +131,9 @@ whatever_input (Some (jobs.Show path)) reads before old new P any h = if_all bef
 whatever_input (Some (jobs.Export path profile)) reads before old new P any h = if_all before _ (λ input. if_each reads _ _ (λ disk x. (x.0, any tt disk input x.1)) h)
 whatever_input (Some jobs.Play) reads before old new P any h = h
 whatever_input (Some jobs.Build) reads before old new P any h = h
+whatever_input (Some jobs.Gossip) reads before old new P any h = h
+whatever_input (Some (jobs.Spend amount to words)) reads before old new P any h = h
+whatever_input (Some (jobs.Watch items)) reads before old new P any h = h
 whatever_input other reads before old new P any h = if_all before _ (λ input. (h.0, any tt [] input h.1))
 
 -- where nothing is at fault, the status is one of these two
@@ -134,6 +161,8 @@ by_status job reads before after old new status.OtherChain read write disk by = 
 by_status job reads before after old new status.Memory read write disk by = at_rest job reads before status.Memory (inr refl)
 by_status job reads before after old new status.Damaged read write disk by = at_fault job reads before old new status.Damaged _ (damaged job) by
 by_status job reads before after old new status.TooLong read write disk by = at_fault job reads before old new status.TooLong _ (long job) by.0
+by_status job reads before after old new status.Poor read write disk by = at_fault job reads before old new status.Poor _ (poor job) by.0
+by_status job reads before after old new status.Large read write disk by = at_fault job reads before old new status.Large _ (large job) by.0
 
 pub completes : {job : Option Job} {reads before after old new : Option (List ℕ)} {first last : Moment} {s : Status} → JobEnds job reads before after old new first last s
     → (s ≡ status.ReadFault → ⊥) → (s ≡ status.WriteFault → ⊥) → (s ≡ status.DiskFault → ⊥) → Completes job reads before s

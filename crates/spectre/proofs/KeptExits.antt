@@ -37,7 +37,7 @@ use Rattle.spectre.specs.Journals.{Fits, FitsHead, found_blocks, HasOtherChain, 
 use Rattle.spectre.specs.Keeping.{bytes_of, FitsStored, IsAmiss, IsUntried, KeepAnswers, NamesBothOf, UntriedBy}
 use Rattle.spectre.specs.Replay.{but_last, fed, lines_under, replied, replied_but_last}
 use Rattle.spectre.specs.Replaying.{Replies, SaysReply}
-use Rattle.spectre.specs.Taken.{TakesFeed}
+use Rattle.spectre.specs.Taken.{TakesFeed, TakesFeedFor}
 use Rattle.spectre.specs.declared.job.Job.TheVariants as jobs
 use Rattle.spectre.specs.declared.keep.KeepFault.{KeepFault}
 use Rattle.spectre.specs.declared.keep.KeepFault.TheVariants.{DiskFault, Feed, Memory, OtherChain, WriteFault}
@@ -153,7 +153,7 @@ module _ (path : List ℕ) (fresh : Bool) (stored : Stored) {start now : Moment}
   exit_done {new = new} (inr t) = record {
     by = (
       on_map start.left first.reads _ _ (λ disk input l r h. (h.0, (fits_at fresh stored tells t.1.fits l r, h.1)))
-          (whole_text fresh stored start.left first.reads tells old new EndsWhole (fitting fresh stored start.left first.reads tells t.1.fits) (done_text t.0)),
+          (whole_text fresh stored start.left first.reads tells old new EndsWhole (fitting fresh stored start.left first.reads tells t.1.fits) (done_text (bytes_of stored) t.0)),
       done_rest t.0,
     );
     taken = λ takes. absurd takes;
@@ -172,7 +172,7 @@ module _ (path : List ℕ) (fresh : Bool) (stored : Stored) {start now : Moment}
   exit_write (inl u) = absurd u.why
   exit_write {new = new} (inr t) = record {
     by = front_of_text fresh stored start.left first.reads tells old new (fitting fresh stored start.left first.reads tells t.1.fits)
-        (write_text t.0);
+        (write_text (bytes_of stored) t.0);
     taken = λ takes. absurd takes;
     taken_fed = λ _. feed_taken fresh stored start.left first.reads tells now.left old new (takes t.0);
     onward = answered_stays fresh stored first last law tells {result = Err WriteFault} (inr t);
@@ -201,7 +201,7 @@ module _ (path : List ℕ) (fresh : Bool) (stored : Stored) {start now : Moment}
   }
   exit_memory {new = new} (inr t) = record {
     by = front_of_text fresh stored start.left first.reads tells old new (fitting fresh stored start.left first.reads tells t.1.fits)
-        (memory_text t.0);
+        (memory_text (bytes_of stored) t.0);
     taken = λ takes. absurd takes;
     taken_fed = λ _. feed_taken fresh stored start.left first.reads tells now.left old new (takes t.0);
     onward = answered_stays fresh stored first last law tells {result = Err Memory} (inr t);
@@ -391,13 +391,13 @@ module _ (path : List ℕ) (fresh : Bool) (stored : Stored) {start now : Moment}
   cut : result ≡ status.WriteFault → OnBoth start.left first.reads (λ disk input. AppendsFront old new (kept_output fresh disk input))
   cut is =
       let other : (e ≡ faults.ReadFault → ⊥) = λ h. (let no : status.WriteFault ≡ status.ReadFault = sym is ∙ read h in cc) in
-      front_of_text fresh stored start.left first.reads tells old new (accepted other) (fault_front new e r other front)
+      front_of_text fresh stored start.left first.reads tells old new (accepted other) (fault_front (bytes_of stored) new e r other front)
 
   -- it was
   written : (e ≡ faults.ReadFault → ⊥) → Appends mid new (feed_fault_text e) → (P : End → Type 0) → ((end : End) → Ends e end → P end)
       → OnBoth start.left first.reads (λ disk input. Appends old new (kept_output fresh disk input) × P (fed input).end)
   written other b P f = on_map start.left first.reads _ _ (λ disk input l x h. (h.0, f (fed input).end h.1))
-      (whole_text fresh stored start.left first.reads tells old new (Ends e) (accepted other) (fault_written new e r other b))
+      (whole_text fresh stored start.left first.reads tells old new (Ends e) (accepted other) (fault_written (bytes_of stored) new e r other b))
 
   -- by the fault
   by_fault : (f : FeedFault) → e ≡ f → Appends mid new (feed_fault_text e)
@@ -612,8 +612,8 @@ nothing_headed left s ends = (ends, record { given = []; consumed = none left; n
     none None = tt
     none (Some xs) = refl
 
-pub nothing_taken : (arrived : List (List ℕ)) (left old : Option (List ℕ)) → TakesFeed arrived left left old old
-nothing_taken arrived left old = record {
+pub nothing_taken_for : (due : List ℕ → List ℕ) (left old : Option (List ℕ)) → TakesFeedFor due left left old old
+nothing_taken_for due left old = record {
   given = [];
   consumed = none left;
   within = omega arith;
@@ -624,6 +624,9 @@ nothing_taken arrived left old = record {
     none : (o : Option (List ℕ)) → Consumes o o []
     none None = tt
     none (Some xs) = refl
+
+pub nothing_taken : (arrived : List (List ℕ)) (left old : Option (List ℕ)) → TakesFeed arrived left left old old
+nothing_taken arrived left old = nothing_taken_for (replied arrived) left old
 
 module _ (path : List ℕ) (fresh : Bool) (left old : Option (List ℕ)) (first last : DiskMoment) (law : IsMoment first) (last_law : IsMoment last)
     (looks : Looks first last) where

@@ -1,12 +1,12 @@
 -- A run that ends by a fault of the input, or of what the disk holds, wrote that fault's own line last: it follows from what was
 -- written by the status, since the disk comes first, then the chain of the feed, and then the feed.
-use Rattle.std.proofs.Common.{◌≡◌, ◌⊎◌, inl, inr, ℕ, ◌==◌, ◌||◌, Bool, true, false, cond, List, [], ◌++◌, length, Option, Some, None, IfSome, IsSome, refl, sym, ap, subst, ◌∙◌}
+use Rattle.std.proofs.Common.{◌≡◌, ◌⊎◌, inl, inr, ℕ, ◌==◌, ◌||◌, Bool, true, false, cond, List, [], ◌++◌, length, Option, Some, None, IfSome, IsSome, Err, refl, sym, ap, subst, ◌∙◌}
 use Rattle.std.specs.Io.KnownBytes.{Appends}
 use Rattle.std.proofs.lemmas.Bool.{eq-eqb}
 use Rattle.sp_disk.specs.Moments.{Moment}
 use Rattle.sp_ids.specs.Digest.{sha256_number}
 use Rattle.sp_engine.specs.Blocks.{block_in}
-use Rattle.sp_feed.specs.Feed.{End, Malformed, TooLong, Truncated}
+use Rattle.sp_feed.specs.Feed.{End, Malformed, TooLong, Truncated, Whole}
 use Rattle.sp_feed.specs.Format.{Head}
 use Rattle.sp_journal.specs.Journal.{Contents}
 use Rattle.sp_journal.specs.Records.{Damaged, Found, NoJournal, Records, records}
@@ -18,8 +18,9 @@ use Rattle.sp_play.specs.declared.why.LineFault.{LineFault}
 use Rattle.sp_report.specs.Lines.{too_long_text}
 use Rattle.spectre.specs.Chains.{EndsAtHead, EndsByChain}
 use Rattle.spectre.specs.Ends.{EndsByDisk}
-use Rattle.spectre.specs.Faults.{EndsMalformed, EndsTooLong, EndsTruncated, IsDamaged, IsDiskAtFault, IsMalformed, IsNoJournal, IsOtherChain, IsTooLong, IsTruncated}
+use Rattle.spectre.specs.Faults.{EndsMalformed, EndsTooLong, EndsTruncated, EndsWhole, IsDamaged, IsDiskAtFault, IsLarge, IsMalformed, IsNoJournal, IsOtherChain, IsPoor, IsTooLong, IsTruncated}
 use Rattle.spectre.specs.JobEnds.{JobEnds, WritesBy}
+use Rattle.spectre.specs.Gossips.{Fault, gossip, told_line, told_text}
 use Rattle.spectre.specs.Journals.{chained, found_blocks, blocks_in, HasNoJournal, HasOtherChain, IsDamagedDisk, is_chain_of, kept_by, kept_output, may_be_new, not_journal_text, other_chain_text, shown_by, shown_output}
 use Rattle.spectre.specs.LastLine.{AreLines, EndsInLine, IsLineOf, NamesFault}
 use Rattle.spectre.specs.Lines.{fault_text}
@@ -29,13 +30,23 @@ use Rattle.spectre.specs.Scenes.{built, drilled, played, scene_lines, summary_in
 use Rattle.spectre.specs.declared.job.Job.{Job}
 use Rattle.spectre.specs.declared.job.Job.TheVariants as jobs
 use Rattle.spectre.specs.declared.purpose.Purpose.TheVariants.{Build, Play}
+use Rattle.spectre.specs.declared.purpose.Task.TheVariants.{Scenario, Gossip}
 use Rattle.spectre.specs.declared.status.Status.{Status}
 use Rattle.spectre.specs.declared.status.Status.TheVariants as status
+use Rattle.spectre.proofs.GossipLines.{gossip_lines, told_fault}
 use Rattle.spectre.proofs.KeptRuns.{chain_no, chain_yes, damaged_says, none_says}
 use Rattle.spectre.proofs.Outputs.{is_long, is_short, output_long, output_short}
 use Rattle.spectre.proofs.Replayed.{text_is}
 use Rattle.spectre.proofs.TopCall.{in_all, on_all}
+use Rattle.sp_watch.specs.declared.item.Item.{Item}
+use Rattle.sp_wallet.specs.declared.fault.SpendFault.TheVariants as spends
+use Rattle.spectre.specs.Spends.{large_text, poor_text, spend_fed, spend_text, Spent, spent, spent_at, text_or_none}
+use Rattle.spectre.specs.Watches.{watch_replied, watched}
+use Rattle.spectre.proofs.Due.{Stops}
+use Rattle.spectre.proofs.SpentFeeds.{spent_closes}
+use Rattle.spectre.proofs.WatchedFeeds.{watched_closes}
 use Rattle.spectre.proofs.WholeLines.{all_lines}
+use Rattle.spectre.proofs.WatchLines.{watched_lines}
 use Rattle.spectre.specs.Replay.{head_terms}
 use Rattle.spectre.specs.Scenes.{scene_terms}
 use Rattle.spectre.specs.declared.shape.Shape.{Shape}
@@ -110,6 +121,24 @@ fed_line : {job : Option Job} {disk : List ℕ} {s : Status} {old new : Option (
     → EndsInLine job disk input s old new
 fed_line before input text end same is last took = parts text (replied before input) (end_text end) (same ∙ text_is before input end is) (replied_lines before input) last took
 
+-- a spend's fault stands alone, and so does the line of a feed that is spent of
+
+spent_stops : (words : List (List ℕ)) (amount to : ℕ) (input : List ℕ) (end : End) → (fed input).end ≡ end → Stops end → spent words amount to input ≡ end_text end
+spent_stops words amount to input end e stops = spent_closes words amount to input end e stops
+
+spent_whole : (text : List ℕ) (end : End) → EndsWhole end → spent_at text end ≡ text
+spent_whole text (Whole rest) h = refl
+spent_whole text other h = absurd h
+
+spent_ends : (words : List (List ℕ)) (amount to : ℕ) (input : List ℕ) (s : Spent) → EndsWhole (fed input).end → spend_fed words amount to input ≡ Some s → spent words amount to input ≡ spend_text s
+unfolding spent
+spent_ends words amount to input s whole is = spent_whole (text_or_none (spend_fed words amount to input)) (fed input).end whole ∙ ap text_or_none is
+
+-- the lines of a watch, and then that of the feed's fault
+watched_line : {disk : List ℕ} {s : Status} {old new : Option (List ℕ)} (items : List Item) (input : List ℕ) (end : End) → (fed input).end ≡ end → Stops end → IsLineOf (Some (jobs.Watch items)) disk input s (end_text end) → Appends old new (watched items input)
+    → EndsInLine (Some (jobs.Watch items)) disk input s old new
+watched_line items input end e stops last took = parts (watched items input) (watch_replied items input) (end_text end) (watched_closes items input end e stops) (watched_lines items input) last took
+
 -- ---- a scenario
 
 some_fault : (o : Option LineFault) → IsSome o → (fault : LineFault) × (o ≡ Some fault)
@@ -159,13 +188,21 @@ module _ {old new : Option (List ℕ)} where
   malformed (Some (jobs.Keep path fresh)) disk input took bad right same =
       let at = at_malformed (fed input).end bad in fed_line (found_blocks disk) input (kept_output fresh disk input) (Malformed at.0) (kept_replayed fresh disk input right same) at.1 (inl (tt, (at.0, at.1, refl))) took
   malformed (Some jobs.Play) disk input took bad right same =
-      played_line (scene input) _ (output_short Play input (is_short (length input) bad.short)) bad.wrong (λ fault is. inr (record { scene = scene input; plays = refl; fault = fault; has = is; is = refl })) took
+      played_line (scene input) _ (output_short (Scenario Play) input (is_short (length input) bad.short)) bad.wrong (λ fault is. inr (inl (record { scene = scene input; plays = refl; fault = fault; has = is; is = refl }))) took
   malformed (Some jobs.Build) disk input took bad right same =
       let b = built_is (scene input) in
-      lone_line (scene input) _ b.0 (output_short Build input (is_short (length input) bad.short) ∙ b.1) bad.wrong (λ fault is. inr (record { scene = scene input; plays = refl; fault = fault; has = is; is = refl })) took
+      lone_line (scene input) _ b.0 (output_short (Scenario Build) input (is_short (length input) bad.short) ∙ b.1) bad.wrong (λ fault is. inr (inl (record { scene = scene input; plays = refl; fault = fault; has = is; is = refl }))) took
   malformed (Some (jobs.Drill n seed width)) disk input took bad right same =
       let s = scene (made n seed width) in
-      lone_line s _ (summary_in s) (drilled_is s) bad (λ fault is. inr (record { scene = s; plays = refl; fault = fault; has = is; is = refl })) took
+      lone_line s _ (summary_in s) (drilled_is s) bad (λ fault is. inr (inl (record { scene = s; plays = refl; fault = fault; has = is; is = refl }))) took
+  malformed (Some jobs.Gossip) disk input took bad right same =
+      let f = told_fault (gossip input).fault bad.wrong in
+      parts _ (gossip input).text (told_line f.0) (output_short Gossip input (is_short (length input) bad.short) ∙ ap (λ (o : Option Fault). (gossip input).text ++ told_text o) f.1) (gossip_lines input)
+      (inr (inr (record { plays = refl; fault = f.0; has = f.1; is = refl }))) took
+  malformed (Some (jobs.Spend amount to words)) disk input took bad right same =
+      let at = at_malformed (fed input).end bad in alone _ (end_text (Malformed at.0)) (spent_stops words amount to input (Malformed at.0) at.1 tt) (inl (tt, (at.0, at.1, refl))) took
+  malformed (Some (jobs.Watch items)) disk input took bad right same =
+      let at = at_malformed (fed input).end bad in watched_line items input (Malformed at.0) at.1 tt (inl (tt, (at.0, at.1, refl))) took
   malformed other disk input took bad right same = absurd bad
 
   truncated : (job : Option Job) (disk input : List ℕ) → Appends old new (output_by job disk input) → IsTruncated job input → (IsDiskAtFault job disk → ⊥) → (IsOtherChain job disk input → ⊥) → EndsInLine job disk input status.Truncated old new
@@ -173,6 +210,10 @@ module _ {old new : Option (List ℕ)} where
       let at = at_truncated (fed input).end bad in fed_line [] input (replayed [] input) (Truncated at.0) refl at.1 (tt, (at.0, at.1, refl)) took
   truncated (Some (jobs.Keep path fresh)) disk input took bad right same =
       let at = at_truncated (fed input).end bad in fed_line (found_blocks disk) input (kept_output fresh disk input) (Truncated at.0) (kept_replayed fresh disk input right same) at.1 (tt, (at.0, at.1, refl)) took
+  truncated (Some (jobs.Spend amount to words)) disk input took bad right same =
+      let at = at_truncated (fed input).end bad in alone _ (end_text (Truncated at.0)) (spent_stops words amount to input (Truncated at.0) at.1 tt) (tt, (at.0, at.1, refl)) took
+  truncated (Some (jobs.Watch items)) disk input took bad right same =
+      let at = at_truncated (fed input).end bad in watched_line items input (Truncated at.0) at.1 tt (tt, (at.0, at.1, refl)) took
   truncated other disk input took bad right same = absurd bad
 
   too_long : (job : Option Job) (disk input : List ℕ) → Appends old new (output_by job disk input) → IsTooLong job input → (IsDiskAtFault job disk → ⊥) → (IsOtherChain job disk input → ⊥) → EndsInLine job disk input status.TooLong old new
@@ -180,9 +221,24 @@ module _ {old new : Option (List ℕ)} where
       let at = at_too_long (fed input).end bad in fed_line [] input (replayed [] input) (TooLong at.0) refl at.1 (inl (tt, (at.0, at.1, refl))) took
   too_long (Some (jobs.Keep path fresh)) disk input took bad right same =
       let at = at_too_long (fed input).end bad in fed_line (found_blocks disk) input (kept_output fresh disk input) (TooLong at.0) (kept_replayed fresh disk input right same) at.1 (inl (tt, (at.0, at.1, refl))) took
-  too_long (Some jobs.Play) disk input took bad right same = alone _ (too_long_text scenario_limit) (output_long Play input (is_long (length input) bad)) (inr (tt, refl)) took
-  too_long (Some jobs.Build) disk input took bad right same = alone _ (too_long_text scenario_limit) (output_long Build input (is_long (length input) bad)) (inr (tt, refl)) took
+  too_long (Some jobs.Play) disk input took bad right same = alone _ (too_long_text scenario_limit) (output_long (Scenario Play) input (is_long (length input) bad)) (inr (tt, refl)) took
+  too_long (Some jobs.Build) disk input took bad right same = alone _ (too_long_text scenario_limit) (output_long (Scenario Build) input (is_long (length input) bad)) (inr (tt, refl)) took
+  too_long (Some jobs.Gossip) disk input took bad right same = alone _ (too_long_text scenario_limit) (output_long Gossip input (is_long (length input) bad)) (inr (tt, refl)) took
+  too_long (Some (jobs.Spend amount to words)) disk input took bad right same =
+      let at = at_too_long (fed input).end bad in alone _ (end_text (TooLong at.0)) (spent_stops words amount to input (TooLong at.0) at.1 tt) (inl (tt, (at.0, at.1, refl))) took
+  too_long (Some (jobs.Watch items)) disk input took bad right same =
+      let at = at_too_long (fed input).end bad in watched_line items input (TooLong at.0) at.1 tt (inl (tt, (at.0, at.1, refl))) took
   too_long other disk input took bad right same = absurd bad
+
+  poor : (job : Option Job) (disk input : List ℕ) → Appends old new (output_by job disk input) → IsPoor job input → EndsInLine job disk input status.Poor old new
+  poor (Some (jobs.Spend amount to words)) disk input took bad =
+      let at = bad.1 in alone _ (poor_text at.0) (spent_ends words amount to input (Err (spends.Poor at.0)) bad.0 at.1) (at.0, at.1, refl) took
+  poor other disk input took bad = absurd bad
+
+  large : (job : Option Job) (disk input : List ℕ) → Appends old new (output_by job disk input) → IsLarge job input → EndsInLine job disk input status.Large old new
+  large (Some (jobs.Spend amount to words)) disk input took bad =
+      let at = bad.1 in alone _ (large_text at.0) (spent_ends words amount to input (Err (spends.Large at.0)) bad.0 at.1) (at.0, at.1, refl) took
+  large other disk input took bad = absurd bad
 
   no_journal : (job : Option Job) (disk input : List ℕ) → Appends old new (output_by job disk input) → IsNoJournal job disk → EndsInLine job disk input status.NotJournal old new
   no_journal (Some (jobs.Keep path fresh)) disk input took bad = alone _ not_journal_text (none_says fresh disk input bad).0 (bad.none, refl) took
@@ -249,6 +305,8 @@ module _ (job : Option Job) (reads before after old new : Option (List ℕ)) (Q 
   by_status status.Memory names by first chain = absurd names
   by_status status.Damaged names by first chain = of_disk status.Damaged (λ disk input. IsDamaged job disk) (damaged job) by
   by_status status.TooLong names by first chain = of_feed status.TooLong (λ disk input. IsTooLong job input) (λ no. no) (λ no. no) (too_long job) by.0 first chain
+  by_status status.Poor names by first chain = of_disk status.Poor (λ disk input. IsPoor job input) (poor job) by.0
+  by_status status.Large names by first chain = of_disk status.Large (λ disk input. IsLarge job input) (large job) by.0
 
 pub last_line : {job : Option Job} {reads before after old new : Option (List ℕ)} {first last : Moment} {s : Status} (Q : Type 0) → JobEnds job reads before after old new first last s
     → NamesFault s → First job reads s Q → Ends job reads before old new s

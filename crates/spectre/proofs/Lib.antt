@@ -16,7 +16,17 @@ pub mod Played
 pub mod Tallies
 pub mod DiskFirst
 pub mod WholeLines
+pub mod Gossiping
+pub mod GossipLines
 pub mod LastLines
 pub mod SmallNumbers
 pub mod Exported
 pub mod Sending
+pub mod Due
+pub mod BroughtBlocks
+pub mod SpentFeeds
+pub mod WatchedMessages
+pub mod WatchedFeeds
+pub mod WatchEnds
+pub mod WatchLines
+pub mod ArgumentLists

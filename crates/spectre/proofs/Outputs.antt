@@ -5,18 +5,16 @@ use Rattle.std.proofs.lemmas.List.{append-nil}
 use Rattle.std.specs.Io.KnownBytes.{Consumes, IsAtEnd}
 use Rattle.sp_io.specs.Whole.{AppendsFront}
 use Rattle.sp_io.proofs.Writing.{wrote_none}
-use Rattle.sp_play.specs.Scene.{scene}
 use Rattle.sp_play.specs.Source.{ConsumesExactly, scenario_limit}
 use Rattle.sp_report.specs.Lines.{too_long_text}
-use Rattle.spectre.specs.Output.{is_too_long, source_output}
-use Rattle.spectre.specs.Scenes.{scene_output}
-use Rattle.spectre.specs.declared.purpose.Purpose.{Purpose}
+use Rattle.spectre.specs.Output.{is_too_long, source_output, task_output}
+use Rattle.spectre.specs.declared.purpose.Task.{Task}
 
-pub output_long : (purpose : Purpose) (input : List ℕ) → is_too_long input ≡ true → source_output purpose input ≡ too_long_text scenario_limit
-output_long purpose input f = ap (λ b. cond b (too_long_text scenario_limit) (scene_output purpose (scene input))) f
+pub output_long : (task : Task) (input : List ℕ) → is_too_long input ≡ true → source_output task input ≡ too_long_text scenario_limit
+output_long task input f = ap (λ b. cond b (too_long_text scenario_limit) (task_output task input)) f
 
-pub output_short : (purpose : Purpose) (input : List ℕ) → is_too_long input ≡ false → source_output purpose input ≡ scene_output purpose (scene input)
-output_short purpose input f = ap (λ b. cond b (too_long_text scenario_limit) (scene_output purpose (scene input))) f
+pub output_short : (task : Task) (input : List ℕ) → is_too_long input ≡ false → source_output task input ≡ task_output task input
+output_short task input f = ap (λ b. cond b (too_long_text scenario_limit) (task_output task input)) f
 
 pub is_long : (n : ℕ) → scenario_limit ≤ n → nat_le scenario_limit n ≡ true
 is_long n h = grind (arith)
@@ -31,17 +29,17 @@ on_input P (Some input) None text p q t = absurd p
 on_input P (Some input) (Some rest) text p q t = subst P (sym (p ∙ ap (λ r. text ++ r) q ∙ append-nil text)) t
 
 -- and so is what it writes
-pub on_played : (purpose : Purpose) (P : List ℕ → Type 0) (old new : Option (List ℕ)) (text : List ℕ) → Consumes old new text → IsAtEnd new → length text < scenario_limit → P (scene_output purpose (scene text)) → IfSome old (λ input. P (source_output purpose input))
-on_played purpose P old new text p q h t =
-    on_input (λ input. P (source_output purpose input)) old new text p q (subst P (sym (output_short purpose text (is_short (length text) h))) t)
+pub on_played : (task : Task) (P : List ℕ → Type 0) (old new : Option (List ℕ)) (text : List ℕ) → Consumes old new text → IsAtEnd new → length text < scenario_limit → P (task_output task text) → IfSome old (λ input. P (source_output task input))
+on_played task P old new text p q h t =
+    on_input (λ input. P (source_output task input)) old new text p q (subst P (sym (output_short task text (is_short (length text) h))) t)
 
 -- the limit was taken
-pub on_too_long : (purpose : Purpose) (P : List ℕ → Type 0) (old new : Option (List ℕ)) → ConsumesExactly old new scenario_limit → P (too_long_text scenario_limit) → IfSome old (λ input. P (source_output purpose input))
-on_too_long purpose P None new p t = tt
-on_too_long purpose P (Some input) None p t = absurd p.1
-on_too_long purpose P (Some input) (Some rest) p t =
+pub on_too_long : (task : Task) (P : List ℕ → Type 0) (old new : Option (List ℕ)) → ConsumesExactly old new scenario_limit → P (too_long_text scenario_limit) → IfSome old (λ input. P (source_output task input))
+on_too_long task P None new p t = tt
+on_too_long task P (Some input) None p t = absurd p.1
+on_too_long task P (Some input) (Some rest) p t =
     let long : scenario_limit ≤ length input = omega (arith, ap length p.1, length-append p.0 rest, p.2) in
-    subst P (sym (output_long purpose input (is_long (length input) long))) t
+    subst P (sym (output_long task input (is_long (length input) long))) t
 
 -- and what follows it is left
 pub on_limit : (old new : Option (List ℕ)) → ConsumesExactly old new scenario_limit → IfSome old (λ input. new ≡ Some (drop scenario_limit input))
@@ -50,9 +48,9 @@ on_limit (Some input) None p = absurd p.1
 on_limit (Some input) (Some rest) p = ap (λ (t : List ℕ). Some t) (sym (ap (drop scenario_limit) p.1 ∙ ap (λ n. drop n (p.0 ++ rest)) (sym p.2) ∙ drop-append_seam p.0 rest))
 
 -- nothing was written
-pub on_nothing : (purpose : Purpose) (a old : Option (List ℕ)) → IfSome old (λ input. AppendsFront a a (source_output purpose input))
-on_nothing purpose a None = tt
-on_nothing purpose a (Some input) = (source_output purpose input, wrote_none a (source_output purpose input))
+pub on_nothing : (task : Task) (a old : Option (List ℕ)) → IfSome old (λ input. AppendsFront a a (source_output task input))
+on_nothing task a None = tt
+on_nothing task a (Some input) = (source_output task input, wrote_none a (source_output task input))
 
 -- nothing is left
 pub on_end : (old new : Option (List ℕ)) (text : List ℕ) → Consumes old new text → IsAtEnd new → IfSome old (λ input. new ≡ Some [])

@@ -138,6 +138,9 @@ brings_bytes (Some jobs.Play) disk input all talk says of = scene_brings input t
 brings_bytes (Some jobs.Build) disk input all talk says of = none_is says
 brings_bytes (Some (jobs.Make n seed width)) disk input all talk says of = none_is says
 brings_bytes (Some (jobs.Drill n seed width)) disk input all talk says of = scene_brings (made n seed width) talk says
+brings_bytes (Some jobs.Gossip) disk input all talk says of = none_is says
+brings_bytes (Some (jobs.Spend amount to words)) disk input all talk says of = feed_brings [] input of (λ bytes there. absurd there) (fed input).head refl talk says
+brings_bytes (Some (jobs.Watch items)) disk input all talk says of = feed_brings [] input of (λ bytes there. absurd there) (fed input).head refl talk says
 
 -- by the end of the first messages fewer blocks have arrived
 pub fewer_arrived : (talk : Talk) (before after : List Said) → talk.messages ≡ before ++ after → BringsBytes talk → (bytes : List ℕ) → Contains (arrived_by talk before) bytes → IsBytes bytes
@@ -184,6 +187,9 @@ on_bytes (Some jobs.Play) reads P told f = f [] none_bytes
 on_bytes (Some jobs.Build) reads P told f = f [] none_bytes
 on_bytes (Some (jobs.Make n seed width)) reads P told f = f [] none_bytes
 on_bytes (Some (jobs.Drill n seed width)) reads P told f = f [] none_bytes
+on_bytes (Some jobs.Gossip) reads P told f = f [] none_bytes
+on_bytes (Some (jobs.Spend amount to words)) reads P told f = f [] none_bytes
+on_bytes (Some (jobs.Watch items)) reads P told f = f [] none_bytes
 
 pub job_alike : (job : Option Job) (disk input : List ℕ) → JobAnswersAlike job disk input
 job_alike job disk input talk other says = alike talk other

@@ -1,5 +1,5 @@
 -- What the top call says of a run with a journal, and of one that wasn't begun for want of memory.
-use Rattle.std.proofs.Common.{◌≡◌, ℕ, List, Option, Some, None, IfSome, refl, sym, subst}
+use Rattle.std.proofs.Common.{◌≡◌, ℕ, true, false, List, Option, Some, None, IfSome, IsNone, IsSome, refl, sym, subst}
 use Rattle.sp_disk.specs.Moments.{IsMoment, Lasts, Leaves, Moment}
 use Rattle.sp_io.specs.Whole.{AppendsFront}
 use Rattle.sp_io.proofs.Writing.{wrote_none}
@@ -7,10 +7,11 @@ use Rattle.sp_journal.specs.Creation.{HoldsJournal, IsSynced}
 use Rattle.sp_journal.specs.Records.{records}
 use Rattle.spectre.specs.Chains.{EndsAtHead}
 use Rattle.spectre.specs.Crashes.{HoldsOnward, Recovery}
+use Rattle.spectre.specs.Ends.{Comes}
 use Rattle.spectre.specs.Faults.{IsOtherChain}
 use Rattle.spectre.specs.JobEnds.{JobEnds, WritesBy}
-use Rattle.spectre.specs.Output.{blocks_before, disk_told, input_told, OnDisk, OnInput, OnKeep, output_by}
-use Rattle.spectre.specs.Taken.{TakesFeed}
+use Rattle.spectre.specs.Output.{disk_told, due_of, input_told, OnDisk, OnInput, OnKeep, output_by}
+use Rattle.spectre.specs.Taken.{TakesFeedFor}
 use Rattle.spectre.specs.declared.job.Job.{Job}
 use Rattle.spectre.specs.declared.job.Job.TheVariants as jobs
 use Rattle.spectre.specs.declared.status.Status.{Status}
@@ -18,7 +19,7 @@ use Rattle.spectre.specs.declared.status.Status.TheVariants as status
 use Rattle.sp_disk.proofs.Lasting.{looks_same}
 use Rattle.spectre.proofs.Lasting.{looked_lasts}
 use Rattle.spectre.proofs.Onward.{looked_stays}
-use Rattle.spectre.proofs.KeptExits.{exit_early, nothing_headed, nothing_taken, silent_memory}
+use Rattle.spectre.proofs.KeptExits.{exit_early, nothing_headed, nothing_taken_for, silent_memory}
 
 -- what holds by a status
 pub ends_at : {job : Option Job} {reads before after old new : Option (List ℕ)} {first last : Moment} {s : Status} (t : Status) → s ≡ t → JobEnds job reads before after old new first last s → WritesBy job reads before after old new t
@@ -31,19 +32,22 @@ asked_ends {reads = reads} {before = before} {after = after} {old = old} {new = 
 
 -- by each status that there is
 pub on_status : (P : Status → Type 0) (s : Status) → (s ≡ status.Done → P status.Done) → (s ≡ status.Usage → P status.Usage) → (s ≡ status.Malformed → P status.Malformed) → (s ≡ status.Truncated → P status.Truncated) → (s ≡ status.ReadFault → P status.ReadFault) → (s ≡ status.WriteFault → P status.WriteFault)
-    → (s ≡ status.DiskFault → P status.DiskFault) → (s ≡ status.NotJournal → P status.NotJournal) → (s ≡ status.OtherChain → P status.OtherChain) → (s ≡ status.Memory → P status.Memory) → (s ≡ status.Damaged → P status.Damaged) → (s ≡ status.TooLong → P status.TooLong) → P s
-on_status P status.Done done usage malformed truncated read write disk no_journal other memory damaged long = done refl
-on_status P status.Usage done usage malformed truncated read write disk no_journal other memory damaged long = usage refl
-on_status P status.Malformed done usage malformed truncated read write disk no_journal other memory damaged long = malformed refl
-on_status P status.Truncated done usage malformed truncated read write disk no_journal other memory damaged long = truncated refl
-on_status P status.ReadFault done usage malformed truncated read write disk no_journal other memory damaged long = read refl
-on_status P status.WriteFault done usage malformed truncated read write disk no_journal other memory damaged long = write refl
-on_status P status.DiskFault done usage malformed truncated read write disk no_journal other memory damaged long = disk refl
-on_status P status.NotJournal done usage malformed truncated read write disk no_journal other memory damaged long = no_journal refl
-on_status P status.OtherChain done usage malformed truncated read write disk no_journal other memory damaged long = other refl
-on_status P status.Memory done usage malformed truncated read write disk no_journal other memory damaged long = memory refl
-on_status P status.Damaged done usage malformed truncated read write disk no_journal other memory damaged long = damaged refl
-on_status P status.TooLong done usage malformed truncated read write disk no_journal other memory damaged long = long refl
+    → (s ≡ status.DiskFault → P status.DiskFault) → (s ≡ status.NotJournal → P status.NotJournal) → (s ≡ status.OtherChain → P status.OtherChain) → (s ≡ status.Memory → P status.Memory) → (s ≡ status.Damaged → P status.Damaged) → (s ≡ status.TooLong → P status.TooLong)
+    → (s ≡ status.Poor → P status.Poor) → (s ≡ status.Large → P status.Large) → P s
+on_status P status.Done done usage malformed truncated read write disk no_journal other memory damaged long poor large = done refl
+on_status P status.Usage done usage malformed truncated read write disk no_journal other memory damaged long poor large = usage refl
+on_status P status.Malformed done usage malformed truncated read write disk no_journal other memory damaged long poor large = malformed refl
+on_status P status.Truncated done usage malformed truncated read write disk no_journal other memory damaged long poor large = truncated refl
+on_status P status.ReadFault done usage malformed truncated read write disk no_journal other memory damaged long poor large = read refl
+on_status P status.WriteFault done usage malformed truncated read write disk no_journal other memory damaged long poor large = write refl
+on_status P status.DiskFault done usage malformed truncated read write disk no_journal other memory damaged long poor large = disk refl
+on_status P status.NotJournal done usage malformed truncated read write disk no_journal other memory damaged long poor large = no_journal refl
+on_status P status.OtherChain done usage malformed truncated read write disk no_journal other memory damaged long poor large = other refl
+on_status P status.Memory done usage malformed truncated read write disk no_journal other memory damaged long poor large = memory refl
+on_status P status.Damaged done usage malformed truncated read write disk no_journal other memory damaged long poor large = damaged refl
+on_status P status.TooLong done usage malformed truncated read write disk no_journal other memory damaged long poor large = long refl
+on_status P status.Poor done usage malformed truncated read write disk no_journal other memory damaged long poor large = poor refl
+on_status P status.Large done usage malformed truncated read write disk no_journal other memory damaged long poor large = large refl
 
 -- a run that takes nothing leaves all of it
 pub left_whole : (o : Option (List ℕ)) → IfSome o (λ input. o ≡ Some input)
@@ -65,8 +69,8 @@ pub nothing_written : (job : Option Job) (left reads a : Option (List ℕ)) → 
 nothing_written job left reads a = in_all job left _ (λ input. on_all job reads _ (λ bytes. (output_by job bytes input, wrote_none a (output_by job bytes input))))
 
 -- nor taken
-pub nothing_fed : (job : Option Job) (left reads a : Option (List ℕ)) → OnDisk job reads (λ bytes. TakesFeed (blocks_before job bytes) left left a a)
-nothing_fed job left reads a = on_all job reads _ (λ bytes. nothing_taken (blocks_before job bytes) left a)
+pub nothing_fed : (job : Option Job) (left reads a : Option (List ℕ)) → OnDisk job reads (λ bytes. TakesFeedFor (due_of job bytes) left left a a)
+nothing_fed job left reads a = on_all job reads _ (λ bytes. nothing_taken_for (due_of job bytes) left a)
 
 -- nor behind a head
 pub nothing_behind : (job : Option Job) (left reads : Option (List ℕ)) → OnInput job left (λ input. OnDisk job reads (λ bytes. IsOtherChain job bytes input → EndsAtHead left left status.Memory))
@@ -85,3 +89,23 @@ nothing_ended other m law = tt
 pub nothing_lost : (job : Option Job) (m : Moment) → IsMoment m → OnKeep job (λ fresh. IfSome m.reads (λ bytes. IsSynced m → Leaves m m (HoldsOnward (records bytes))))
 nothing_lost (Some (jobs.Keep path fresh)) m law = looked_stays m m law (looks_same m law)
 nothing_lost other m law = tt
+
+-- memory may be refused to each job
+pub memory_comes : (job : Option Job) → IsSome job → Comes job status.Memory
+memory_comes None some = absurd (let no : false ≡ true = some in cc)
+memory_comes (Some jobs.Replay) some = tt
+memory_comes (Some (jobs.Keep path fresh)) some = tt
+memory_comes (Some (jobs.Show path)) some = tt
+memory_comes (Some (jobs.Export path profile)) some = tt
+memory_comes (Some jobs.Play) some = tt
+memory_comes (Some jobs.Build) some = tt
+memory_comes (Some (jobs.Make n seed width)) some = tt
+memory_comes (Some (jobs.Drill n seed width)) some = tt
+memory_comes (Some jobs.Gossip) some = tt
+memory_comes (Some (jobs.Spend amount to words)) some = tt
+memory_comes (Some (jobs.Watch items)) some = tt
+
+-- so these words are a job
+pub no_usage : (job : Option Job) → IsSome job → IsNone job → ⊥
+no_usage None some none = absurd (let no : false ≡ true = some in cc)
+no_usage (Some job) some none = absurd (let no : true ≡ false = none in cc)

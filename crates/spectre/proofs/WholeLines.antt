@@ -25,17 +25,17 @@ use Rattle.sp_node.specs.Terms.{Terms}
 -- ---- lines one behind another
 
 -- a line stands at the end
-abbrev EndsLine : List ℕ → Type 0
+abbrev pub EndsLine : List ℕ → Type 0
 EndsLine text = (front : List ℕ) × (text ≡ front ++ 10 ∷ [])
 
-behind : (front : List ℕ) {text : List ℕ} → EndsLine text → EndsLine (front ++ text)
+pub behind : (front : List ℕ) {text : List ℕ} → EndsLine text → EndsLine (front ++ text)
 behind front h = (front ++ h.0, ap (λ (t : List ℕ). front ++ t) h.1 ∙ sym (append_assoc front h.0 (10 ∷ [])))
 
-join : (a b : List ℕ) → AreLines a → AreLines b → AreLines (a ++ b)
+pub join : (a b : List ℕ) → AreLines a → AreLines b → AreLines (a ++ b)
 join a b p (inl none) = subst AreLines (sym (ap (λ (t : List ℕ). a ++ t) none ∙ append-nil a)) p
 join a b p (inr line) = inr (behind a line)
 
-each : {A : Type 0} (text : A → List ℕ) → ((x : A) → AreLines (text x)) → (xs : List A) → AreLines (flat_map text xs)
+pub each : {A : Type 0} (text : A → List ℕ) → ((x : A) → AreLines (text x)) → (xs : List A) → AreLines (flat_map text xs)
 each text lines [] = inl refl
 each text lines (x ∷ xs) = join (text x) (flat_map text xs) (lines x) (each text lines xs)
 
@@ -53,13 +53,16 @@ balance_line : (label : List ℕ) (balance : ℕ) → AreLines (balance_text lab
 unfolding balance_text
 balance_line label balance = inr (codes "balance " ++ label ++ 32 ∷ [] ++ decimal balance, refl)
 
-answer_line : (labels : AllLabels) (answer : Answer) → AreLines (answer_text labels answer)
+pub answer_ends : (labels : AllLabels) (answer : Answer) → EndsLine (answer_text labels answer)
 unfolding kept_text waiting_text known_text refused_text full_text
-answer_line labels (Kept id present) = inr (codes "kept " ++ label_of labels.blocks id ++ codes " present " ++ decimal present, refl)
-answer_line labels (Held id) = inr (codes "kept " ++ label_of labels.blocks id ++ codes " waiting", refl)
-answer_line labels (Known id) = inr (codes "known " ++ label_of labels.blocks id, refl)
-answer_line labels (Refused refusal) = inr (codes "refused " ++ reason refusal, refl)
-answer_line labels Full = inr (codes "full", refl)
+answer_ends labels (Kept id present) = (codes "kept " ++ label_of labels.blocks id ++ codes " present " ++ decimal present, refl)
+answer_ends labels (Held id) = (codes "kept " ++ label_of labels.blocks id ++ codes " waiting", refl)
+answer_ends labels (Known id) = (codes "known " ++ label_of labels.blocks id, refl)
+answer_ends labels (Refused refusal) = (codes "refused " ++ reason refusal, refl)
+answer_ends labels Full = (codes "full", refl)
+
+answer_line : (labels : AllLabels) (answer : Answer) → AreLines (answer_text labels answer)
+answer_line labels answer = inr (answer_ends labels answer)
 
 -- ---- the texts of many lines
 
@@ -91,14 +94,14 @@ paid_lines : (profile : Profile) (labels : AllLabels) (kept : List ReadBlock) (l
 unfolding all_paid_text
 paid_lines profile labels kept locks = join _ _ (balance_count_line _) (each (paid_text profile labels kept) (λ lock. balance_line _ _) locks)
 
-report_lines : (profile : Profile) (labels : AllLabels) (kept : List ReadBlock) → AreLines (report_text profile labels kept)
+pub report_lines : (profile : Profile) (labels : AllLabels) (kept : List ReadBlock) → AreLines (report_text profile labels kept)
 unfolding report_text
 report_lines profile labels kept =
     join (counts_text kept) _ (blocks_line _ _) (join _ _ (accepted_lines labels (accepted_ids profile labels kept)) (paid_lines profile labels kept (paid_locks profile labels kept)))
 
 -- ---- the answers to messages
 
-reply_lines : (labels : AllLabels) (terms : Terms) (kept : List ReadBlock) (message : Said) → AreLines (reply_of labels terms kept message)
+pub reply_lines : (labels : AllLabels) (terms : Terms) (kept : List ReadBlock) (message : Said) → AreLines (reply_of labels terms kept message)
 unfolding reply_of
 reply_lines labels terms kept (SaysBlock bytes) = answer_line labels _
 reply_lines labels terms kept (SaysVote x y) = vote_line _ _ _

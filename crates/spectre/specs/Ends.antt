@@ -1,10 +1,12 @@
 -- How a scene and a run can end.
-use Rattle.std.specs.Prelude.{◌≡◌, ℕ, [], ◌∷◌, Option, Some, None, IsSome, IsNone, Result, Ok, Err}
+use Rattle.std.specs.Prelude.{◌≡◌, ℕ, List, [], ◌∷◌, Option, Some, None, IsSome, IsNone, Result, Ok, Err}
 use Rattle.sp_io.specs.Causes.{Rose}
 use Rattle.sp_play.specs.Scene.{Scene}
+use Rattle.spectre.specs.Faults.{HasFault, HasNoFault}
 use Rattle.spectre.specs.OneOf.{IsOneOf}
 use Rattle.spectre.specs.declared.job.Job.{Job}
 use Rattle.spectre.specs.declared.job.Job.TheVariants as jobs
+use Rattle.spectre.specs.declared.purpose.Task.{Task}
 use Rattle.spectre.specs.declared.status.Status.{Status}
 use Rattle.spectre.specs.declared.status.Status.TheVariants as status
 use Rattle.spectre.specs.declared.ending.Ending.{Ending}
@@ -16,6 +18,15 @@ use Rattle.spectre.specs.declared.ending.Stop.TheVariants.{WriteFault, Memory}
 abbrev pub EndsAs : Scene → Ending → Type 0
 EndsAs scene Whole = IsNone scene.fault
 EndsAs scene Faulty = IsSome scene.fault
+
+-- a text is whole where it has no fault
+abbrev pub EndsBy : {A : Type 0} → Option A → Ending → Type 0
+EndsBy fault Whole = IsNone fault
+EndsBy fault Faulty = IsSome fault
+
+abbrev pub EndsTask : Task → List ℕ → Ending → Type 0
+EndsTask task text Whole = HasNoFault task text
+EndsTask task text Faulty = HasFault task text
 
 -- a write failed and the sink's count rose, or memory was refused
 abbrev pub HasStopCause : ℕ → ℕ → Stop → Type 0
@@ -29,6 +40,10 @@ Plays s = IsOneOf s (status.Done ∷ status.Malformed ∷ status.ReadFault ∷ s
 -- the statuses that a feed can end with
 abbrev pub Replays : Status → Type 0
 Replays s = IsOneOf s (status.Done ∷ status.Malformed ∷ status.Truncated ∷ status.ReadFault ∷ status.WriteFault ∷ status.Memory ∷ status.TooLong ∷ [])
+
+-- the statuses that a spend can end with
+abbrev pub SpendsTo : Status → Type 0
+SpendsTo s = IsOneOf s (status.Done ∷ status.Malformed ∷ status.Truncated ∷ status.ReadFault ∷ status.WriteFault ∷ status.Memory ∷ status.TooLong ∷ status.Poor ∷ status.Large ∷ [])
 
 -- the status of what was done with a scene
 abbrev pub status_by : Result Ending Stop → Status
@@ -64,3 +79,6 @@ Comes (Some jobs.Play) s = Plays s
 Comes (Some jobs.Build) s = Plays s
 Comes (Some (jobs.Make n seed width)) s = Makes s
 Comes (Some (jobs.Drill n seed width)) s = Makes s
+Comes (Some jobs.Gossip) s = Plays s
+Comes (Some (jobs.Spend amount to words)) s = SpendsTo s
+Comes (Some (jobs.Watch items)) s = Replays s

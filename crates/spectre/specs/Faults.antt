@@ -10,10 +10,16 @@ use Rattle.sp_journal.specs.Records.{NoJournal, records}
 use Rattle.sp_make.specs.Made.{made}
 use Rattle.sp_play.specs.Scene.{scene}
 use Rattle.sp_play.specs.Source.{scenario_limit}
+use Rattle.spectre.specs.Gossips.{gossip}
 use Rattle.spectre.specs.Journals.{Fits, HasNoJournal, HasOtherChain, IsDamagedDisk}
 use Rattle.spectre.specs.Replay.{fed, feed_limit}
+use Rattle.spectre.specs.Spends.{IsLargeBy, IsPoorBy, IsSpend, spend_fed}
 use Rattle.spectre.specs.declared.job.Job.{Job}
-use Rattle.spectre.specs.declared.job.Job.TheVariants.{Replay, Keep, Show, Export, Play, Build, Make, Drill}
+use Rattle.spectre.specs.declared.job.Job.TheVariants as jobs
+use Rattle.spectre.specs.declared.job.Job.TheVariants.{Replay, Keep, Show, Export, Play, Build, Make, Drill, Spend, Watch}
+use Rattle.spectre.specs.declared.purpose.Purpose.TheVariants as purposes
+use Rattle.spectre.specs.declared.purpose.Task.{Task}
+use Rattle.spectre.specs.declared.purpose.Task.TheVariants.{Scenario, Gossip}
 use Rattle.spectre.specs.declared.status.Status.{Status}
 use Rattle.spectre.specs.declared.status.Status.TheVariants as status
 
@@ -40,14 +46,24 @@ abbrev pub rest_behind : End → List ℕ
 rest_behind (Whole rest) = rest
 rest_behind other = []
 
--- a scenario that was taken has no fault, has one, or goes on after as many bytes as are taken
+-- a scenario, or one with a script behind it, has a fault, or none
 
-pub record IsWholeScene (input : List ℕ) : Type 0 where
-  pub right : IsNone (scene input).fault
+abbrev pub HasFault : Task → List ℕ → Type 0
+HasFault (Scenario purpose) text = IsSome (scene text).fault
+HasFault Gossip text = IsSome (gossip text).fault
+
+abbrev pub HasNoFault : Task → List ℕ → Type 0
+HasNoFault (Scenario purpose) text = IsNone (scene text).fault
+HasNoFault Gossip text = IsNone (gossip text).fault
+
+-- what was taken has no fault, has one, or goes on after as many bytes as are taken
+
+pub record IsWholeText (task : Task) (input : List ℕ) : Type 0 where
+  pub right : HasNoFault task input
   pub short : length input < scenario_limit
 
-pub record IsFaultyScene (input : List ℕ) : Type 0 where
-  pub wrong : IsSome (scene input).fault
+pub record IsFaultyText (task : Task) (input : List ℕ) : Type 0 where
+  pub wrong : HasFault task input
   pub short : length input < scenario_limit
 
 -- the input of a job has no fault, nor has what the disk holds; where it takes none, what it makes has none
@@ -57,24 +73,32 @@ IsFaultless (Some Replay) disk input = EndsWhole (fed input).end
 IsFaultless (Some (Keep path fresh)) disk input = Fits fresh disk input × EndsWhole (fed input).end
 IsFaultless (Some (Show path)) disk input = HoldsJournal disk
 IsFaultless (Some (Export path profile)) disk input = HoldsJournal disk
-IsFaultless (Some Play) disk input = IsWholeScene input
-IsFaultless (Some Build) disk input = IsWholeScene input
+IsFaultless (Some Play) disk input = IsWholeText (Scenario purposes.Play) input
+IsFaultless (Some Build) disk input = IsWholeText (Scenario purposes.Build) input
 IsFaultless (Some (Make n seed width)) disk input = Unit {0}
 IsFaultless (Some (Drill n seed width)) disk input = IsNone (scene (made n seed width)).fault
+IsFaultless (Some jobs.Gossip) disk input = IsWholeText Gossip input
+IsFaultless (Some (Spend amount to words)) disk input = EndsWhole (fed input).end × IsSpend (spend_fed words amount to input)
+IsFaultless (Some (Watch items)) disk input = EndsWhole (fed input).end
 
 -- it has a faulty line, or a malformed field
 abbrev pub IsMalformed : Option Job → List ℕ → Type 0
 IsMalformed (Some Replay) input = EndsMalformed (fed input).end
 IsMalformed (Some (Keep path fresh)) input = EndsMalformed (fed input).end
-IsMalformed (Some Play) input = IsFaultyScene input
-IsMalformed (Some Build) input = IsFaultyScene input
+IsMalformed (Some Play) input = IsFaultyText (Scenario purposes.Play) input
+IsMalformed (Some Build) input = IsFaultyText (Scenario purposes.Build) input
 IsMalformed (Some (Drill n seed width)) input = IsSome (scene (made n seed width)).fault
+IsMalformed (Some jobs.Gossip) input = IsFaultyText Gossip input
+IsMalformed (Some (Spend amount to words)) input = EndsMalformed (fed input).end
+IsMalformed (Some (Watch items)) input = EndsMalformed (fed input).end
 IsMalformed other input = ⊥
 
 -- it ends before the frame `E` is whole
 abbrev pub IsTruncated : Option Job → List ℕ → Type 0
 IsTruncated (Some Replay) input = EndsTruncated (fed input).end
 IsTruncated (Some (Keep path fresh)) input = EndsTruncated (fed input).end
+IsTruncated (Some (Spend amount to words)) input = EndsTruncated (fed input).end
+IsTruncated (Some (Watch items)) input = EndsTruncated (fed input).end
 IsTruncated other input = ⊥
 
 -- it goes on after as many bytes as are taken
@@ -83,7 +107,20 @@ IsTooLong (Some Replay) input = EndsTooLong (fed input).end
 IsTooLong (Some (Keep path fresh)) input = EndsTooLong (fed input).end
 IsTooLong (Some Play) input = scenario_limit ≤ length input
 IsTooLong (Some Build) input = scenario_limit ≤ length input
+IsTooLong (Some jobs.Gossip) input = scenario_limit ≤ length input
+IsTooLong (Some (Spend amount to words)) input = EndsTooLong (fed input).end
+IsTooLong (Some (Watch items)) input = EndsTooLong (fed input).end
 IsTooLong other input = ⊥
+
+-- the feed ends by its frame `E`, and what its blocks leave doesn't reach the amount of a spend
+abbrev pub IsPoor : Option Job → List ℕ → Type 0
+IsPoor (Some (Spend amount to words)) input = EndsWhole (fed input).end × IsPoorBy (spend_fed words amount to input)
+IsPoor other input = ⊥
+
+-- it ends so, and what is chosen comes to too much
+abbrev pub IsLarge : Option Job → List ℕ → Type 0
+IsLarge (Some (Spend amount to words)) input = EndsWhole (fed input).end × IsLargeBy (spend_fed words amount to input)
+IsLarge other input = ⊥
 
 -- the disk holds no journal where one is needed
 abbrev pub IsNoJournal : Option Job → List ℕ → Type 0
@@ -114,6 +151,9 @@ unread (Some Replay) input = rest_behind (fed input).end
 unread (Some (Keep path fresh)) input = rest_behind (fed input).end
 unread (Some Play) input = []
 unread (Some Build) input = []
+unread (Some jobs.Gossip) input = []
+unread (Some (Spend amount to words)) input = rest_behind (fed input).end
+unread (Some (Watch items)) input = rest_behind (fed input).end
 unread other input = input
 
 -- what a run leaves of input that is too long: all that follows the bytes of the limit
@@ -122,6 +162,9 @@ beyond (Some Replay) input = drop feed_limit input
 beyond (Some (Keep path fresh)) input = drop feed_limit input
 beyond (Some Play) input = drop scenario_limit input
 beyond (Some Build) input = drop scenario_limit input
+beyond (Some jobs.Gossip) input = drop scenario_limit input
+beyond (Some (Spend amount to words)) input = drop feed_limit input
+beyond (Some (Watch items)) input = drop feed_limit input
 beyond other input = input
 
 -- the line of a feed's fault, and the status that it gives

@@ -3,6 +3,8 @@ use Rattle.sp_feed.specs.declared.fault.HeadFault.{HeadFault}
 use Rattle.sp_feed.specs.declared.fault.HeadFault.TheVariants as heads
 use Rattle.sp_node.specs.declared.fault.NodeFault.{NodeFault}
 use Rattle.sp_node.specs.declared.fault.NodeFault.TheVariants as nodes
+use Rattle.spectre.specs.declared.ending.Stop.{Stop}
+use Rattle.spectre.specs.declared.ending.Stop.TheVariants as stops
 use Rattle.spectre.specs.declared.replay.ReplayFault.{ReplayFault}
 use Rattle.spectre.specs.declared.replay.ReplayFault.TheVariants as replays
 
@@ -14,3 +16,7 @@ abbrev pub of_node : NodeFault → ReplayFault
 of_node nodes.WriteFault = replays.WriteFault
 of_node nodes.DiskFault = replays.DiskFault
 of_node nodes.Memory = replays.Memory
+
+abbrev pub of_stop : Stop → ReplayFault
+of_stop stops.WriteFault = replays.WriteFault
+of_stop stops.Memory = replays.Memory

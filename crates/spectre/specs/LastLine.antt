@@ -1,5 +1,5 @@
 -- By which line a fault of the input, or of what the disk holds, is told: the last one that is written.
-use Rattle.std.specs.Prelude.{◌≡◌, ◌⊎◌, ℕ, List, [], ◌∷◌, ◌++◌, Option, Some, None}
+use Rattle.std.specs.Prelude.{◌≡◌, ◌⊎◌, ℕ, List, [], ◌∷◌, ◌++◌, Option, Some, None, Err}
 use Rattle.std.specs.Io.KnownBytes.{Appends}
 use Rattle.sp_ids.specs.Digest.{sha256_number}
 use Rattle.sp_feed.specs.Feed.{Malformed, TooLong, Truncated}
@@ -11,10 +11,13 @@ use Rattle.sp_play.specs.Scene.{Scene, scene}
 use Rattle.sp_play.specs.Source.{scenario_limit}
 use Rattle.sp_play.specs.declared.why.LineFault.{LineFault}
 use Rattle.sp_report.specs.Lines.{malformed_text, too_long_text, truncated_text}
+use Rattle.spectre.specs.Gossips.{Fault, gossip, told_line}
 use Rattle.spectre.specs.Jobs.{AnswersFeed, TakesScenario}
 use Rattle.spectre.specs.Journals.{damaged_text, not_journal_text, other_chain_text}
 use Rattle.spectre.specs.Lines.{fault_line}
 use Rattle.spectre.specs.Replay.{fed}
+use Rattle.spectre.specs.Spends.{large_text, poor_text, spend_fed}
+use Rattle.sp_wallet.specs.declared.fault.SpendFault.TheVariants as faults
 use Rattle.spectre.specs.OneOf.{IsOneOf}
 use Rattle.spectre.specs.declared.job.Job.{Job}
 use Rattle.spectre.specs.declared.job.Job.TheVariants as jobs
@@ -51,6 +54,13 @@ pub record TellsScene (job : Option Job) (input line : List ℕ) : Type 0 where
   pub has : scene.fault ≡ Some fault
   pub is : line ≡ fault_line fault.line fault.why
 
+-- the first faulty line of a scenario with a script behind it, and why it is faulty
+pub record TellsScript (job : Option Job) (input line : List ℕ) : Type 0 where
+  pub plays : job ≡ Some jobs.Gossip
+  pub fault : Fault
+  pub has : (gossip input).fault ≡ Some fault
+  pub is : line ≡ told_line fault
+
 -- bits of work, genesis and profile of the journal and of the feed's head
 pub record TellsChains (disk input line : List ℕ) : Type 0 where
   pub contents : Contents
@@ -63,19 +73,31 @@ pub record TellsChains (disk input line : List ℕ) : Type 0 where
 abbrev pub TellsDamage : List ℕ → List ℕ → Type 0
 TellsDamage disk line = (at : ℕ) × (records disk ≡ Damaged at) × (line ≡ damaged_text at)
 
+-- what may be spent, or what would be
+
+abbrev pub TellsPoor : Option Job → List ℕ → List ℕ → Type 0
+TellsPoor (Some (jobs.Spend amount to words)) input line = (reach : ℕ) × (spend_fed words amount to input ≡ Some (Err (faults.Poor reach))) × (line ≡ poor_text reach)
+TellsPoor other input line = ⊥
+
+abbrev pub TellsLarge : Option Job → List ℕ → List ℕ → Type 0
+TellsLarge (Some (jobs.Spend amount to words)) input line = (total : ℕ) × (spend_fed words amount to input ≡ Some (Err (faults.Large total))) × (line ≡ large_text total)
+TellsLarge other input line = ⊥
+
 -- the line of the fault that a status names; the other statuses name none
 abbrev pub IsLineOf : Option Job → List ℕ → List ℕ → Status → List ℕ → Type 0
-IsLineOf job disk input status.Malformed line = (AnswersFeed job × TellsField input line) ⊎ TellsScene job input line
+IsLineOf job disk input status.Malformed line = (AnswersFeed job × TellsField input line) ⊎ (TellsScene job input line ⊎ TellsScript job input line)
 IsLineOf job disk input status.Truncated line = AnswersFeed job × TellsEarlyEnd input line
 IsLineOf job disk input status.NotJournal line = (records disk ≡ NoJournal) × (line ≡ not_journal_text)
 IsLineOf job disk input status.OtherChain line = TellsChains disk input line
 IsLineOf job disk input status.Damaged line = TellsDamage disk line
 IsLineOf job disk input status.TooLong line = (AnswersFeed job × TellsLongFeed input line) ⊎ (TakesScenario job × (line ≡ too_long_text scenario_limit))
+IsLineOf job disk input status.Poor line = TellsPoor job input line
+IsLineOf job disk input status.Large line = TellsLarge job input line
 IsLineOf job disk input other line = ⊥
 
 -- the statuses that name such a fault
 abbrev pub NamesFault : Status → Type 0
-NamesFault s = IsOneOf s (status.Malformed ∷ status.Truncated ∷ status.NotJournal ∷ status.OtherChain ∷ status.Damaged ∷ status.TooLong ∷ [])
+NamesFault s = IsOneOf s (status.Malformed ∷ status.Truncated ∷ status.NotJournal ∷ status.OtherChain ∷ status.Damaged ∷ status.TooLong ∷ status.Poor ∷ status.Large ∷ [])
 
 -- The sink took some lines, and then that fault's own line.
 pub record EndsInLine (job : Option Job) (disk input : List ℕ) (s : Status) (old new : Option (List ℕ)) : Type 0 where

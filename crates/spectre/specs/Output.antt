@@ -5,23 +5,32 @@ use Rattle.sp_make.specs.Made.{made}
 use Rattle.sp_play.specs.Scene.{scene}
 use Rattle.sp_play.specs.Source.{scenario_limit}
 use Rattle.sp_report.specs.Lines.{too_long_text}
+use Rattle.spectre.specs.Gossips.{gossiped}
 use Rattle.spectre.specs.Jobs.{job_in}
 use Rattle.spectre.specs.Journals.{found_blocks, kept_output, shown_output}
-use Rattle.spectre.specs.Replay.{replayed}
+use Rattle.spectre.specs.Replay.{replayed, replied}
 use Rattle.spectre.specs.Scenes.{drilled, scene_output}
+use Rattle.spectre.specs.Spends.{spent}
+use Rattle.spectre.specs.Watches.{watch_replied, watched}
 use Rattle.spectre.specs.declared.job.Job.{Job}
 use Rattle.spectre.specs.declared.job.Job.TheVariants as jobs
-use Rattle.spectre.specs.declared.purpose.Purpose.{Purpose}
 use Rattle.spectre.specs.declared.purpose.Purpose.TheVariants.{Play, Build}
+use Rattle.spectre.specs.declared.purpose.Task.{Task}
+use Rattle.spectre.specs.declared.purpose.Task.TheVariants.{Scenario, Gossip}
 use Rattle.spectre.specs.declared.shape.Shape.TheVariants.{Report, Feed}
 
 abbrev pub is_too_long : List ℕ → Bool
 is_too_long input = nat_le scenario_limit (length input)
 
--- what a scenario that was taken from a source writes
-abbrev pub source_output : Purpose → List ℕ → List ℕ
-source_output purpose input =
-    if is_too_long input then too_long_text scenario_limit else scene_output purpose (scene input)
+-- what a text writes that was taken whole
+abbrev pub task_output : Task → List ℕ → List ℕ
+task_output (Scenario purpose) input = scene_output purpose (scene input)
+task_output Gossip input = gossiped input
+
+-- what one that is taken from a source writes
+abbrev pub source_output : Task → List ℕ → List ℕ
+source_output task input =
+    if is_too_long input then too_long_text scenario_limit else task_output task input
 
 -- what a job writes over this disk for this input; words that are no job write nothing
 abbrev pub output_by : Option Job → List ℕ → List ℕ → List ℕ
@@ -30,10 +39,13 @@ output_by (Some jobs.Replay) disk input = replayed [] input
 output_by (Some (jobs.Keep path fresh)) disk input = kept_output fresh disk input
 output_by (Some (jobs.Show path)) disk input = shown_output Report disk
 output_by (Some (jobs.Export path profile)) disk input = shown_output (Feed profile) disk
-output_by (Some jobs.Play) disk input = source_output Play input
-output_by (Some jobs.Build) disk input = source_output Build input
+output_by (Some jobs.Play) disk input = source_output (Scenario Play) input
+output_by (Some jobs.Build) disk input = source_output (Scenario Build) input
 output_by (Some (jobs.Make n seed width)) disk input = made n seed width
 output_by (Some (jobs.Drill n seed width)) disk input = drilled (scene (made n seed width))
+output_by (Some jobs.Gossip) disk input = source_output Gossip input
+output_by (Some (jobs.Spend amount to words)) disk input = spent words amount to input
+output_by (Some (jobs.Watch items)) disk input = watched items input
 
 abbrev pub output : List (List ℕ) → List ℕ → List ℕ → List ℕ
 output words disk input = output_by (job_in words) disk input
@@ -55,6 +67,9 @@ input_told (Some jobs.Replay) left = left
 input_told (Some (jobs.Keep path fresh)) left = left
 input_told (Some jobs.Play) left = left
 input_told (Some jobs.Build) left = left
+input_told (Some jobs.Gossip) left = left
+input_told (Some (jobs.Spend amount to words)) left = left
+input_told (Some (jobs.Watch items)) left = left
 input_told other left = Some []
 
 -- what is said of it
@@ -67,6 +82,13 @@ blocks_before (Some (jobs.Keep path fresh)) disk = found_blocks disk
 blocks_before (Some (jobs.Show path)) disk = found_blocks disk
 blocks_before (Some (jobs.Export path profile)) disk = found_blocks disk
 blocks_before other disk = []
+
+-- What is written for the messages in some bytes of a feed before it ends: the answers, behind the blocks of a journal; of
+-- a watch what they change, too; of a spend nothing
+abbrev pub due_of : Option Job → List ℕ → List ℕ → List ℕ
+due_of (Some (jobs.Spend amount to words)) disk = λ given. []
+due_of (Some (jobs.Watch items)) disk = watch_replied items
+due_of job disk = replied (blocks_before job disk)
 
 -- what is said of a run that keeps a journal
 abbrev pub OnKeep : Option Job → (Bool → Type 0) → Type 0

@@ -45,7 +45,8 @@ journal_talk (Found c) = Some (record { labels = no_labels; terms = terms_of c.p
 abbrev pub scene_talk : Scene → Option Talk
 scene_talk s = Some (record { labels = s.names; terms = scene_terms s; genesis = s.genesis; found = []; messages = s.messages })
 
--- The messages that a job answers. A `drill` answers none; its summary is that of the blocks which are kept of all
+-- The messages that a job answers. A `gossip` plays none, and a `drill` answers none; its summary is that of the blocks which
+-- are kept of all. So it is with a spend
 abbrev pub talk_by : Option Job → List ℕ → List ℕ → Option Talk
 talk_by None disk input = None
 talk_by (Some jobs.Replay) disk input = feed_talk [] (fed input).head (fed input).messages
@@ -56,6 +57,9 @@ talk_by (Some jobs.Play) disk input = scene_talk (scene input)
 talk_by (Some jobs.Build) disk input = None
 talk_by (Some (jobs.Make n seed width)) disk input = None
 talk_by (Some (jobs.Drill n seed width)) disk input = scene_talk (scene (made n seed width))
+talk_by (Some jobs.Gossip) disk input = None
+talk_by (Some (jobs.Spend amount to words)) disk input = feed_talk [] (fed input).head (fed input).messages
+talk_by (Some (jobs.Watch items)) disk input = feed_talk [] (fed input).head (fed input).messages
 
 -- the blocks that arrived by the end of some of the first messages
 abbrev pub arrived_by : Talk → List Said → List (List ℕ)
@@ -78,6 +82,9 @@ IsOfBytes (Some jobs.Play) input = Unit {0}
 IsOfBytes (Some jobs.Build) input = Unit {0}
 IsOfBytes (Some (jobs.Make n seed width)) input = Unit {0}
 IsOfBytes (Some (jobs.Drill n seed width)) input = Unit {0}
+IsOfBytes (Some jobs.Gossip) input = Unit {0}
+IsOfBytes (Some (jobs.Spend amount to words)) input = IsBytes input
+IsOfBytes (Some (jobs.Watch items)) input = IsBytes input
 
 -- so it is with each command that answers anything
 abbrev pub JobAgrees : Option Job → List ℕ → List ℕ → Type 0

@@ -11,13 +11,13 @@ ghost use Rattle.sp_play.specs.Source.{scenario_limit};
 ghost use Rattle.spectre.specs.Chains.{EndsByChain, TakesHead};
 ghost use Rattle.spectre.specs.Crashes.{HoldsOnward, Recovery};
 ghost use Rattle.spectre.specs.Ends.{Comes, EndsByDisk};
-ghost use Rattle.spectre.specs.Faults.{beyond, IsDamaged, IsDiskAtFault, IsFaultless, IsMalformed, IsNoJournal, IsOtherChain, IsTooLong, IsTruncated, unread};
+ghost use Rattle.spectre.specs.Faults.{beyond, IsDamaged, IsDiskAtFault, IsFaultless, IsLarge, IsMalformed, IsNoJournal, IsOtherChain, IsPoor, IsTooLong, IsTruncated, unread};
 ghost use Rattle.spectre.specs.Jobs.{AnswersFeed, job_in, NamesFile, Shows, TakesNothing, TakesScenario, texts};
 ghost use Rattle.spectre.specs.LastLine.{EndsInLine, NamesFault};
-ghost use Rattle.spectre.specs.Output.{blocks_before, OnDisk, OnInput, OnKeep, output};
-ghost use Rattle.spectre.specs.Replay.{replied, replied_but_last};
+ghost use Rattle.spectre.specs.Output.{blocks_before, due_of, OnDisk, OnInput, OnKeep, output};
+ghost use Rattle.spectre.specs.Replay.{replied_but_last};
 ghost use Rattle.spectre.specs.Rests.{KeptAgree};
-ghost use Rattle.spectre.specs.Taken.{TakesFeed};
+ghost use Rattle.spectre.specs.Taken.{TakesFeedFor};
 ghost use Rattle.spectre.specs.Talks.{JobAgrees, JobAnswersAlike};
 
 use crate::doing::do_job;
@@ -32,7 +32,8 @@ use std::alloc::Global;
 /// read a scenario from `source` to the end before they write the first byte to `sink`; `replay`
 /// reads a feed message by message and writes the answer to each before it takes a byte of the next;
 /// `node` does so too, and records each kept block in the journal on `disk` before its line is written;
-/// `show` writes what that journal holds; `make` and `drill` read nothing.
+/// `show` writes what that journal holds; `make` and `drill` read nothing. `spend` reads a feed to its end
+/// before it writes the first byte; `watch` answers one as `replay` does, and writes what each block changes.
 ///
 /// No clause speaks of time. A block that becomes present takes a few passes over the pairs of unrelated
 /// blocks, at most 130,816, and for each voter that is asked anew on such a pair a count over rows of
@@ -55,6 +56,10 @@ pub fn run<S: Source, K: Sink, D: Disk>(
         × IsFaultless (job_in (texts words.now)) bytes input)) }
     ensures done_end { result ≡ Status.Done → IfSome (S.left source.old) (λ input.
         S.left source.new ≡ Some (unread (job_in (texts words.now)) input)) }
+    ensures poor_end { result ≡ Status.Poor → IfSome (S.left source.old) (λ input.
+        S.left source.new ≡ Some (unread (job_in (texts words.now)) input)) }
+    ensures large_end { result ≡ Status.Large → IfSome (S.left source.old) (λ input.
+        S.left source.new ≡ Some (unread (job_in (texts words.now)) input)) }
 
     // Where the words are wrong, nothing was read or written.
     ensures usage { (result ≡ Status.Usage) ↔ IsNone (job_in (texts words.now)) }
@@ -62,8 +67,8 @@ pub fn run<S: Source, K: Sink, D: Disk>(
     ensures no_input { TakesNothing (job_in (texts words.now)) → source.new ≡ source.old }
     ensures unwritten { result ≡ Status.Usage → sink.new ≡ sink.old }
 
-    // Where the input or what the disk held is at fault, ends too early or is too long, the sink took
-    // the output, which ends with that fault's line.
+    // Where the input or what the disk held is at fault, ends too early or is too long, or leaves no spend,
+    // the sink took the output, which ends with that fault's line.
     ensures malformed { result ≡ Status.Malformed → OnInput (job_in (texts words.now)) (S.left source.old) (λ input.
         OnDisk (job_in (texts words.now)) (D.now disk.old).reads (λ bytes.
         Appends (K.taken sink.old) (K.taken sink.new) (output (texts words.now) bytes input)
@@ -84,6 +89,14 @@ pub fn run<S: Source, K: Sink, D: Disk>(
         OnDisk (job_in (texts words.now)) (D.now disk.old).reads (λ bytes.
         Appends (K.taken sink.old) (K.taken sink.new) (output (texts words.now) bytes input)
         × IsOtherChain (job_in (texts words.now)) bytes input)) }
+    ensures poor { result ≡ Status.Poor → OnInput (job_in (texts words.now)) (S.left source.old) (λ input.
+        OnDisk (job_in (texts words.now)) (D.now disk.old).reads (λ bytes.
+        Appends (K.taken sink.old) (K.taken sink.new) (output (texts words.now) bytes input)
+        × IsPoor (job_in (texts words.now)) input)) }
+    ensures large { result ≡ Status.Large → OnInput (job_in (texts words.now)) (S.left source.old) (λ input.
+        OnDisk (job_in (texts words.now)) (D.now disk.old).reads (λ bytes.
+        Appends (K.taken sink.old) (K.taken sink.new) (output (texts words.now) bytes input)
+        × IsLarge (job_in (texts words.now)) input)) }
     ensures damaged { result ≡ Status.Damaged → OnInput (job_in (texts words.now)) (S.left source.old) (λ input.
         OnDisk (job_in (texts words.now)) (D.now disk.old).reads (λ bytes.
         Appends (K.taken sink.old) (K.taken sink.new) (output (texts words.now) bytes input)
@@ -109,12 +122,12 @@ pub fn run<S: Source, K: Sink, D: Disk>(
 
     // However the run ends, of a scenario 16,777,216 bytes were taken at most. Of a feed no more
     // were than its limit, and none that wasn't needed: each front of them that isn't all ends too
-    // early for a feed, and the lines of its messages were written.
+    // early for a feed, and what is due for its messages was written: their lines, but nothing in `spend`.
     ensures taken { TakesScenario (job_in (texts words.now))
         → ConsumesUpTo (S.left source.old) (S.left source.new) scenario_limit }
     ensures taken_fed { AnswersFeed (job_in (texts words.now))
         → OnDisk (job_in (texts words.now)) (D.now disk.old).reads (λ bytes.
-        TakesFeed (blocks_before (job_in (texts words.now)) bytes)
+        TakesFeedFor (due_of (job_in (texts words.now)) bytes)
         (S.left source.old) (S.left source.new) (K.taken sink.old) (K.taken sink.new)) }
 
     // A faulty scenario is taken whole, and so is a feed that ends too early; of what is too long
@@ -127,7 +140,7 @@ pub fn run<S: Source, K: Sink, D: Disk>(
     ensures too_long_end { result ≡ Status.TooLong → IfSome (S.left source.old) (λ input.
         S.left source.new ≡ Some (beyond (job_in (texts words.now)) input)) }
 
-    // Where a read failed, the sink took nothing of a scenario, and of a feed exactly the lines of
+    // Where a read failed, the sink took nothing of a scenario, and of a feed exactly what is due for
     // the messages in the bytes that were given; where the disk failed, these without the last one's,
     // and nothing of what it holds.
     ensures read_fault { result ≡ Status.ReadFault
@@ -136,7 +149,7 @@ pub fn run<S: Source, K: Sink, D: Disk>(
         → OnDisk (job_in (texts words.now)) (D.now disk.old).reads (λ bytes. (given : List ℕ)
         × Consumes (S.left source.old) (S.left source.new) given
         × Appends (K.taken sink.old) (K.taken sink.new)
-        (replied (blocks_before (job_in (texts words.now)) bytes) given)) }
+        (due_of (job_in (texts words.now)) bytes given)) }
     ensures disk_fault_fed { result ≡ Status.DiskFault → AnswersFeed (job_in (texts words.now))
         → OnDisk (job_in (texts words.now)) (D.now disk.old).reads (λ bytes. (given : List ℕ)
         × Consumes (S.left source.old) (S.left source.new) given

@@ -6,10 +6,10 @@ use std::alloc::{AllocError, Global};
 
 /// The usage line, without its end.
 pub const USAGE: &str =
-    "usage: spectre play | build | make N SEED WIDTH | drill N SEED WIDTH | replay | node [--fresh] FILE | show FILE | export FILE N";
+    "usage: spectre play | build | make N SEED WIDTH | drill N SEED WIDTH | replay | node [--fresh] FILE | show FILE | export FILE N | gossip | spend AMOUNT to WORD from WORD .. | watch ITEM ..";
 
 /// The words of each command, and what it reads and writes.
-const COMMANDS: [(&str, &str); 9] = [
+const COMMANDS: [(&str, &str); 12] = [
     (
         "play",
         "reads a scenario, writes the answers to it, with its names",
@@ -36,6 +36,18 @@ const COMMANDS: [(&str, &str); 9] = [
     (
         "export FILE N",
         "writes the feed of its blocks, N being their profile, 1 or 2",
+    ),
+    (
+        "gossip",
+        "reads a scenario and a script of nodes behind it, plays the script",
+    ),
+    (
+        "spend AMOUNT to WORD from WORD ..",
+        "reads a feed, writes the transaction that pays AMOUNT out of what the WORDs open",
+    ),
+    (
+        "watch ITEM ..",
+        "does as replay, and tells what changes: ITEM is tx:ID, lock:ID or pair:ID,ID",
     ),
 ];
 

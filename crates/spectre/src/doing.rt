@@ -13,11 +13,13 @@ use crate::job::Job;
 use crate::keep::keep;
 use crate::made::{drill_text, make_text};
 use crate::play::from_source;
-use crate::purpose::Purpose;
+use crate::purpose::{Purpose, Task};
 use crate::replay::replay;
 use crate::shape::Shape;
 use crate::show::show;
+use crate::spend::spend;
 use crate::status::Status;
+use crate::watch::watch;
 use sp_disk::Disk;
 use sp_io::{Sink, Source};
 use std::alloc::Global;
@@ -54,9 +56,12 @@ pub fn do_job<S: Source, K: Sink, D: Disk>(
         Job::Keep { fresh, .. } => keep(alloc, *fresh, source, sink, disk),
         Job::Show { .. } => show(alloc, Shape::Report, sink, disk),
         Job::Export { profile, .. } => show(alloc, Shape::Feed(*profile), sink, disk),
-        Job::Play => from_source(alloc, Purpose::Play, source, sink),
-        Job::Build => from_source(alloc, Purpose::Build, source, sink),
+        Job::Play => from_source(alloc, Task::Scenario(Purpose::Play), source, sink),
+        Job::Build => from_source(alloc, Task::Scenario(Purpose::Build), source, sink),
         Job::Make { n, seed, width } => make_text(alloc, *n, *seed, *width, sink),
         Job::Drill { n, seed, width } => drill_text(alloc, *n, *seed, *width, sink),
+        Job::Gossip => from_source(alloc, Task::Gossip, source, sink),
+        Job::Spend { amount, to, words } => spend(alloc, *amount, *to, words, source, sink),
+        Job::Watch { items } => watch(alloc, items, source, sink),
     }
 }

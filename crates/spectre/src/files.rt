@@ -21,7 +21,7 @@ pub enum FileUse {
 
 /// Whether a word is the name of a file: it isn't empty and doesn't begin with `-`.
 #[tactic(auto, unfolding(crate::specs::Files::is_file))]
-fn is_file(word: &[u8]) -> bool
+pub fn is_file(word: &[u8]) -> bool
     ensures { result ≡ meant.is_file word.now }
 {
     match word.first() {

@@ -1,15 +1,19 @@
 //! The words of the command line: which job they ask for.
 
-ghost use Rattle.std.specs.Prelude.{◌≡◌, ◌≤◌, IfOk, IfSome, IsErrOf, IsNone, length, Some};
-ghost use Rattle.spectre.specs.Files.{names_file};
-ghost use Rattle.spectre.specs.Jobs.{AreNumbers, IsJob, job_in, texts};
+ghost use Rattle.std.specs.Prelude.{◌≡◌, ◌≤◌, IfOk, IfSome, IsErrOf, IsNone, IsSome, length, Some};
+ghost use Rattle.spectre.specs.Jobs.{AreNumbers, IsJob, job_in, texts, wallet_job};
 ghost use Rattle.spectre.specs.Jobs as meant;
 ghost use Rattle.spectre.specs.declared.job.JobFault.TheVariants as faults;
 
 use crate::file_name::FileName;
 use crate::files::{FileUse, file_of};
+use crate::spend_words::{preimages_of, spend_of};
+use crate::watch_words::{items_of, watch_of};
+use sp_ids::{Lock, Memory as Refused};
 use sp_model::Profile;
 use sp_play::number_of;
+use sp_wallet::Preimages;
+use sp_watch::Items;
 use std::alloc::Global;
 use thiserror::Error;
 
@@ -20,20 +24,49 @@ pub enum Job {
     Replay,
     /// To answer a feed, with the journal in a file; `fresh` where a file without a journal gets a
     /// new one.
-    Keep { path: FileName, fresh: bool },
+    Keep {
+        path: FileName,
+        fresh: bool,
+    },
     /// To write what the journal in a file holds.
-    Show { path: FileName },
+    Show {
+        path: FileName,
+    },
     /// To write the feed of the blocks that the journal in a file holds, in this profile.
-    Export { path: FileName, profile: Profile },
+    Export {
+        path: FileName,
+        profile: Profile,
+    },
     /// To answer a scenario.
     Play,
     /// To write the feed of a scenario.
     Build,
     /// To write a scenario that is made of numbers: how many blocks it has, 511 at most; a seed; and
     /// from how many blocks before it a block's parents are drawn, 1 to 16.
-    Make { n: u16, seed: u64, width: u8 },
+    Make {
+        n: u16,
+        seed: u64,
+        width: u8,
+    },
     /// To play such a scenario, and to write a summary alone.
-    Drill { n: u16, seed: u64, width: u8 },
+    Drill {
+        n: u16,
+        seed: u64,
+        width: u8,
+    },
+    /// To play a script of nodes behind a scenario.
+    Gossip,
+    /// To write the transaction that pays an amount to a lock, out of what the blocks of a feed leave
+    /// under the locks of these words.
+    Spend {
+        amount: u64,
+        to: Lock,
+        words: Preimages,
+    },
+    /// To answer a feed, and to tell what changes of these items.
+    Watch {
+        items: Items,
+    },
 }
 
 /// Why the words ask for no job.
@@ -42,9 +75,17 @@ pub enum JobFault {
     /// They are none of the forms of a command.
     #[error("these words are no command of spectre")]
     Usage,
-    /// There was no memory for the name of a file.
-    #[error("there is no memory for the name of the file")]
+    /// There was no memory for the name of a file, or for the words of a wallet or a watch.
+    #[error("there is no memory for the words")]
     Memory,
+}
+
+impl From<Refused> for JobFault {
+    ghost from_gives = { λ _ e. e ≡ faults.Memory };
+
+    fn from(_refused: Refused) -> JobFault {
+        JobFault::Memory
+    }
 }
 
 /// The job that a single word asks for.
@@ -59,6 +100,8 @@ fn job_named(word: &[u8]) -> Option<Job>
         Some(Job::Play)
     } else if word == b"build".as_slice() {
         Some(Job::Build)
+    } else if word == b"gossip".as_slice() {
+        Some(Job::Gossip)
     } else {
         None
     }
@@ -118,18 +161,44 @@ fn job_on(path: FileName, how: FileUse) -> Job
     }
 }
 
+/// The spend or the watch that some words ask for.
+#[tactic(auto, using(crate::proofs::ArgumentLists::words_some))]
+fn wallet_job_of(alloc: Global, words: &[String]) -> Result<Job, JobFault>
+    ensures job { IfOk result (λ job. wallet_job (texts words.now) ≡ Some job) }
+    ensures usage { IsErrOf result faults.Usage → IsNone (wallet_job (texts words.now)) }
+    ensures memory { IsErrOf result faults.Memory → IsSome (wallet_job (texts words.now)) }
+    ensures ranges { IfOk result IsJob }
+{
+    if let Some(asked) = spend_of(words) {
+        return Ok(Job::Spend {
+            amount: asked.amount,
+            to: Lock::of(asked.to),
+            words: preimages_of(alloc, asked.from)?,
+        });
+    }
+    match watch_of(words) {
+        Some(items) => Ok(Job::Watch {
+            items: items_of(alloc, items)?,
+        }),
+        None => Err(JobFault::Usage),
+    }
+}
+
 /// The job that the words after the program's name ask for: `replay`, `node FILE`, `node --fresh FILE`,
-/// `node FILE --fresh`, `show FILE`, `export FILE N`, `play`, `build`, `make N SEED WIDTH` or
-/// `drill N SEED WIDTH`. FILE isn't empty and doesn't begin with `-`. The N of `export` is 1 or 2. The
-/// numbers are decimal digits without a leading zero unless the number is 0.
+/// `node FILE --fresh`, `show FILE`, `export FILE N`, `play`, `build`, `make N SEED WIDTH`,
+/// `drill N SEED WIDTH`, `gossip`, `spend AMOUNT to WORD from WORD ..` or `watch ITEM ..`. FILE isn't empty and
+/// doesn't begin with `-`. The N of `export` is 1 or 2. The numbers are decimal digits without a leading
+/// zero unless the number is 0. A WORD has 1 to 64 bytes and doesn't begin with `-`; behind `from` stand 1
+/// to 16 different ones. An ITEM is `tx:ID`, `lock:ID` or `pair:ID,ID`, with 64 hexadecimal digits for an
+/// ID; there are 1 to 64 different ones.
 ///
 /// # Errors
 ///
-/// `Usage` where the words are anything else. `Memory` where there is none for the name of the file.
+/// `Usage` where the words are anything else. `Memory` where there is none for what the job keeps of them.
 pub fn read_job(alloc: Global, words: &[String]) -> Result<Job, JobFault>
     ensures job { IfOk result (λ job. job_in (texts words.now) ≡ Some job) }
     ensures usage { IsErrOf result faults.Usage → IsNone (job_in (texts words.now)) }
-    ensures memory { IsErrOf result faults.Memory → names_file (texts words.now) }
+    ensures memory { IsErrOf result faults.Memory → IsSome (job_in (texts words.now)) }
     ensures ranges { IfOk result IsJob }
 {
     if let Some((path, how)) = file_of(words) {
@@ -140,6 +209,6 @@ pub fn read_job(alloc: Global, words: &[String]) -> Result<Job, JobFault>
     }
     match job_of(words) {
         Some(job) => Ok(job),
-        None => Err(JobFault::Usage),
+        None => wallet_job_of(alloc, words),
     }
 }

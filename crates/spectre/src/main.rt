@@ -3,6 +3,7 @@
 //! theorem, and `main` hands it the real ends.
 #![tactic(auto)]
 
+mod bringing;
 mod command;
 mod commands;
 mod counting;
@@ -14,6 +15,7 @@ mod feeding;
 mod file_name;
 mod files;
 mod genesis;
+mod gossip;
 mod job;
 mod keep;
 mod laws;
@@ -25,12 +27,18 @@ mod play;
 mod purpose;
 mod replay;
 mod scene;
+mod script_fault;
+mod script_lines;
 mod shape;
 mod show;
+mod spend;
+mod spend_words;
 mod status;
 mod summary;
 #[cfg(test)]
 mod tests;
+mod watch;
+mod watch_words;
 
 ghost use Rattle.std.specs.Prelude.{◌⊎◌, ◌≡◌, IfErr};
 ghost use Rattle.std.specs.Process.{exit_status};

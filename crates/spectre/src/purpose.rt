@@ -10,3 +10,12 @@ pub enum Purpose {
     /// Its blocks are kept, and the summary of what stands then is written.
     Drill,
 }
+
+/// What a text is taken for that is read from a source.
+#[derive(Clone, Copy, Debug, PartialEq, Eq)]
+pub enum Task {
+    /// It is a scenario.
+    Scenario(Purpose),
+    /// It is a scenario and behind it a script of nodes, which is played.
+    Gossip,
+}

@@ -16,6 +16,7 @@ mod faults;
 mod feed_bytes;
 mod feeds;
 mod fresh;
+mod gossip;
 mod halves;
 mod hostile;
 mod journals;
@@ -36,6 +37,7 @@ mod spends;
 mod streams;
 mod text;
 mod transfers;
+mod wallet;
 mod words;
 mod worked;
 
@@ -183,7 +185,7 @@ pub fn ran_over(rt: &impl Abort, alloc: Global, trial: &Trial, disk: &mut MemDis
 }
 
 /// Runs the program. A disk that isn't to be called wasn't.
-fn ran(rt: &impl Abort, alloc: Global, trial: &Trial) -> Ended {
+pub fn ran(rt: &impl Abort, alloc: Global, trial: &Trial) -> Ended {
     let mut disk = disk_of(rt, alloc, &trial.ends);
     let ended = ran_over(rt, alloc, trial, &mut disk);
     if matches!(trial.ends.disk, Held::Apart) {

@@ -23,6 +23,7 @@ const NOTHING: Rest = (Some(0), Some(0), [0; 7], true);
 
 /// So many line ends and then a text, and what becomes of them.
 struct Long {
+    words: &'static [u8],
     line_ends: usize,
     text: &'static [u8],
     ends: Ends,
@@ -35,18 +36,22 @@ const LAST: &[u8] = b"vote G G\nvote A B\n";
 
 #[rattlefmt::skip]
 const LONG: &[Long] = &[
-    Long { line_ends: 8, text: b"vote A B", ends: WIDE, status: Status::Malformed, output: b"fault line 9 unknown\n", rest: Some(NOTHING) },
-    Long { line_ends: 9, text: b"vote A B", ends: WIDE, status: Status::Malformed, output: b"fault line 10 unknown\n", rest: Some(NOTHING) },
-    Long { line_ends: 65_535, text: b"vote A B", ends: WIDE, status: Status::Malformed, output: b"fault line 65536 unknown\n", rest: Some(NOTHING) },
-    Long { line_ends: 999_998, text: LAST, ends: WIDE, status: Status::Malformed, output: b"vote G G same\nfault line 1000000 unknown\n", rest: Some(NOTHING) },
-    Long { line_ends: LIMIT - 1, text: b"", ends: WIDE, status: Status::Done, output: b"", rest: Some(NOTHING) },
-    Long { line_ends: LIMIT, text: b"", ends: WIDE, status: Status::TooLong, output: TOO_LONG, rest: None },
-    Long { line_ends: LIMIT - 18, text: LAST, ends: WIDE, status: Status::TooLong, output: TOO_LONG, rest: None },
+    Long { words: b"play", line_ends: 8, text: b"vote A B", ends: WIDE, status: Status::Malformed, output: b"fault line 9 unknown\n", rest: Some(NOTHING) },
+    Long { words: b"play", line_ends: 9, text: b"vote A B", ends: WIDE, status: Status::Malformed, output: b"fault line 10 unknown\n", rest: Some(NOTHING) },
+    Long { words: b"play", line_ends: 65_535, text: b"vote A B", ends: WIDE, status: Status::Malformed, output: b"fault line 65536 unknown\n", rest: Some(NOTHING) },
+    Long { words: b"play", line_ends: 999_998, text: LAST, ends: WIDE, status: Status::Malformed, output: b"vote G G same\nfault line 1000000 unknown\n", rest: Some(NOTHING) },
+    Long { words: b"play", line_ends: LIMIT - 1, text: b"", ends: WIDE, status: Status::Done, output: b"", rest: Some(NOTHING) },
+    Long { words: b"play", line_ends: LIMIT, text: b"", ends: WIDE, status: Status::TooLong, output: TOO_LONG, rest: None },
+    Long { words: b"play", line_ends: LIMIT - 18, text: LAST, ends: WIDE, status: Status::TooLong, output: TOO_LONG, rest: None },
     // Of a longer text the rest stays unread. Where its line can't be written whole, the write is
     // at fault.
-    Long { line_ends: LIMIT - 8, text: b"vote G G\n", ends: NARROW, status: Status::WriteFault, output: b"fault", rest: Some((Some(1), Some(0), *b"\n\0\0\0\0\0\0", false)) },
+    Long { words: b"play", line_ends: LIMIT - 8, text: b"vote G G\n", ends: NARROW, status: Status::WriteFault, output: b"fault", rest: Some((Some(1), Some(0), *b"\n\0\0\0\0\0\0", false)) },
+    // A script has as few bytes, and its lines are counted from the scenario's first.
+    Long { words: b"gossip", line_ends: LIMIT - 8, text: b"nodes 1", ends: WIDE, status: Status::Done, output: b"", rest: Some(NOTHING) },
+    Long { words: b"gossip", line_ends: LIMIT - 1, text: b"", ends: WIDE, status: Status::Malformed, output: b"fault line 16777216 nodes\n", rest: Some(NOTHING) },
+    Long { words: b"gossip", line_ends: LIMIT - 7, text: b"nodes 1", ends: WIDE, status: Status::TooLong, output: TOO_LONG, rest: None },
     // Of each nonce below 1,048,576 the block's id is tried.
-    Long { line_ends: 0, text: b"bits 64\nblock A on G\n", ends: WIDE, status: Status::Malformed, output: b"fault line 2 work\n", rest: Some(NOTHING) },
+    Long { words: b"play", line_ends: 0, text: b"bits 64\nblock A on G\n", ends: WIDE, status: Status::Malformed, output: b"fault line 2 work\n", rest: Some(NOTHING) },
 ];
 
 #[test]
@@ -56,7 +61,7 @@ fn long_texts(rt: HostRuntime) {
         input.put_times(long.line_ends, b'\n');
         input.put(long.text);
         let trial = Trial {
-            words: b"play",
+            words: long.words,
             input: input.whole(&rt),
             ends: long.ends,
         };

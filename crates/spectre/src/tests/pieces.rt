@@ -93,6 +93,26 @@ const STREAMS: &[Stream] = &[
         growth: &[],
         disk: Held::Apart,
     },
+    Stream {
+        name: "nodes",
+        words: b"gossip",
+        input: b"make A on G\nnodes 2\ngive 0 A\ntell 0 1\ndeliver 0\ndeliver 3\n",
+        reads: 59,
+        status: Status::Malformed,
+        output: b"at 0 kept A present 1\nsent 0 have 1\nsent 1 want 1\nfault line 6 packet\n",
+        growth: &[],
+        disk: Held::Apart,
+    },
+    Stream {
+        name: "a report of a node",
+        words: b"gossip",
+        input: b"nodes 1\nreport 0\ntell 0 0\ndeliver 0",
+        reads: 36,
+        status: Status::Done,
+        output: b"at 0\nblocks 1 waiting 0\naccepted 0\nbalances 0\nsent 0 have 0\nidle\n",
+        growth: &[],
+        disk: Held::Apart,
+    },
     // What a journal holds.
     Stream {
         name: "two blocks that are shown",

@@ -42,6 +42,10 @@ replay\0|
 play|replay|
 --|play|
 build|build|
+gossip|f|
+gossips|
+Gossip|
+gossip|1|0|1|
 builds|
 buil|
 build||
@@ -105,6 +109,71 @@ Make|1|0|1|
 makes|1|0|1|
 |1|0|1|
 1|0|1|drill|
+";
+
+/// What is no spend and no watch, likewise.
+const NO_WALLET: &str = "\
+spend|
+spend|1|
+spend|1|to|b|
+spend|1|to|b|from|
+spend|1|to|b|a|
+spend|1|to|from|a|
+spend|0|to|b|from|a|
+spend|01|to|b|from|a|
+spend|+1|to|b|from|a|
+spend|x|to|b|from|a|
+spend||to|b|from|a|
+spend|9223372036854775808|to|b|from|a|
+spend|18446744073709551617|to|b|from|a|
+spend|1|to||from|a|
+spend|1|to|-b|from|a|
+spend|1|to|b|from||
+spend|1|to|b|from|-a|
+spend|1|to|b|from|a|-|
+spend|1|to|b|from|a||
+spend|1|to|b|from|a|a|
+spend|1|to|b|from|a|c|a|
+spend|1|to|b|from|from|from|
+spend|1|at|b|from|a|
+spend|1|to|b|of|a|
+spend|1|To|b|from|a|
+Spend|1|to|b|from|a|
+spends|1|to|b|from|a|
+to|b|from|a|
+spend|1|to|bbbbbbbbbbbbbbbbbbbbbbbbbbbbbbbbbbbbbbbbbbbbbbbbbbbbbbbbbbbbbbbbb|from|a|
+spend|1|to|b|from|aaaaaaaaaaaaaaaaaaaaaaaaaaaaaaaaaaaaaaaaaaaaaaaaaaaaaaaaaaaaaaaaa|
+spend|1|to|b|from|a|b|c|d|e|f|g|h|i|j|k|l|m|n|o|p|q|
+watch|
+watch||
+watch|tx|
+watch|tx:|
+watch|tx:ebc352d52d8a2d8f607bc82f6edc468679599eb0e8a8429d88c82e4cffb6285|
+watch|tx:ebc352d52d8a2d8f607bc82f6edc468679599eb0e8a8429d88c82e4cffb628540|
+watch|tx:ebc352d52d8a2d8f607bc82f6edc468679599eb0e8a8429d88c82e4cffb6285g|
+watch|TX:ebc352d52d8a2d8f607bc82f6edc468679599eb0e8a8429d88c82e4cffb62854|
+watch|ebc352d52d8a2d8f607bc82f6edc468679599eb0e8a8429d88c82e4cffb62854|
+watch|block:ebc352d52d8a2d8f607bc82f6edc468679599eb0e8a8429d88c82e4cffb62854|
+watch|lock:|
+watch|lock:ebc352d52d8a2d8f607bc82f6edc468679599eb0e8a8429d88c82e4cffb628|
+watch|lock :ebc352d52d8a2d8f607bc82f6edc468679599eb0e8a8429d88c82e4cffb62854|
+watch|pair:|
+watch|pair:ebc352d52d8a2d8f607bc82f6edc468679599eb0e8a8429d88c82e4cffb62854|
+watch|pair:ebc352d52d8a2d8f607bc82f6edc468679599eb0e8a8429d88c82e4cffb62854,|
+watch|pair:ebc352d52d8a2d8f607bc82f6edc468679599eb0e8a8429d88c82e4cffb62854;6fd2bc64ef18bc610e2371e6ea7cdda86b35be6cfbe8274c1ed1d9012553c26a|
+watch|pair:ebc352d52d8a2d8f607bc82f6edc468679599eb0e8a8429d88c82e4cffb628546fd2bc64ef18bc610e2371e6ea7cdda86b35be6cfbe8274c1ed1d9012553c26a|
+watch|pair:ebc352d52d8a2d8f607bc82f6edc468679599eb0e8a8429d88c82e4cffb62854,6fd2bc64ef18bc610e2371e6ea7cdda86b35be6cfbe8274c1ed1d9012553c26a,|
+watch|pair:ebc352d52d8a2d8f607bc82f6edc468679599eb0e8a8429d88c82e4cffb62854, 6fd2bc64ef18bc610e2371e6ea7cdda86b35be6cfbe8274c1ed1d9012553c26a|
+watch|pair:,ebc352d52d8a2d8f607bc82f6edc468679599eb0e8a8429d88c82e4cffb62854|
+watch|tx:ebc352d52d8a2d8f607bc82f6edc468679599eb0e8a8429d88c82e4cffb62854|tx:ebc352d52d8a2d8f607bc82f6edc468679599eb0e8a8429d88c82e4cffb62854|
+watch|tx:ebc352d52d8a2d8f607bc82f6edc468679599eb0e8a8429d88c82e4cffb62854|tx:EBC352D52D8A2D8F607BC82F6EDC468679599EB0E8A8429D88C82E4CFFB62854|
+watch|lock:ebc352d52d8a2d8f607bc82f6edc468679599eb0e8a8429d88c82e4cffb62854|tx:ebc352d52d8a2d8f607bc82f6edc468679599eb0e8a8429d88c82e4cffb62854|lock:ebc352d52d8a2d8f607bc82f6edc468679599eb0e8a8429d88c82e4cffb62854|
+watch|pair:ebc352d52d8a2d8f607bc82f6edc468679599eb0e8a8429d88c82e4cffb62854,6fd2bc64ef18bc610e2371e6ea7cdda86b35be6cfbe8274c1ed1d9012553c26a|pair:EBC352D52D8A2D8F607BC82F6EDC468679599EB0E8A8429D88C82E4CFFB62854,6FD2BC64EF18BC610E2371E6EA7CDDA86B35BE6CFBE8274C1ED1D9012553C26A|
+watch|tx:ebc352d52d8a2d8f607bc82f6edc468679599eb0e8a8429d88c82e4cffb62854|tx:|
+watch|tx:ebc352d52d8a2d8f607bc82f6edc468679599eb0e8a8429d88c82e4cffb62854||
+Watch|tx:ebc352d52d8a2d8f607bc82f6edc468679599eb0e8a8429d88c82e4cffb62854|
+tx:ebc352d52d8a2d8f607bc82f6edc468679599eb0e8a8429d88c82e4cffb62854|
+watch|tx:ebc352d52d8a2d8f607bc82f6edc468679599eb0e8a8429d88c82e4cffb62854|--help|
 ";
 
 /// What isn't three numbers in their ranges, a row for each line, each word ended by `|`.
@@ -203,6 +272,7 @@ fn are_refused(rt: &impl Abort, alloc: Global, first: &[u8], rows: &str) {
 #[test]
 fn no_commands(rt: HostRuntime) {
     are_refused(&rt, rt.alloc(), b"", NO_COMMAND);
+    are_refused(&rt, rt.alloc(), b"", NO_WALLET);
     are_refused(&rt, rt.alloc(), b"make\n", NO_NUMBERS);
     are_refused(&rt, rt.alloc(), b"drill\n", NO_NUMBERS);
 }
@@ -274,6 +344,19 @@ const NO_FILE: &[&[u8]] = &[
     b"build",
     b"make\n3\n0\n1",
     b"drill\n3\n0\n1",
+    b"gossip",
+    b"spend\n1\nto\nb\nfrom\na",
+    b"spend\n9223372036854775807\nto\nto\nfrom\nfrom",
+    b"spend\n1\nto\nfrom\nfrom\nto\nfrom",
+    b"spend\n1\nto\na\nfrom\na",
+    b"spend\n1\nto\nbbbbbbbbbbbbbbbbbbbbbbbbbbbbbbbbbbbbbbbbbbbbbbbbbbbbbbbbbbbbbbbb\nfrom\naaaaaaaaaaaaaaaaaaaaaaaaaaaaaaaaaaaaaaaaaaaaaaaaaaaaaaaaaaaaaaaa",
+    b"spend\n1\nto\n \nfrom\n\xc3\xa4\n\0",
+    b"spend\n1\nto\nb\nfrom\na\nb\nc\nd\ne\nf\ng\nh\ni\nj\nk\nl\nm\nn\no\np",
+    b"watch\ntx:ebc352d52d8a2d8f607bc82f6edc468679599eb0e8a8429d88c82e4cffb62854",
+    b"watch\nlock:EBC352D52D8A2D8F607BC82F6EDC468679599EB0E8A8429D88C82E4CFFB62854",
+    b"watch\npair:ebc352d52d8a2d8f607bc82f6edc468679599eb0e8a8429d88c82e4cffb62854,6fd2bc64ef18bc610e2371e6ea7cdda86b35be6cfbe8274c1ed1d9012553c26a",
+    b"watch\npair:ebc352d52d8a2d8f607bc82f6edc468679599eb0e8a8429d88c82e4cffb62854,6fd2bc64ef18bc610e2371e6ea7cdda86b35be6cfbe8274c1ed1d9012553c26a\npair:6fd2bc64ef18bc610e2371e6ea7cdda86b35be6cfbe8274c1ed1d9012553c26a,ebc352d52d8a2d8f607bc82f6edc468679599eb0e8a8429d88c82e4cffb62854\npair:ebc352d52d8a2d8f607bc82f6edc468679599eb0e8a8429d88c82e4cffb62854,ebc352d52d8a2d8f607bc82f6edc468679599eb0e8a8429d88c82e4cffb62854",
+    b"watch\ntx:ebc352d52d8a2d8f607bc82f6edc468679599eb0e8a8429d88c82e4cffb62854\nlock:ebc352d52d8a2d8f607bc82f6edc468679599eb0e8a8429d88c82e4cffb62854",
 ];
 
 #[test]
@@ -294,6 +377,9 @@ const ROWS: &[&str] = &[
     "  node --fresh FILE ",
     "  show FILE ",
     "  export FILE N ",
+    "  gossip ",
+    "  spend AMOUNT to WORD from WORD .. ",
+    "  watch ITEM .. ",
 ];
 
 /// Whether these rows and no others stand behind the first line.

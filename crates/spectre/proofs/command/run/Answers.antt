@@ -1,4 +1,4 @@
-use Rattle.std.proofs.Common.{Option, refl, sym, subst}
+use Rattle.std.proofs.Common.{Option, Err, ap, refl, sym, subst}
 use Rattle.sp_journal.proofs.Looking.{told_bytes}
 use Rattle.spectre.specs.Ends.{Comes}
 use Rattle.spectre.specs.Jobs.{NamesFile, Shows, TakesNothing, TakesScenario}
@@ -8,7 +8,7 @@ use Rattle.spectre.proofs.Completing.{completes}
 use Rattle.spectre.proofs.DiskFirst.{first_of, refused_first}
 use Rattle.spectre.proofs.LastLines.{last_line}
 use Rattle.spectre.proofs.Talking.{all_agree, all_alike}
-use Rattle.spectre.proofs.TopCall.{asked_ends, ends_at, nothing_asked, nothing_behind, nothing_ended, nothing_fed, nothing_lost, nothing_written}
+use Rattle.spectre.proofs.TopCall.{asked_ends, ends_at, memory_comes, no_usage, nothing_asked, nothing_behind, nothing_ended, nothing_fed, nothing_lost, nothing_written}
 use Rattle.spectre.proofs.command.run.Goals as goal
 
 pub returns-in-Ok-clause-done : goal.returns-in-Ok-clause-done
@@ -150,3 +150,21 @@ returns-in-Ok-clause-found_stays g c = (asked_ends c.in-Ok.ensures.job c.do_job.
 
 pub returns-in-Err-Memory-clause-found_stays : goal.returns-in-Err-Memory-clause-found_stays
 returns-in-Err-Memory-clause-found_stays g c = nothing_lost _ (g.D.Disk.now c.args.disk.now) (g.met.D.Disk.is_moment c.args.disk.now)
+
+pub returns-in-Ok-clause-poor : goal.returns-in-Ok-clause-poor
+returns-in-Ok-clause-poor g c = λ s. (ends_at status.Poor s (asked_ends c.in-Ok.ensures.job c.do_job.ensures.ends)).0
+
+pub returns-in-Ok-clause-poor_end : goal.returns-in-Ok-clause-poor_end
+returns-in-Ok-clause-poor_end g c = λ s. (ends_at status.Poor s (asked_ends c.in-Ok.ensures.job c.do_job.ensures.ends)).1
+
+pub returns-in-Ok-clause-large : goal.returns-in-Ok-clause-large
+returns-in-Ok-clause-large g c = λ s. (ends_at status.Large s (asked_ends c.in-Ok.ensures.job c.do_job.ensures.ends)).0
+
+pub returns-in-Ok-clause-large_end : goal.returns-in-Ok-clause-large_end
+returns-in-Ok-clause-large_end g c = λ s. (ends_at status.Large s (asked_ends c.in-Ok.ensures.job c.do_job.ensures.ends)).1
+
+pub returns-in-Err-Memory-clause-among : goal.returns-in-Err-Memory-clause-among
+returns-in-Err-Memory-clause-among g c = memory_comes _ (c.in-Err-Memory.ensures.memory (ap (λ e. Err e) c.in-Err-Memory.field-0-is))
+
+pub returns-in-Err-Memory-clause-usage : goal.returns-in-Err-Memory-clause-usage
+returns-in-Err-Memory-clause-usage g c = ((λ e. absurd cc), (λ none. absurd (no_usage _ (c.in-Err-Memory.ensures.memory (ap (λ e. Err e) c.in-Err-Memory.field-0-is)) none)))

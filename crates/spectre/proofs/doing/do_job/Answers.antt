@@ -1,5 +1,5 @@
 use Rattle.std.proofs.Common.{Some, ap, refl, sym, subst}
-use Rattle.spectre.specs.Ends.{Makes, Plays, Replays, Shows}
+use Rattle.spectre.specs.Ends.{Makes, Plays, Replays, Shows, SpendsTo}
 use Rattle.spectre.specs.JobEnds.{JobEnds, WritesBy}
 use Rattle.spectre.specs.declared.job.Job.{Job}
 use Rattle.spectre.specs.declared.job.Job.TheVariants as jobs
@@ -30,7 +30,9 @@ returns-in-Replay-clause-ends g c =
           (λ s. absurd (subst Replays s e.among))
           (λ s. e.memory s)
           (λ s. absurd (subst Replays s e.among))
-          (λ s. (e.too_long s, e.too_long_end s));
+          (λ s. (e.too_long s, e.too_long_end s))
+          (λ s. absurd (subst Replays s e.among))
+          (λ s. absurd (subst Replays s e.among));
       taken = λ takes. absurd takes;
       taken_fed = λ _. e.taken;
       chain = if_all before _ (λ input other. absurd other);
@@ -76,6 +78,8 @@ returns-in-Show-clause-ends g c =
           (λ s. absurd (subst Shows s e.among))
           (λ s. e.memory s)
           (λ s. e.damaged s)
+          (λ s. absurd (subst Shows s e.among))
+          (λ s. absurd (subst Shows s e.among))
           (λ s. absurd (subst Shows s e.among));
       taken = λ takes. absurd takes;
       taken_fed = λ fed. absurd fed;
@@ -111,6 +115,8 @@ returns-in-Export-clause-ends g c =
           (λ s. absurd (subst Shows s e.among))
           (λ s. e.memory s)
           (λ s. e.damaged s)
+          (λ s. absurd (subst Shows s e.among))
+          (λ s. absurd (subst Shows s e.among))
           (λ s. absurd (subst Shows s e.among));
       taken = λ takes. absurd takes;
       taken_fed = λ fed. absurd fed;
@@ -146,7 +152,9 @@ returns-in-Play-clause-ends g c =
           (λ s. absurd (subst Plays s e.among))
           (λ s. e.memory s)
           (λ s. absurd (subst Plays s e.among))
-          (λ s. (e.too_long s, e.too_long_end s));
+          (λ s. (e.too_long s, e.too_long_end s))
+          (λ s. absurd (subst Plays s e.among))
+          (λ s. absurd (subst Plays s e.among));
       taken = λ _. e.taken;
       taken_fed = λ fed. absurd fed;
       chain = if_all before _ (λ input other. absurd other);
@@ -181,7 +189,9 @@ returns-in-Build-clause-ends g c =
           (λ s. absurd (subst Plays s e.among))
           (λ s. e.memory s)
           (λ s. absurd (subst Plays s e.among))
-          (λ s. (e.too_long s, e.too_long_end s));
+          (λ s. (e.too_long s, e.too_long_end s))
+          (λ s. absurd (subst Plays s e.among))
+          (λ s. absurd (subst Plays s e.among));
       taken = λ _. e.taken;
       taken_fed = λ fed. absurd fed;
       chain = if_all before _ (λ input other. absurd other);
@@ -215,6 +225,8 @@ returns-in-Make-clause-ends g c =
           (λ s. absurd (subst Makes s e.among))
           (λ s. absurd (subst Makes s e.among))
           (λ s. e.memory s)
+          (λ s. absurd (subst Makes s e.among))
+          (λ s. absurd (subst Makes s e.among))
           (λ s. absurd (subst Makes s e.among))
           (λ s. absurd (subst Makes s e.among));
       taken = λ takes. absurd takes;
@@ -254,6 +266,8 @@ returns-in-Drill-clause-ends g c =
           (λ s. absurd (subst Makes s e.among))
           (λ s. e.memory s)
           (λ s. absurd (subst Makes s e.among))
+          (λ s. absurd (subst Makes s e.among))
+          (λ s. absurd (subst Makes s e.among))
           (λ s. absurd (subst Makes s e.among));
       taken = λ takes. absurd takes;
       taken_fed = λ fed. absurd fed;
@@ -268,6 +282,43 @@ returns-in-Drill-clause-read_cause g c = λ s. absurd (subst Makes s c.drill_tex
 
 pub returns-in-Drill-clause-disk_cause : goal.returns-in-Drill-clause-disk_cause
 returns-in-Drill-clause-disk_cause g c = λ s. absurd (subst Makes s c.drill_text.ensures.among)
+
+pub returns-in-Gossip-clause-ends : goal.returns-in-Gossip-clause-ends
+returns-in-Gossip-clause-ends g c =
+    let first = g.D.Disk.now c.args.disk.now in
+    let last = first in
+    let before = g.S.Source.left c.args.source.now in
+    let after = g.S.Source.left c.from_source-in-Gossip.new.source in
+    let old = g.K.Sink.taken c.args.sink.now in
+    let new = g.K.Sink.taken c.from_source-in-Gossip.new.sink in
+    let e = c.from_source-in-Gossip.ensures in
+    let job = jobs.Gossip in
+    subst (λ (j : Job). JobEnds (Some j) first.reads before after old new first last c.from_source-in-Gossip.result) (sym c.in-Gossip.is) record {
+      by = on_status (WritesBy (Some job) first.reads before after old new) c.from_source-in-Gossip.result
+          (λ s. (e.done s, e.done_end s))
+          (λ s. absurd (subst Plays s e.among))
+          (λ s. (e.malformed s, λ _. e.malformed_end s))
+          (λ s. absurd (subst Plays s e.among))
+          (λ s. λ fed. absurd fed)
+          (λ s. e.write_fault s)
+          (λ s. absurd (subst Plays s e.among))
+          (λ s. absurd (subst Plays s e.among))
+          (λ s. absurd (subst Plays s e.among))
+          (λ s. e.memory s)
+          (λ s. absurd (subst Plays s e.among))
+          (λ s. (e.too_long s, e.too_long_end s))
+          (λ s. absurd (subst Plays s e.among))
+          (λ s. absurd (subst Plays s e.among));
+      taken = λ _. e.taken;
+      taken_fed = λ fed. absurd fed;
+      chain = if_all before _ (λ input other. absurd other);
+      onward = tt;
+      lasting = tt;
+      crash = tt;
+    }
+
+pub returns-in-Gossip-clause-disk_cause : goal.returns-in-Gossip-clause-disk_cause
+returns-in-Gossip-clause-disk_cause g c = λ s. absurd (subst Plays s c.from_source-in-Gossip.ensures.among)
 
 pub returns-in-Replay-clause-disk_first : goal.returns-in-Replay-clause-disk_first
 returns-in-Replay-clause-disk_first g c = first_of (Some c.args.job.now) (Some jobs.Replay) (g.D.Disk.now c.args.disk.now).reads _ (ap Some c.in-Replay.is) (λ fault. no_fault fault)
@@ -294,3 +345,54 @@ returns-in-Show-clause-disk_first g c = first_of (Some c.args.job.now) (Some (jo
 pub returns-in-Export-clause-disk_first : goal.returns-in-Export-clause-disk_first
 returns-in-Export-clause-disk_first g c = first_of (Some c.args.job.now) (Some (jobs.Export c.in-Export.path c.in-Export.profile)) (g.D.Disk.now c.args.disk.now).reads _ (ap Some c.in-Export.is)
     (shown_first c.show-in-Export.result (g.D.Disk.now c.args.disk.now).reads c.show-in-Export.ensures.among (λ s. shown_journal _ (g.D.Disk.now c.args.disk.now).reads (c.show-in-Export.ensures.done s)) refl)
+
+pub returns-in-Gossip-clause-disk_first : goal.returns-in-Gossip-clause-disk_first
+returns-in-Gossip-clause-disk_first g c = first_of (Some c.args.job.now) (Some jobs.Gossip) (g.D.Disk.now c.args.disk.now).reads _ (ap Some c.in-Gossip.is) (λ fault. no_fault fault)
+
+pub returns-in-Spend-clause-ends : goal.returns-in-Spend-clause-ends
+returns-in-Spend-clause-ends g c =
+    let first = g.D.Disk.now c.args.disk.now in
+    let before = g.S.Source.left c.args.source.now in
+    let after = g.S.Source.left c.spend.new.source in
+    let old = g.K.Sink.taken c.args.sink.now in
+    let new = g.K.Sink.taken c.spend.new.sink in
+    let e = c.spend.ensures in
+    subst (λ (j : Job). JobEnds (Some j) first.reads before after old new first first c.spend.result) (sym c.in-Spend.is) record {
+      by = e.by first.reads;
+      taken = λ takes. absurd takes;
+      taken_fed = λ _. e.taken;
+      chain = if_all before _ (λ input other. absurd other);
+      onward = tt;
+      lasting = tt;
+      crash = tt;
+    }
+
+pub returns-in-Spend-clause-disk_cause : goal.returns-in-Spend-clause-disk_cause
+returns-in-Spend-clause-disk_cause g c = λ s. absurd (subst SpendsTo s c.spend.ensures.among)
+
+pub returns-in-Spend-clause-disk_first : goal.returns-in-Spend-clause-disk_first
+returns-in-Spend-clause-disk_first g c = first_of (Some c.args.job.now) (Some (jobs.Spend c.in-Spend.amount c.in-Spend.to c.in-Spend.words)) (g.D.Disk.now c.args.disk.now).reads _ (ap Some c.in-Spend.is) (λ fault. no_fault fault)
+
+pub returns-in-Watch-clause-ends : goal.returns-in-Watch-clause-ends
+returns-in-Watch-clause-ends g c =
+    let first = g.D.Disk.now c.args.disk.now in
+    let before = g.S.Source.left c.args.source.now in
+    let after = g.S.Source.left c.watch.new.source in
+    let old = g.K.Sink.taken c.args.sink.now in
+    let new = g.K.Sink.taken c.watch.new.sink in
+    let e = c.watch.ensures in
+    subst (λ (j : Job). JobEnds (Some j) first.reads before after old new first first c.watch.result) (sym c.in-Watch.is) record {
+      by = e.by first.reads;
+      taken = λ takes. absurd takes;
+      taken_fed = λ _. e.taken;
+      chain = if_all before _ (λ input other. absurd other);
+      onward = tt;
+      lasting = tt;
+      crash = tt;
+    }
+
+pub returns-in-Watch-clause-disk_cause : goal.returns-in-Watch-clause-disk_cause
+returns-in-Watch-clause-disk_cause g c = λ s. absurd (subst Replays s c.watch.ensures.among)
+
+pub returns-in-Watch-clause-disk_first : goal.returns-in-Watch-clause-disk_first
+returns-in-Watch-clause-disk_first g c = first_of (Some c.args.job.now) (Some (jobs.Watch c.in-Watch.items)) (g.D.Disk.now c.args.disk.now).reads _ (ap Some c.in-Watch.is) (λ fault. no_fault fault)

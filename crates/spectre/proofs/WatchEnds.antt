@@ -1,0 +1,73 @@
+-- What a watch comes to, by the input of a source that tells its bytes.
+use Rattle.std.proofs.Common.{◌≡◌, ◌≢◌, ◌≤◌, ℕ, List, [], ◌++◌, Option, Some, IfSome, Result, Ok, Err, refl, ap, sym, subst, ◌∙◌, arith}
+use Rattle.std.specs.Io.KnownBytes.{Appends}
+use Rattle.sp_feed.specs.Feed.{End, Whole}
+use Rattle.sp_feed.specs.Reads.{Moment}
+use Rattle.sp_feed.specs.declared.fault.FeedFault.{FeedFault}
+use Rattle.sp_feed.specs.declared.fault.FeedFault.TheVariants as faults
+use Rattle.sp_io.specs.Whole.{AppendsFront}
+use Rattle.sp_watch.specs.declared.item.Item.{Item}
+use Rattle.spectre.specs.Faults.{EndsWhole, feed_fault_text, rest_behind, status_of}
+use Rattle.spectre.specs.JobEnds.{WritesBy}
+use Rattle.spectre.specs.Replay.{fed}
+use Rattle.spectre.specs.Taken.{TakesFeedFor}
+use Rattle.spectre.specs.Watches.{watch_replied, watched}
+use Rattle.spectre.specs.Watching.{FollowsFor, Watches}
+use Rattle.spectre.specs.declared.job.Job.{Job}
+use Rattle.spectre.specs.declared.job.Job.TheVariants as jobs
+use Rattle.spectre.specs.declared.replay.ReplayFault.{ReplayFault}
+use Rattle.spectre.specs.declared.replay.ReplayFault.TheVariants.{Feed, Memory, WriteFault}
+use Rattle.spectre.specs.declared.status.Status.{Status}
+use Rattle.spectre.specs.declared.status.Status.TheVariants as status
+use Rattle.spectre.proofs.Due.{AfterFault, fault_ends, with_input}
+use Rattle.spectre.proofs.TopCall.{on_status}
+use Rattle.spectre.proofs.WatchedFeeds.{watched_closes}
+
+module _ (items : List Item) where
+  abbrev job : Option Job
+  job = Some (jobs.Watch items)
+
+  module _ {start now : Moment} {old new : Option (List ℕ)} where
+    -- so much was taken
+    pub takes : {r : Result (Unit {0}) ReplayFault} → Watches items start now old new r → TakesFeedFor (watch_replied items) start.left now.left old new
+    takes w = record { given = w.given; consumed = w.took.consumed; within = omega (arith, w.took.counted, w.took.within); needed = w.needed; answered = w.answered }
+
+    -- the end was read
+    pub by_done : (reads : Option (List ℕ)) → Watches items start now old new (Ok tt) → WritesBy job reads start.left now.left old new status.Done
+    by_done reads w = (
+      with_input (λ input. Appends old new (watched items input) × EndsWhole (fed input).end) start.left now.left w.given w.took.consumed (λ rest e. ((w.says rest).0, subst EndsWhole (sym (w.says rest).1) tt)),
+      with_input (λ input. now.left ≡ Some (rest_behind (fed input).end)) start.left now.left w.given w.took.consumed (λ rest e. e ∙ ap (λ (x : End). Some (rest_behind x)) (sym (w.says rest).1)),
+    )
+
+    -- a front was written
+    pub by_write : (reads : Option (List ℕ)) → Watches items start now old new (Err WriteFault) → WritesBy job reads start.left now.left old new status.WriteFault
+    by_write reads w = with_input (λ input. AppendsFront old new (watched items input)) start.left now.left w.given w.took.consumed (λ rest e. w.says rest)
+
+    pub by_memory : (reads : Option (List ℕ)) → Watches items start now old new (Err Memory) → WritesBy job reads start.left now.left old new status.Memory
+    by_memory reads w = with_input (λ input. AppendsFront old new (watched items input)) start.left now.left w.given w.took.consumed (λ rest e. w.says rest)
+
+  module _ (reads : Option (List ℕ)) {start now : Moment} {old mid : Option (List ℕ)} (new : Option (List ℕ)) where
+    -- the feed is at fault, whatever was held
+    as_replies : (e : FeedFault) → Watches items start now old mid (Err (Feed e)) → FollowsFor items start now old mid (Err (Feed e))
+    as_replies e w = record { given = w.given; took = w.took; needed = w.needed; answered = w.answered; says = w.says }
+
+    -- and that fault's line was written
+    pub by_fault : (e : FeedFault) (result : Status) → Watches items start now old mid (Err (Feed e)) → (result ≢ status.WriteFault → result ≡ status_of e) → (result ≢ status.WriteFault → Appends mid new (feed_fault_text e))
+        → AppendsFront mid new (feed_fault_text e) → (e ≡ faults.ReadFault → result ≡ status.ReadFault) → WritesBy job reads start.left now.left old new result
+    by_fault e result w same text front read =
+        let f = fault_ends (watched items) (watched_closes items) new e result (as_replies e w) same text front read in
+        on_status (WritesBy job reads start.left now.left old new) result
+        (λ s. absurd (subst AfterFault s f.among))
+        (λ s. absurd (subst AfterFault s f.among))
+        (λ s. (f.malformed s, λ takes. absurd takes))
+        (λ s. (f.truncated s, f.truncated_end s))
+        (λ s. λ feed. f.read s)
+        (λ s. f.write s)
+        (λ s. absurd (subst AfterFault s f.among))
+        (λ s. absurd (subst AfterFault s f.among))
+        (λ s. absurd (subst AfterFault s f.among))
+        (λ s. absurd (subst AfterFault s f.among))
+        (λ s. absurd (subst AfterFault s f.among))
+        (λ s. (f.too_long s, f.too_long_end s))
+        (λ s. absurd (subst AfterFault s f.among))
+        (λ s. absurd (subst AfterFault s f.among))
