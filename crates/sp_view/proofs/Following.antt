@@ -15,7 +15,7 @@ use Rattle.sp_model.proofs.Loose.{loose_vote, vote_sign}
 use Rattle.sp_model.proofs.Pasts.{past_trans}
 use Rattle.sp_view.specs.Settled.{AreOpen, AreVotesBut, IsAsked}
 use Rattle.sp_view.proofs.Balances.{sum_by_tests}
-use Rattle.sp_view.proofs.Settling.{sign_above, sign_below}
+use Rattle.sp_view.proofs.Settling.{sign_above, sign_below, sign_zero}
 
 -- where each place that passes one test passes another, no more pass the one
 pub count_within : (p q : ℕ → Bool) (xs : List ℕ) → ((k : ℕ) → p k ≡ true → q k ≡ true) → length (filter p xs) ≤ length (filter q xs)
@@ -62,7 +62,7 @@ minus_only (pos zero) h = refl
 minus_only (pos (suc n)) h = absurd (false≢true h)
 
 -- how many voters of the future of one pass a test by their votes
-pub votes_above : Graph → List ℕ → ℕ → ℕ → (ℤ → Bool) → ℕ → ℕ
+unfoldable pub votes_above : Graph → List ℕ → ℕ → ℕ → (ℤ → Bool) → ℕ → ℕ
 votes_above g set x y side w = length (filter (λ u. (has set u && in_past g w u) && side (vote g set u x y)) (range_with_len 0 512))
 
 module _ (g : Graph) (set : List ℕ) (x y w : ℕ) (asked : IsAsked g set) (is_open : ℕ → Bool) (opened : AreOpen g set x y is_open) (still : is_open w ≡ true) where
@@ -81,6 +81,11 @@ module _ (g : Graph) (set : List ℕ) (x y w : ℕ) (asked : IsAsked g set) (is_
 
   pub minus_wins : votes_above g set x y is_plus w < votes_above g set x y is_minus w → is_minus (vote g set w x y) ≡ true
   minus_wins less = (sign_below (pos (votes_above g set x y is_plus w) -ℤ pos (votes_above g set x y is_minus w)) _ votes_sign (omega (arith, ints, less))).1
+
+  -- where as many vote for one side as for the other, it votes for neither
+  pub neither_wins : votes_above g set x y is_plus w ≡ votes_above g set x y is_minus w → (is_plus (vote g set w x y) ≡ false) × (is_minus (vote g set w x y) ≡ false)
+  neither_wins same =
+      sign_zero (pos (votes_above g set x y is_plus w) -ℤ pos (votes_above g set x y is_minus w)) _ votes_sign (omega (arith, ints, same)) (omega (arith, ints, same))
 
 -- The open voters in the past of one vote as it does, where more of its future votes so than all others could vote
 -- against: those that do, and the open ones that aren't in its past. `for` and `no` tell the two sides.

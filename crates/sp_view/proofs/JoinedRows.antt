@@ -19,7 +19,7 @@ use Rattle.sp_view.specs.Settled.{AreKept, AreOpen, AreSides, IsAsked}
 use Rattle.sp_bits.proofs.RowSets.{row_small}
 use Rattle.sp_bits.proofs.RowSets.{has_places, has_difference, filter_row}
 
--- ---- a new pair: all loose members are asked
+-- ---- the loose members of a set
 
 pub todo_new : (g : Graph) (set : List ℕ) (x y z : ℕ) → IsRow set
     → has (difference set (places_where (λ z. not (is_loose g z x y)))) z ≡ (has set z && is_loose g z x y)
@@ -32,23 +32,6 @@ todo_new g set x y z row = has_difference set (places_where (λ z. not (is_loose
     at : (s : Bool) → has set z ≡ s → (s && not (has (places_where (λ z. not (is_loose g z x y))) z)) ≡ (s && is_loose g z x y)
     at true e = ap not (has_places (λ z. not (is_loose g z x y)) z (λ _. row_small set z row e)) ∙ twice (is_loose g z x y)
     at false e = refl
-
-pub open_new : (g : Graph) (set : List ℕ) (x y : ℕ) (todo : List ℕ) → ((z : ℕ) → has todo z ≡ (has set z && is_loose g z x y)) → AreOpen g set x y (has todo)
-open_new g set x y todo is = record {
-  member = λ z h. (and_parts (has set z) (is_loose g z x y) (sym (is z) ∙ h)).0;
-  loose = λ z h. (and_parts (has set z) (is_loose g z x y) (sym (is z) ∙ h)).1;
-}
-
-pub kept_new : (g : Graph) (set : List ℕ) (x y : ℕ) (todo : List ℕ) → ((z : ℕ) → has todo z ≡ (has set z && is_loose g z x y)) → AreKept g set x y (has todo) [] []
-kept_new g set x y todo is = record {
-  plus_is = λ z. rw (is z) (none (has set z) (is_loose g z x y) (is_plus (vote g set z x y)));
-  minus_is = λ z. rw (is z) (none (has set z) (is_loose g z x y) (is_minus (vote g set z x y)));
-}
-  where
-    none : (s l v : Bool) → false ≡ (s && (l && (not (s && l) && v)))
-    none true true v = refl
-    none true false v = refl
-    none false l v = refl
 
 -- ---- signs
 

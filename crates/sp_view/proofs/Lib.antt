@@ -25,6 +25,8 @@ pub mod Bests
 pub mod Derived
 pub mod Starting
 pub mod Following
+pub mod Seen
+pub mod Alike
 pub mod Lone
 pub mod Fresh
 pub mod Changes

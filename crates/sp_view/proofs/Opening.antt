@@ -4,8 +4,9 @@ use Rattle.std.specs.Prelude.{not}
 use Rattle.std.proofs.lemmas.Bool.{and_parts, and_from, not_from_false, or_left, or_right}
 use Rattle.sp_bits.specs.Places.{difference, meet, places_where, union}
 use Rattle.sp_bits.proofs.RowSets.{has_difference, has_places, has_union}
-use Rattle.sp_model.specs.Graph.{Graph, has}
+use Rattle.sp_model.specs.Graph.{Graph, IsDownset, has}
 use Rattle.sp_model.specs.Loose.{is_loose}
+use Rattle.sp_view.specs.Seen.{HasAbove}
 
 module _ (target voters from one two : List ℕ) (small : (z : ℕ) → has target z ≡ true → z < 512)
     (e : one ≡ meet target voters) (e' : two ≡ difference one from) where
@@ -37,6 +38,10 @@ left_there row other left z small e h out =
 pub left_from : (row other left : List ℕ) (z : ℕ) → (has row z ≡ true → z < 512) → left ≡ difference row other → has left z ≡ true → has row z ≡ true
 left_from row other left z small e h =
     (and_parts (has row z) (not (has other z)) (sym (ap (λ (l : List ℕ). has l z) e ∙ has_difference row other z small) ∙ h)).0
+
+-- a set that holds the past of each member holds what has members above it
+pub above_within : (g : Graph) (set : List ℕ) (test : ℕ → Bool) → IsDownset g set → ((b : ℕ) → test b ≡ true → has set b ≡ true) → (z : ℕ) → HasAbove g test z → has set z ≡ true
+above_within g set test down among z above = down.closed above.0 z (among above.0 above.1) above.2
 
 -- those of some voters that are loose
 pub loose_is : (g : Graph) (x y : ℕ) (voters bound loose : List ℕ) → ((z : ℕ) → has voters z ≡ true → z < 512) → bound ≡ places_where (λ z. not (is_loose g z x y)) → loose ≡ difference voters bound

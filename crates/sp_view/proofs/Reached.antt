@@ -6,8 +6,9 @@ use Rattle.sp_bits.specs.Places.{difference, members_below, union, IsGreatest}
 use Rattle.sp_bits.proofs.RowSets.{has_difference, has_union}
 use Rattle.sp_dag.specs.Numbered.{Numbered, graph_of, AreInOrder}
 use Rattle.sp_dag.proofs.Ranked.{ancestors_lower, complete_numbered, past_members}
-use Rattle.sp_model.specs.Graph.{has, in_past, past, IsDownset}
+use Rattle.sp_model.specs.Graph.{has, in_past, past}
 use Rattle.sp_model.proofs.Pasts.{past_trans}
+use Rattle.sp_view.specs.Seen.{HasAbove}
 use Rattle.sp_view.specs.Settled.{left_of}
 use Rattle.sp_view.proofs.Downward.{left_first, left_next}
 
@@ -45,14 +46,14 @@ module _ (table : Numbered) (order : AreInOrder table.parents) (few : length tab
       at true e h = small z e
       at false e h = past_small z (past_members table z block order within ∙ h)
 
-  -- what was taken lies within each set that holds the past of each member, the blocks among them
-  pub joined_within : (set : List ℕ) → IsDownset (graph_of table) set → has set block ≡ true → ((z : ℕ) → has below z ≡ true → has set z ≡ true)
-      → (z : ℕ) → has (union below (past (graph_of table) block)) z ≡ true → has set z ≡ true
-  joined_within set down there inner z h = at (has below z) refl (sym (has_joined z) ∙ h)
+  -- what was taken has one of the blocks above it
+  pub joined_only : (test : ℕ → Bool) → test block ≡ true → ((z : ℕ) → has below z ≡ true → HasAbove (graph_of table) test z)
+      → (z : ℕ) → has (union below (past (graph_of table) block)) z ≡ true → HasAbove (graph_of table) test z
+  joined_only test there inner z h = at (has below z) refl (sym (has_joined z) ∙ h)
     where
-      at : (c : Bool) → has below z ≡ c → (c || in_past (graph_of table) z block) ≡ true → has set z ≡ true
+      at : (c : Bool) → has below z ≡ c → (c || in_past (graph_of table) z block) ≡ true → HasAbove (graph_of table) test z
       at true e h = inner z e
-      at false e h = down.closed block z there h
+      at false e h = (block, there, h)
 
   pub left_parts : (z : ℕ) → has (difference left (past (graph_of table) block)) z ≡ true → has left z ≡ true
   left_parts z h = (and_parts (has left z) (not (in_past (graph_of table) z block)) (sym (has_left z) ∙ h)).0

@@ -1,5 +1,6 @@
 pub mod Stored
 pub mod Settled
+pub mod Seen
 pub mod Voting
 pub mod Views
 pub mod Changed

@@ -10,6 +10,8 @@ mod entries;
 pub mod laws;
 mod missing;
 mod pair_rows;
+mod pasts;
+mod seeing;
 mod settle;
 mod sharing;
 mod stored;

@@ -14,36 +14,12 @@ ghost use Rattle.sp_view.specs.Views.{holds};
 
 use crate::asking::is_none;
 use crate::pair_rows::bound_on;
+use crate::pasts::pasts_of;
 use crate::stored::{RowName, row_at};
 use sp_bits::Row;
 use sp_dag::Dag;
 use sp_frozen::Frozen;
 use sp_rows::RowPool;
-
-// The blocks in the past of some others. It takes three steps over rows for each of these that isn't
-// in the past of another one.
-fn pasts_of(dag: &Dag, blocks: &Row) -> Row
-    requires { (b : ℕ) → IsTrue (has blocks.now b) → b < length dag.now.parents }
-    ensures covers { (b z : ℕ) → IsTrue (has blocks.now b) →
-        IsTrue (in_past (graph_of dag.now) z b) → IsTrue (has result z) }
-    ensures within { (set : List ℕ) → IsDownset (graph_of dag.now) set →
-        ((b : ℕ) → IsTrue (has blocks.now b) → IsTrue (has set b)) →
-        (z : ℕ) → IsTrue (has result z) → IsTrue (has set z) }
-    ensures small { (z : ℕ) → IsTrue (has result z) → z < 512 }
-{
-    // Tells the proof that there are at most 512 blocks, in order.
-    let _blocks = dag.len();
-    let mut below = Row::empty();
-    let mut left = *blocks;
-    let mut next = left.highest();
-    'pasts: loop {
-        let Some(block) = next else { return below };
-        let past = dag.past(block);
-        below.or_with(past);
-        left.without(past);
-        next = left.highest_below(block);
-    }
-}
 
 // The blocks in the past of those that join among the voters of one side, without the loose voters of
 // that side, which vote so already.

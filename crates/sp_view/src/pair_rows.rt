@@ -9,6 +9,7 @@ ghost use Rattle.sp_dag.specs.Numbered.{graph_of};
 ghost use Rattle.sp_frozen.specs.Voters.{AreFrozen};
 ghost use Rattle.sp_view.specs.Settled.{AreKept, AreOpen, AreSides, IsAsked};
 
+use crate::seeing::{known_votes, told};
 use crate::settle::settle;
 use sp_bits::Row;
 use sp_dag::Dag;
@@ -69,7 +70,8 @@ fn settled_rows(
     Sides { plus, minus }
 }
 
-// The loose voters of a new pair. It takes two passes over a row for each of them.
+// The loose voters of a new pair. It takes a few passes over rows for each of them that sees both sides, and for
+// each frozen voter that isn't in the past of another one of its side.
 pub(crate) fn new_rows(
     dag: &Dag,
     members: &Row,
@@ -85,13 +87,18 @@ pub(crate) fn new_rows(
     requires frozen { AreFrozen (graph_of dag.now) members.now x y frozen_plus.now frozen_minus.now }
     ensures { AreSides (graph_of dag.now) members.now x y result.plus result.minus }
 {
-    let mut todo = *members;
-    todo.without(&bound_on(dag, x, y));
-    let none = Sides {
-        plus: Row::empty(),
-        minus: Row::empty(),
-    };
-    settled_rows(dag, members, frozen_plus, frozen_minus, &none, &todo)
+    let mut loose = *members;
+    loose.without(&bound_on(dag, x, y));
+    let seen = known_votes(dag, members, frozen_plus, frozen_minus, &loose);
+    let known = told(dag, members, frozen_plus, frozen_minus, x, y, &seen);
+    settled_rows(
+        dag,
+        members,
+        frozen_plus,
+        frozen_minus,
+        &known.sides,
+        &known.todo,
+    )
 }
 
 // The loose voters in the past of block `b` that aren't among those of `agree`.

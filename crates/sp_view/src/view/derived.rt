@@ -29,8 +29,10 @@ impl View {
     /// It goes over the pairs once. For a pair inside that view it takes a few steps over rows, three
     /// for each block that joins, is frozen on the pair and isn't in the past of another such block,
     /// and two for each voter that is asked anew; where none is asked, both rows are shared as they
-    /// stand. For another pair inside the set it takes two for each loose voter. Its entries end behind
-    /// the last pair inside the set, and take 12 bytes each.
+    /// stand. For another pair inside the set it takes three for each frozen voter that isn't in the past
+    /// of another one of its side, and a few for each loose voter that sees both sides, where not all of
+    /// these see all frozen ones. Its entries end behind the last pair inside the set, and take 12 bytes
+    /// each.
     ///
     /// # Errors
     ///

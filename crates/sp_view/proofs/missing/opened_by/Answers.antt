@@ -1,7 +1,8 @@
 use Rattle.std.proofs.Common.{◌≡◌, ◌∙◌, ◌<◌, ℕ, List, [], true, ap, arith, sym}
 use Rattle.std.proofs.lemmas.Bool.{false≢true}
 use Rattle.sp_model.specs.Graph.{has}
-use Rattle.sp_view.proofs.Opening.{joining_member, joining_there, left_from, left_there}
+use Rattle.sp_dag.specs.Numbered.{graph_of}
+use Rattle.sp_view.proofs.Opening.{above_within, joining_member, joining_there, left_from, left_there}
 use Rattle.sp_view.proofs.missing.opened_by.Goals as goal
 
 pub returns-then-is_none-clause-covers : goal.returns-then-is_none-clause-covers
@@ -32,6 +33,6 @@ returns-clause-covers c = λ b z member new voter r out.
 pub returns-clause-within : goal.returns-clause-within
 returns-clause-within c = λ z h.
     let inside : (z : ℕ) → has c.args.target.now z ≡ true → z < 512 = λ z h. (let lt = c.requires.below z h in omega (arith, lt, c.len-blocks.ensures.numbered.small)) in
-    c.pasts_of-below.ensures.within c.args.target.now c.requires.down
+    above_within (graph_of c.args.dag.now) c.args.target.now (has c.without.new.self) c.requires.down
     (joining_member c.args.target.now c.args.voters.now c.args.from.now c.and_with.new.self c.without.new.self inside c.and_with.ensures c.without.ensures)
-    z (left_from c.pasts_of-below.result c.row_at.result c.without-2.new.self z (c.pasts_of-below.ensures.small z) c.without-2.ensures h)
+    z (c.pasts_of-below.ensures.only z (left_from c.pasts_of-below.result c.row_at.result c.without-2.new.self z (c.pasts_of-below.ensures.small z) c.without-2.ensures h))

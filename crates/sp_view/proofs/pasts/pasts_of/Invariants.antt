@@ -1,10 +1,11 @@
-use Rattle.std.proofs.Common.{◌≡◌, ◌<◌, ℕ, List, true}
+use Rattle.std.proofs.Common.{◌≡◌, ◌<◌, ℕ, true}
 use Rattle.std.specs.Prelude.{IfSome}
 use Rattle.sp_dag.specs.Numbered.{graph_of}
-use Rattle.sp_model.specs.Graph.{has, IsDownset}
+use Rattle.sp_model.specs.Graph.{has}
+use Rattle.sp_view.specs.Seen.{HasAbove}
 use Rattle.sp_view.specs.Settled.{places_left}
 use Rattle.sp_view.proofs.Reached.{AreCovered}
-use Rattle.sp_view.proofs.missing.pasts_of.Given as goal
+use Rattle.sp_view.proofs.pasts.pasts_of.Given as goal
 
 abbrev pub invariant-pasts : goal.invariant-pasts
 invariant-pasts l = record {
@@ -12,7 +13,7 @@ invariant-pasts l = record {
   among : (b : ℕ) → has l.left b ≡ true → has l.blocks b ≡ true;
   small : (z : ℕ) → has l.below z ≡ true → z < 512;
   covers : AreCovered l.dag l.blocks l.left l.next l.below;
-  inside : (set : List ℕ) → IsDownset (graph_of l.dag) set → ((b : ℕ) → has l.blocks b ≡ true → has set b ≡ true) → (z : ℕ) → has l.below z ≡ true → has set z ≡ true;
+  only : (z : ℕ) → has l.below z ≡ true → HasAbove (graph_of l.dag) (has l.blocks) z;
 }
 
 abbrev pub decreases-pasts : goal.decreases-pasts

@@ -4,8 +4,8 @@ use Rattle.sp_bits.specs.Places.{difference, members_below, union, IsGreatest}
 use Rattle.sp_dag.specs.Numbered.{Numbered, graph_of, AreInOrder}
 use Rattle.sp_model.specs.Graph.{has, past}
 use Rattle.sp_view.proofs.Downward.{next_member}
-use Rattle.sp_view.proofs.Reached.{AreCovered, covered_next, joined_small, joined_within, left_parts}
-use Rattle.sp_view.proofs.missing.pasts_of.Goals as goal
+use Rattle.sp_view.proofs.Reached.{AreCovered, covered_next, joined_small, joined_only, left_parts}
+use Rattle.sp_view.proofs.pasts.pasts_of.Goals as goal
 
 pub pasts-preserved : goal.pasts-preserved
 pasts-preserved c =
@@ -30,7 +30,7 @@ pasts-preserved c =
           (subst (λ (o : Option ℕ). AreCovered table c.args.blocks.now left o below) c.in-Some.is c.pasts.invariant.covers)
           (subst (λ (l : List ℕ). IfSome next (IsGreatest (members_below l block))) e' c.highest_below-next.ensures.some)
           (subst (λ (l : List ℕ). IsNone next ↔ (members_below l block ≡ [])) e' c.highest_below-next.ensures.none));
-      inside = λ set down among z h.
-          joined_within table order few block within below left c.pasts.invariant.small left_small set down (among block (c.pasts.invariant.among block there))
-          (c.pasts.invariant.inside set down among) z (ap (λ (l : List ℕ). has l z) (sym e) ∙ h);
+      only = λ z h.
+          joined_only table order few block within below left c.pasts.invariant.small left_small (has c.args.blocks.now) (c.pasts.invariant.among block there)
+          c.pasts.invariant.only z (ap (λ (l : List ℕ). has l z) (sym e) ∙ h);
     }
