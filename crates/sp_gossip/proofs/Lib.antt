@@ -9,3 +9,5 @@ pub mod Spelled
 pub mod Readings
 pub mod Cuts
 pub mod Within
+pub mod Numbered
+pub mod Refusals

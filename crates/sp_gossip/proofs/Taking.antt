@@ -190,7 +190,7 @@ pub events_state : (c : Chain) (s : State) (net : Network) (events : List Event)
 events_state c s net [] is = is
 events_state c s net (event ∷ events) is = events_state c (after c s event) (network_after net event) events (event_state c s net event is)
 
-next_event : (events : List Event) (i : ℕ) (event : Event) → i < length events → event ≡ get_or events i event → drop i events ≡ event ∷ drop (i + 1) events
+pub next_event : (events : List Event) (i : ℕ) (event : Event) → i < length events → event ≡ get_or events i event → drop i events ≡ event ∷ drop (i + 1) events
 next_event events i event lt is = drop-cons events i event lt ∙ ap₂ (λ (e : Event) (n : ℕ). e ∷ drop n events) (sym is) (sym (add-one i))
 
 pub one_after : (whole net now : Network) (events : List Event) (i : ℕ) (event : Event) → i < length events → event ≡ get_or events i event → now ≡ network_after net event

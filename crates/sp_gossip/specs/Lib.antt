@@ -6,3 +6,5 @@ pub mod Nodes
 pub mod Script
 pub mod Following
 pub mod Cut
+pub mod Named
+pub mod Refusing

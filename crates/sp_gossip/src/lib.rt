@@ -9,6 +9,7 @@
 mod cut;
 mod event;
 pub mod laws;
+mod made_blocks;
 mod net;
 mod packet;
 mod peer;

@@ -6,6 +6,7 @@ ghost use Rattle.sp_play.specs.Source.{scenario_limit};
 ghost use Rattle.sp_play.specs.Words.{lines_left};
 ghost use Rattle.std.specs.Option.{option_copied};
 
+use crate::made_blocks::MadeBlocks;
 use crate::script_line::{Made, ScriptLine, ScriptWhy};
 use crate::script_words::{meaning, nodes_line};
 use sp_ids::Memory;
@@ -44,7 +45,7 @@ pub fn begins_with_nodes(text: &[u8]) -> bool
 fn read_from(
     alloc: Global,
     nodes: u8,
-    blocks: &[Made],
+    blocks: &MadeBlocks<'_>,
     number: u32,
     text: Option<&[u8]>,
 ) -> Result<Script, Memory>
@@ -85,7 +86,12 @@ fn read_from(
 }
 
 /// Reads a text up to its first fault.
-fn read_text(alloc: Global, text: &[u8], first: u32, blocks: &[Made]) -> Result<Script, Memory>
+fn read_text(
+    alloc: Global,
+    text: &[u8],
+    first: u32,
+    blocks: &MadeBlocks<'_>,
+) -> Result<Script, Memory>
     requires short { length text.now < scenario_limit }
     requires numbered { first ≤ 16777216 }
     requires few { length blocks.now ≤ 65536 }
@@ -105,12 +111,13 @@ fn read_text(alloc: Global, text: &[u8], first: u32, blocks: &[Made]) -> Result<
 
 impl Script {
     /// Reads a text up to its first fault. Its first line begins with the word `nodes` and has the
-    /// number `first`; `blocks` are the made blocks, which `give` names. It takes memory in proportion to
-    /// the text, however long the blocks are.
+    /// number `first`; `blocks` are the made blocks, which `give` names. The time of a line is in
+    /// proportion to its bytes and, where it names a block, to the logarithm of their number. It takes
+    /// memory in proportion to the text and to the number of the blocks, however long they are.
     ///
     /// # Errors
     ///
-    /// `Memory` where the list of lines or a line's words found none.
+    /// `Memory` where the list of lines, a line's words or the numbers of the blocks found none.
     pub fn read(alloc: Global, text: &[u8], first: u32, blocks: &[Made]) -> Result<Script, Memory>
         requires short { length text.now < scenario_limit }
         requires numbered { first ≤ 16777216 }
@@ -121,7 +128,8 @@ impl Script {
         ensures within { IfOk result (λ script. IfSome script.nodes (λ nodes.
             All (meant.HasNumbers nodes (length blocks.now)) script.reading.lines)) }
     {
-        let script = read_text(alloc, text, first, blocks)?;
+        let named = MadeBlocks::of(alloc, blocks)?;
+        let script = read_text(alloc, text, first, &named)?;
         Ok(script)
     }
 

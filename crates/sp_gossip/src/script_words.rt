@@ -1,11 +1,11 @@
 //! The lines of a script: the words of each, and what they ask for.
 
-ghost use Rattle.std.specs.Prelude.{◌≡◌, ◌<◌, ◌≤◌, IfSome, IfOk, length, OnOk, position};
+ghost use Rattle.std.specs.Prelude.{◌≡◌, ◌<◌, ◌≤◌, IfOk, length, OnOk};
 ghost use Rattle.sp_gossip.specs.Script as meant;
-ghost use Rattle.sp_play.specs.Commands as commands;
 
 use crate::event::Event;
-use crate::script_line::{Made, ScriptLine, ScriptWhy};
+use crate::made_blocks::MadeBlocks;
+use crate::script_line::{ScriptLine, ScriptWhy};
 use sp_ids::Memory;
 use sp_play::{Words, has_line_bytes, is_decimal, is_skipped, is_word, number_of};
 use std::alloc::Global;
@@ -35,16 +35,6 @@ fn node(nodes: u8, number: u16) -> Result<u8, ScriptWhy>
     }
 }
 
-/// The number of the made block of a name.
-fn named(blocks: &[Made], name: &[u8]) -> Option<usize>
-    ensures number { result ≡ position (λ made. commands.is_word made.name name.now) blocks.now }
-    ensures within { IfSome result (λ number. number < length blocks.now) }
-{
-    blocks
-        .iter()
-        .position(|made| is_word(made.name.as_slice(), name))
-}
-
 /// The node of `give NODE NAME`.
 #[tactic(auto, unfolding(crate::specs::Script::given_node))]
 fn given_node(nodes: u8, words: &Words<'_>) -> Result<u8, ScriptWhy>
@@ -60,12 +50,12 @@ fn given_node(nodes: u8, words: &Words<'_>) -> Result<u8, ScriptWhy>
 
 /// `give NODE NAME`
 #[tactic(auto, unfolding(crate::specs::Script::give_line, crate::specs::Script::block_named))]
-fn give_line(nodes: u8, blocks: &[Made], words: &Words<'_>) -> Result<ScriptLine, ScriptWhy>
+fn give_line(nodes: u8, blocks: &MadeBlocks<'_>, words: &Words<'_>) -> Result<ScriptLine, ScriptWhy>
     requires { length blocks.now ≤ 65536 }
     ensures { result ≡ meant.give_line nodes blocks.now words.now }
 {
     let node = given_node(nodes, words)?;
-    match named(blocks, words.at(2)) {
+    match blocks.named(words.at(2)) {
         Some(number) => Ok(ScriptLine::Give {
             node,
             block: number as u16,
@@ -116,7 +106,11 @@ fn report_line(nodes: u8, words: &Words<'_>) -> Result<ScriptLine, ScriptWhy>
 
 /// What a line of these words asks for.
 #[tactic(auto, unfolding(crate::specs::Script::command_line))]
-fn command_line(nodes: u8, blocks: &[Made], words: &Words<'_>) -> Result<ScriptLine, ScriptWhy>
+fn command_line(
+    nodes: u8,
+    blocks: &MadeBlocks<'_>,
+    words: &Words<'_>,
+) -> Result<ScriptLine, ScriptWhy>
     requires few { length blocks.now ≤ 65536 }
     requires some { 0 < length words.now }
     ensures { result ≡ meant.command_line nodes blocks.now words.now }
@@ -142,7 +136,7 @@ fn command_line(nodes: u8, blocks: &[Made], words: &Words<'_>) -> Result<ScriptL
 pub(crate) fn meaning(
     alloc: Global,
     nodes: u8,
-    blocks: &[Made],
+    blocks: &MadeBlocks<'_>,
     line: &[u8],
 ) -> Result<Result<Option<ScriptLine>, ScriptWhy>, Memory>
     requires { length blocks.now ≤ 65536 }

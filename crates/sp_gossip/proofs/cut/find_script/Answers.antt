@@ -1,4 +1,4 @@
-use Rattle.std.proofs.Common.{◌≡◌, ◌≤◌, ◌+◌, ◌&&◌, Bool, true, cond, eqb, get_or, length, List, ℕ, sym, ap, subst, drop, take, ◌∙◌, arith}
+use Rattle.std.proofs.Common.{◌≤◌, ◌+◌, eqb, get_or, length, ℕ, sym, ap, subst, ◌∙◌, arith}
 use Rattle.std.proofs.lemmas.List.{take_all}
 use Rattle.sp_gossip.specs.Cut.{line_count, Parts}
 use Rattle.sp_gossip.proofs.Cuts.{both, few_lines, found_here, lines_before, lines_seen, none_found, one_seen, Seen}
