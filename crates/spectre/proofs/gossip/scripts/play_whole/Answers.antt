@@ -8,7 +8,7 @@ use Rattle.spectre.specs.Gossips.{play_script, script_fault_text, script_text}
 use Rattle.spectre.specs.declared.ending.Ending.TheVariants.{Whole, Faulty}
 use Rattle.spectre.specs.declared.script_fault.ScriptFault.{ScriptFault}
 use Rattle.spectre.proofs.Gossiping.{ends_so}
-use Rattle.spectre.proofs.gossip.play_whole.Goals as goal
+use Rattle.spectre.proofs.gossip.scripts.play_whole.Goals as goal
 
 pub returns-in_err-fault-clause-err : goal.returns-in_err-fault-clause-err
 returns-in_err-fault-clause-err g c =

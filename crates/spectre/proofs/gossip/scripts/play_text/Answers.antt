@@ -5,7 +5,7 @@ use Rattle.sp_io.specs.Whole.{AppendsFront}
 use Rattle.sp_io.proofs.Stops.{stops_at_start}
 use Rattle.spectre.specs.Gossips.{play_script, Told}
 use Rattle.spectre.proofs.Gossiping.{played_by, told_nothing}
-use Rattle.spectre.proofs.gossip.play_text.Goals as goal
+use Rattle.spectre.proofs.gossip.scripts.play_text.Goals as goal
 
 pub returns-in_default-clause-fault : goal.returns-in_default-clause-fault
 returns-in_default-clause-fault g c = sym (ap (λ o. (play_script c.args.scene.now c.args.number (option_copied o)).fault) c.in_default.is)

@@ -6,7 +6,7 @@ use Rattle.sp_io.proofs.Writing.{wrote_all, wrote_more}
 use Rattle.sp_report.specs.Naming.{labels_of}
 use Rattle.spectre.specs.Gossips.{fault_read, play, Told, turn}
 use Rattle.spectre.proofs.Gossiping.{left, line_at, line_done, line_ends, line_fails, line_stops, none_left, turn_keeps}
-use Rattle.spectre.proofs.gossip.play_lines.Goals as goal
+use Rattle.spectre.proofs.gossip.turns.play_lines.Goals as goal
 
 pub returns-in_err-reason-clause-err : goal.returns-in_err-reason-clause-err
 returns-in_err-reason-clause-err g c =

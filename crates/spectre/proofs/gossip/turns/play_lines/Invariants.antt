@@ -3,7 +3,7 @@ use Rattle.sp_io.specs.Whole.{Wrote}
 use Rattle.sp_report.specs.Naming.{labels_of}
 use Rattle.spectre.specs.Gossips.{fault_read, play}
 use Rattle.spectre.proofs.Gossiping.{left}
-use Rattle.spectre.proofs.gossip.play_lines.Given as goal
+use Rattle.spectre.proofs.gossip.turns.play_lines.Given as goal
 
 abbrev pub invariant-each : goal.invariant-each
 invariant-each g l =

@@ -10,7 +10,7 @@ use Rattle.sp_report.specs.Naming.{labels_of}
 use Rattle.sp_report.specs.Texts.{report_text}
 use Rattle.spectre.specs.Gossips.{at_text, node_text}
 use Rattle.spectre.proofs.Shown.{front_then}
-use Rattle.spectre.proofs.gossip.write_report.Goals as goal
+use Rattle.spectre.proofs.gossip.turns.write_report.Goals as goal
 
 pub returns-in_err-write_whole-clause-err : goal.returns-in_err-write_whole-clause-err
 unfolding node_text

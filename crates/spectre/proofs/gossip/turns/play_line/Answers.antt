@@ -5,7 +5,7 @@ use Rattle.sp_io.proofs.Stops.{stops_at_start}
 use Rattle.sp_report.specs.Naming.{labels_of}
 use Rattle.spectre.specs.Gossips.{Turn}
 use Rattle.spectre.proofs.Gossiping.{gives_turn}
-use Rattle.spectre.proofs.gossip.play_line.Goals as goal
+use Rattle.spectre.proofs.gossip.turns.play_line.Goals as goal
 
 pub returns-in_err-event-in-Give-clause-err : goal.returns-in_err-event-in-Give-clause-err
 returns-in_err-event-in-Give-clause-err g c = stops_at_start c.from_residual.result _ _

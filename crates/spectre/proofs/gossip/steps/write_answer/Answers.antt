@@ -7,7 +7,7 @@ use Rattle.sp_report.specs.Lines.{answer_text}
 use Rattle.sp_report.specs.Naming.{labels_of}
 use Rattle.spectre.specs.Gossips.{at_text}
 use Rattle.spectre.proofs.Sending.{first_goes, first_stops}
-use Rattle.spectre.proofs.gossip.write_answer.Goals as goal
+use Rattle.spectre.proofs.gossip.steps.write_answer.Goals as goal
 
 pub returns-in_err-write_whole-clause-err : goal.returns-in_err-write_whole-clause-err
 returns-in_err-write_whole-clause-err g c =

@@ -3,7 +3,7 @@ use Rattle.std.specs.Io.KnownBytes.{Appends}
 use Rattle.sp_io.specs.Whole.{AppendsFront}
 use Rattle.sp_report.specs.Naming.{labels_of}
 use Rattle.spectre.proofs.Gossiping.{answers_text, nothing_sent, packet_sent}
-use Rattle.spectre.proofs.gossip.write_step.Goals as goal
+use Rattle.spectre.proofs.gossip.steps.write_step.Goals as goal
 
 pub returns-then-not-is_empty-clause-ok : goal.returns-then-not-is_empty-clause-ok
 returns-then-not-is_empty-clause-ok g c =

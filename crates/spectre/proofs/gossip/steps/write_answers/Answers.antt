@@ -6,7 +6,7 @@ use Rattle.sp_io.proofs.Writing.{wrote_all, wrote_more, wrote_stops}
 use Rattle.sp_report.specs.Naming.{labels_of}
 use Rattle.spectre.specs.Gossips.{answer_at_text}
 use Rattle.spectre.proofs.Gossiping.{last_text, next_text}
-use Rattle.spectre.proofs.gossip.write_answers.Goals as goal
+use Rattle.spectre.proofs.gossip.steps.write_answers.Goals as goal
 
 pub returns-in_err-write_answer-clause-err : goal.returns-in_err-write_answer-clause-err
 returns-in_err-write_answer-clause-err g c =

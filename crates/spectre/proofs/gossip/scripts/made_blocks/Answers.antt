@@ -1,6 +1,6 @@
 use Rattle.std.proofs.Common.{◌<◌, ◌∙◌, length, arith}
 use Rattle.spectre.proofs.Gossiping.{one_made}
-use Rattle.spectre.proofs.gossip.made_blocks.Goals as goal
+use Rattle.spectre.proofs.gossip.scripts.made_blocks.Goals as goal
 
 pub each-preserved : goal.each-preserved
 each-preserved c =

@@ -4,7 +4,7 @@ use Rattle.sp_io.specs.Whole.{AppendsFront}
 use Rattle.sp_io.proofs.Stops.{stops_at_start}
 use Rattle.spectre.specs.Gossips.{Told}
 use Rattle.spectre.proofs.Gossiping.{played_in}
-use Rattle.spectre.proofs.gossip.play_nodes.Goals as goal
+use Rattle.spectre.proofs.gossip.scripts.play_nodes.Goals as goal
 
 pub returns-in_err-head-clause-err : goal.returns-in_err-head-clause-err
 returns-in_err-head-clause-err g c = stops_at_start c.from_residual.result _ _

@@ -7,7 +7,7 @@ use Rattle.sp_io.proofs.Writing.{wrote_none}
 use Rattle.sp_report.specs.Naming.{labels_of}
 use Rattle.spectre.specs.Gossips.{event_turn, Turn}
 use Rattle.spectre.proofs.Gossiping.{as_before, happens, many_faults, node_faults, none_written, packet_faults, reason_told, wrote_step}
-use Rattle.spectre.proofs.gossip.play_event.Goals as goal
+use Rattle.spectre.proofs.gossip.steps.play_event.Goals as goal
 
 pub returns-in_err-write_step-in-Ok-clause-err : goal.returns-in_err-write_step-in-Ok-clause-err
 returns-in_err-write_step-in-Ok-clause-err g c =

@@ -3,7 +3,7 @@ use Rattle.std.specs.Prelude.{flat_map}
 use Rattle.sp_io.specs.Whole.{Wrote}
 use Rattle.sp_report.specs.Naming.{labels_of}
 use Rattle.spectre.specs.Gossips.{answer_at_text}
-use Rattle.spectre.proofs.gossip.write_answers.Given as goal
+use Rattle.spectre.proofs.gossip.steps.write_answers.Given as goal
 
 abbrev pub invariant-each : goal.invariant-each
 invariant-each g l =

@@ -4,7 +4,7 @@ use Rattle.sp_feed.specs.Genesis.{IsHead, ReadHead}
 use Rattle.sp_node.proofs.Restarted.{genesis_in}
 use Rattle.spectre.specs.Gossips.{nodes_on}
 use Rattle.spectre.proofs.Gossiping.{first_of}
-use Rattle.spectre.proofs.gossip.net_of.Goals as goal
+use Rattle.spectre.proofs.gossip.scripts.net_of.Goals as goal
 
 pub returns-clause-net : goal.returns-clause-net
 returns-clause-net c =
