@@ -29,7 +29,7 @@ sys.dont_write_bytecode = True
 sys.path.append(str(pathlib.Path(__file__).resolve().parent.parent / "tools"))  # for the bytes of blocks
 
 from timing import feeds, graphs
-from timing.answers import check
+from timing.answers import Misfit, check
 from timing.runs import instructions, run
 
 TOP = pathlib.Path(__file__).resolve().parent.parent
@@ -111,6 +111,14 @@ RUNS = [
 ]
 
 
+CERTIFIED = [
+    ("511 blocks on genesis", graphs.star(511)),
+    ("two chains of 255 and 256 in turns", graphs.in_turns(511)),
+    ("511 blocks at width 4", graphs.drawn(511, 1, 4)),
+    ("layers of 64, each on all of the one below", graphs.layers(511)),
+]
+
+
 def measured(words, text):
     """The least seconds and the most memory of some runs, and the answers of the last one."""
     runs = [run(words, text)]
@@ -132,6 +140,28 @@ def show_differences(results, unit):
         if results.keys() >= {name, f"{name}, without them"}:
             costs.append(results[name] - results[f"{name}, without them"])
             print(f"{step(count)}: payments take {costs[-1]:,.3f} {unit}{growth(costs)}")
+
+
+def first_apart(graph):
+    """The first two blocks of which neither is in the other's past."""
+    found = graphs.pasts(graph)
+    return next((x, y) for y in range(len(graph)) for x in range(1, y) if not found[y] >> x & 1)
+
+
+def show_certificates(word):
+    """What a certificate of the first pair takes, and its check."""
+    for name, graph in CERTIFIED:
+        name = f"certificates: {name}"
+        if word not in name:
+            continue
+        feed = feeds.unpaid(graph)
+        pair = [feed.ledger.ids[block].hex() for block in first_apart(graph)]
+        seconds, memory, certificate = measured([SPECTRE, "certify", *pair], feed.text)
+        print(f"{name}: {len(certificate):,} bytes, {seconds:.3f} s, {memory / 1024:.0f} MB", flush=True)
+        seconds, memory, shown = measured([SPECTRE, "check"], certificate)
+        if not shown.decode().startswith(f"shown {' '.join(pair)} "):
+            raise Misfit(f"{name}: {shown.decode()}")
+        print(f"{name}, checked: {seconds:.3f} s, {memory / 1024:.0f} MB", flush=True)
 
 
 def main():
@@ -157,6 +187,7 @@ def main():
         print(line, flush=True)
     show_differences(seconds, "s")
     show_differences(counted, "million instructions")
+    show_certificates(given.word)
 
 
 if __name__ == "__main__":

@@ -4,9 +4,9 @@ use Rattle.std.specs.Prelude.{codes, string_bytes, String}
 use Rattle.std.specs.Global.{Global}
 use Rattle.std.specs.Str.{bytes_eq}
 use Rattle.std.proofs.lemmas.List.{drop_all, length-map}
-use Rattle.sp_ids.specs.Hex.{hex_of}
 use Rattle.sp_watch.specs.declared.item.Item.{Item}
 use Rattle.spectre.specs.Files.{is_file}
+use Rattle.spectre.specs.IdWords.{ids_in}
 use Rattle.spectre.specs.WalletWords.{are_items, are_wallet, are_words, asks_spend, asks_watch, is_new, is_new_word, is_word, item_in, item_or_none, items_of, pair_by, pair_in, spend_in, watch_in}
 use Rattle.spectre.specs.Words.{texts, word_at}
 
@@ -87,7 +87,7 @@ pub short_pair : (text : List ℕ) → length text < 65 → None ≡ pair_in tex
 unfolding pair_in
 short_pair text h =
     let none : drop 64 text ≡ [] = drop_all 64 text (omega (arith, h)) in
-    sym (ap (λ (t : List ℕ). cond (bytes_eq (take 1 t) (codes ",")) (pair_by (hex_of (take 64 text)) (hex_of (drop 65 text))) None) none)
+    sym (ap (λ (t : List ℕ). cond (bytes_eq (take 1 t) (codes ",")) (pair_by (ids_in (take 64 text) (drop 65 text))) None) none)
 
 one_item : (o : Option Item) (words : List (List ℕ)) → is_new o words ≡ true → length (item_or_none o) ≡ 1
 one_item None words e = absurd (let no : false ≡ true = e in cc)

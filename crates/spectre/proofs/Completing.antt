@@ -1,13 +1,20 @@
 -- Where nothing failed, and neither the input nor what the disk held has a fault, a run is done, or memory was refused.
-use Rattle.std.proofs.Common.{◌≡◌, ◌⊎◌, inl, inr, ℕ, ◌<◌, ◌≤◌, true, false, List, [], length, Option, Some, None, IfSome, IsNone, IsSome, refl, sym, subst, ◌∙◌, arith}
+use Rattle.std.proofs.Common.{◌≡◌, ◌⊎◌, inl, inr, ℕ, ◌<◌, ◌≤◌, true, false, List, [], length, Option, Some, None, IfSome, IsNone, IsSome, refl, sym, ap, subst, ◌∙◌, arith}
 use Rattle.std.specs.Io.KnownBytes.{Appends}
 use Rattle.sp_disk.specs.Moments.{Moment}
+use Rattle.sp_cert.specs.Certificate.{Certificate}
+use Rattle.sp_cert.specs.Format.{Said, said}
+use Rattle.sp_cert.specs.Format as certs
+use Rattle.sp_cert.specs.Refusals.{refusal}
+use Rattle.sp_cert.specs.declared.fault.CheckFault.{CheckFault}
 use Rattle.sp_feed.specs.Feed.{End, Malformed, TooLong, Truncated}
 use Rattle.sp_journal.specs.Journal.{Contents}
 use Rattle.sp_journal.specs.Records.{Damaged, Found, NoJournal, Records, records}
 use Rattle.sp_make.specs.Made.{made}
 use Rattle.sp_play.specs.Scene.{scene}
-use Rattle.spectre.specs.Faults.{EndsMalformed, EndsTooLong, EndsTruncated, EndsWhole, IsDamaged, IsFaultless, IsLarge, IsMalformed, IsNoJournal, IsOtherChain, IsPoor, IsTooLong, IsTruncated}
+use Rattle.spectre.specs.Faults.{EndsMalformed, EndsTooLong, EndsTruncated, EndsWhole, IsDamaged, IsFaultless, IsLarge, IsMalformed, IsNoJournal, IsNoPair, IsOtherChain, IsPoor, IsRefuted, IsTooLong, IsTruncated}
+use Rattle.spectre.specs.Certifies.{Certified, certified_fed, IsCertified, IsNoPairBy}
+use Rattle.spectre.specs.Checks.{SaysMalformed, SaysRefuted, SaysShown, SaysTruncated}
 use Rattle.spectre.specs.Gossips.{gossip}
 use Rattle.spectre.specs.JobEnds.{JobEnds, WritesBy}
 use Rattle.spectre.specs.Jobs.{TakesNothing}
@@ -43,12 +50,42 @@ some_none (Some x) some none = absurd (let no : true ≡ false = none in cc)
 too_long : (a b : ℕ) → b ≤ a → a < b → ⊥
 too_long a b more less = absurd (omega (arith, more, less))
 
+-- what bytes of a certificate say
+
+one_said : (input : List ℕ) (a b : Said) → said input ≡ a → said input ≡ b → a ≡ b
+one_said input a b x y = sym x ∙ y
+
+malformed_said : (input : List ℕ) → SaysMalformed input → SaysShown input → ⊥
+malformed_said input bad good = not_malformed (one_said input (certs.Malformed bad.0) (certs.Whole good.0) bad.1 good.1)
+  where
+    not_malformed : {at : ℕ} {cert : Certificate} → certs.Malformed at ≡ certs.Whole cert → ⊥
+    not_malformed e = cc
+
+truncated_said : (input : List ℕ) → SaysTruncated input → SaysShown input → ⊥
+truncated_said input bad good = not_truncated (one_said input (certs.Truncated bad.0) (certs.Whole good.0) bad.1 good.1)
+  where
+    not_truncated : {at : ℕ} {cert : Certificate} → certs.Truncated at ≡ certs.Whole cert → ⊥
+    not_truncated e = cc
+
+refuted_said : (input : List ℕ) (fault : CheckFault) → SaysRefuted input fault → SaysShown input → ⊥
+refuted_said input fault bad good =
+    let same : bad.0 ≡ good.0 = one_cert (one_said input (certs.Whole bad.0) (certs.Whole good.0) bad.1 good.1) in
+    not_refused (sym bad.2 ∙ ap refusal same ∙ good.2)
+  where
+    one_cert : {a b : Certificate} → certs.Whole a ≡ certs.Whole b → a ≡ b
+    one_cert e = cc
+
+    not_refused : {fault : CheckFault} → Some fault ≡ None → ⊥
+    not_refused e = cc
+
 malformed : (job : Option Job) (disk input : List ℕ) → IsMalformed job input → IsFaultless job disk input → ⊥
 malformed (Some jobs.Replay) disk input bad good = malformed_end (fed input).end bad good
 malformed (Some (jobs.Keep path fresh)) disk input bad good = malformed_end (fed input).end bad good.1
 malformed (Some jobs.Play) disk input bad good = some_none (scene input).fault bad.wrong good.right
 malformed (Some jobs.Build) disk input bad good = some_none (scene input).fault bad.wrong good.right
 malformed (Some (jobs.Drill n seed width)) disk input bad good = some_none (scene (made n seed width)).fault bad good
+malformed (Some (jobs.Certify x y)) disk input bad good = malformed_end (fed input).end bad good.0
+malformed (Some jobs.Check) disk input bad good = malformed_said input bad good
 malformed (Some jobs.Gossip) disk input bad good = some_none (gossip input).fault bad.wrong good.right
 malformed (Some (jobs.Spend amount to words)) disk input bad good = malformed_end (fed input).end bad good.0
 malformed (Some (jobs.Watch items)) disk input bad good = malformed_end (fed input).end bad good
@@ -57,6 +94,8 @@ malformed other disk input bad good = bad
 truncated : (job : Option Job) (disk input : List ℕ) → IsTruncated job input → IsFaultless job disk input → ⊥
 truncated (Some jobs.Replay) disk input bad good = truncated_end (fed input).end bad good
 truncated (Some (jobs.Keep path fresh)) disk input bad good = truncated_end (fed input).end bad good.1
+truncated (Some (jobs.Certify x y)) disk input bad good = truncated_end (fed input).end bad good.0
+truncated (Some jobs.Check) disk input bad good = truncated_said input bad good
 truncated (Some (jobs.Spend amount to words)) disk input bad good = truncated_end (fed input).end bad good.0
 truncated (Some (jobs.Watch items)) disk input bad good = truncated_end (fed input).end bad good
 truncated other disk input bad good = bad
@@ -66,10 +105,22 @@ long (Some jobs.Replay) disk input bad good = long_end (fed input).end bad good
 long (Some (jobs.Keep path fresh)) disk input bad good = long_end (fed input).end bad good.1
 long (Some jobs.Play) disk input bad good = too_long (length input) _ bad good.short
 long (Some jobs.Build) disk input bad good = too_long (length input) _ bad good.short
+long (Some (jobs.Certify x y)) disk input bad good = long_end (fed input).end bad good.0
 long (Some jobs.Gossip) disk input bad good = too_long (length input) _ bad good.short
 long (Some (jobs.Spend amount to words)) disk input bad good = long_end (fed input).end bad good.0
 long (Some (jobs.Watch items)) disk input bad good = long_end (fed input).end bad good
 long other disk input bad good = bad
+
+no_certificate : (c : Option Certified) → IsNoPairBy c → IsCertified c → ⊥
+no_certificate c bad good = subst IsCertified bad good
+
+no_pair : (job : Option Job) (disk input : List ℕ) → IsNoPair job input → IsFaultless job disk input → ⊥
+no_pair (Some (jobs.Certify x y)) disk input bad good = no_certificate (certified_fed x y input) bad.1 good.1
+no_pair other disk input bad good = bad
+
+refuted : (job : Option Job) (disk input : List ℕ) → IsRefuted job input → IsFaultless job disk input → ⊥
+refuted (Some jobs.Check) disk input bad good = refuted_said input bad.0 bad.1 good
+refuted other disk input bad good = bad
 
 poor_spend : (s : Option Spent) → IsPoorBy s → IsSpend s → ⊥
 poor_spend s bad good = subst IsSpend bad.1 good
@@ -131,6 +182,8 @@ whatever_input (Some (jobs.Show path)) reads before old new P any h = if_all bef
 whatever_input (Some (jobs.Export path profile)) reads before old new P any h = if_all before _ (λ input. if_each reads _ _ (λ disk x. (x.0, any tt disk input x.1)) h)
 whatever_input (Some jobs.Play) reads before old new P any h = h
 whatever_input (Some jobs.Build) reads before old new P any h = h
+whatever_input (Some (jobs.Certify x y)) reads before old new P any h = h
+whatever_input (Some jobs.Check) reads before old new P any h = h
 whatever_input (Some jobs.Gossip) reads before old new P any h = h
 whatever_input (Some (jobs.Spend amount to words)) reads before old new P any h = h
 whatever_input (Some (jobs.Watch items)) reads before old new P any h = h
@@ -161,6 +214,8 @@ by_status job reads before after old new status.OtherChain read write disk by = 
 by_status job reads before after old new status.Memory read write disk by = at_rest job reads before status.Memory (inr refl)
 by_status job reads before after old new status.Damaged read write disk by = at_fault job reads before old new status.Damaged _ (damaged job) by
 by_status job reads before after old new status.TooLong read write disk by = at_fault job reads before old new status.TooLong _ (long job) by.0
+by_status job reads before after old new status.NoPair read write disk by = at_fault job reads before old new status.NoPair _ (no_pair job) by.0
+by_status job reads before after old new status.Refuted read write disk by = at_fault job reads before old new status.Refuted _ (refuted job) by.0
 by_status job reads before after old new status.Poor read write disk by = at_fault job reads before old new status.Poor _ (poor job) by.0
 by_status job reads before after old new status.Large read write disk by = at_fault job reads before old new status.Large _ (large job) by.0
 

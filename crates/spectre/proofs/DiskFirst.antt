@@ -52,7 +52,7 @@ shown_first s None among done q = tt
 shown_first s (Some bytes) {Q} among done q = λ fault. (
   on_status (λ t. Shows t → EndsByDisk t) s
       (λ e. absurd (shown_right bytes (done e) fault)) (λ e x. x) (λ e x. x) (λ e x. x) (λ e x. x) (λ e x. tt)
-      (λ e x. tt) (λ e x. tt) (λ e x. x) (λ e x. tt) (λ e x. tt) (λ e x. x) (λ e x. x) (λ e x. x) among,
+      (λ e x. tt) (λ e x. tt) (λ e x. x) (λ e x. tt) (λ e x. tt) (λ e x. x) (λ e x. x) (λ e x. x) (λ e x. x) (λ e x. x) among,
   q,
 )
 

@@ -212,6 +212,8 @@ after_fault e status.NotJournal same = none_other e status.NotJournal (same (λ 
 after_fault e status.OtherChain same = none_other e status.OtherChain (same (λ h. cc))
 after_fault e status.Memory same = none_other e status.Memory (same (λ h. cc))
 after_fault e status.Damaged same = none_other e status.Damaged (same (λ h. cc))
+after_fault e status.NoPair same = none_other e status.NoPair (same (λ h. cc))
+after_fault e status.Refuted same = none_other e status.Refuted (same (λ h. cc))
 after_fault e status.Poor same = none_other e status.Poor (same (λ h. cc))
 after_fault e status.Large same = none_other e status.Large (same (λ h. cc))
 

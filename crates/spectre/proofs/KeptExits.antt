@@ -161,6 +161,7 @@ module _ (path : List ℕ) (fresh : Bool) (stored : Stored) {start now : Moment}
     onward = answered_stays fresh stored first last law tells {result = Ok tt} (inr t);
     lasting = answered_lasts stored first last law last_law {result = Ok tt} (inr t);
     chain = fitting_chain fresh stored start.left first.reads now.left status.Done tells t.1.fits;
+    certified = λ s. tt;
     crash = on_both start.left first.reads _ (λ disk input l r.
         answered_recovery fresh disk input stored (told_at fresh stored tells r) new first last law r l t
         (t.1.whole (told_by first disk r)) status.Done);
@@ -178,6 +179,7 @@ module _ (path : List ℕ) (fresh : Bool) (stored : Stored) {start now : Moment}
     onward = answered_stays fresh stored first last law tells {result = Err WriteFault} (inr t);
     lasting = answered_lasts stored first last law last_law {result = Err WriteFault} (inr t);
     chain = fitting_chain fresh stored start.left first.reads now.left status.WriteFault tells t.1.fits;
+    certified = λ s. tt;
     crash = on_both start.left first.reads _ (λ disk input l r.
         stopped_recovery fresh disk input stored (told_at fresh stored tells r) first last law r l t status.WriteFault (λ e. cc));
   }
@@ -194,6 +196,7 @@ module _ (path : List ℕ) (fresh : Bool) (stored : Stored) {start now : Moment}
     onward = answered_stays fresh stored first last law tells {result = Err Memory} (inl u);
     lasting = answered_lasts stored first last law last_law {result = Err Memory} (inl u);
     chain = untried_chain stored first.reads status.Memory u tt (λ e. cc);
+    certified = λ s. tt;
     crash = on_both start.left first.reads _ (λ disk input l r.
         early_recovery fresh disk input now.left old new first last status.Memory law last_law r u.given
         (subst (λ (o : Option (List ℕ)). Consumes o now.left u.given) l u.took.consumed)
@@ -207,6 +210,7 @@ module _ (path : List ℕ) (fresh : Bool) (stored : Stored) {start now : Moment}
     onward = answered_stays fresh stored first last law tells {result = Err Memory} (inr t);
     lasting = answered_lasts stored first last law last_law {result = Err Memory} (inr t);
     chain = fitting_chain fresh stored start.left first.reads now.left status.Memory tells t.1.fits;
+    certified = λ s. tt;
     crash = on_both start.left first.reads _ (λ disk input l r.
         stopped_recovery fresh disk input stored (told_at fresh stored tells r) first last law r l t status.Memory (λ e. cc));
   }
@@ -284,6 +288,7 @@ exit_amiss path fresh gate {start = start} {now = now} old first last law last_l
   lasting = answered_lasts (Empty gate) first last law last_law {result = Err DiskFault} (inl u);
   chain = on_both start.left first.reads _ (λ disk input l r other.
       (let no : NoJournal ≡ found other.contents = sym (told_at fresh (Empty gate) tells r).0.none ∙ other.found in absurd cc));
+  certified = λ s. tt;
   crash = on_both start.left first.reads _ (λ disk input l r.
       amiss_recovery fresh first last law last_law old u.given u.headed u.why gate disk input now.left new r (told_at fresh (Empty gate) tells r)
       (subst (λ (o : Option (List ℕ)). Consumes o now.left u.given) l u.took.consumed) u.silent);
@@ -303,6 +308,7 @@ exit_disk path fresh stored {start = start} {now = now} old first last law last_
   onward = answered_stays fresh stored first last law tells {result = Err DiskFault} (inr t);
   lasting = answered_lasts stored first last law last_law {result = Err DiskFault} (inr t);
   chain = fitting_chain fresh stored start.left first.reads now.left status.DiskFault tells t.1.fits;
+  certified = λ s. tt;
   crash = on_both start.left first.reads _ (λ disk input l r.
       stopped_recovery fresh disk input stored (told_at fresh stored tells r) first last law r l t status.DiskFault (λ e. cc));
 }
@@ -472,6 +478,7 @@ module _ (path : List ℕ) (fresh : Bool) (stored : Stored) {start now : Moment}
             (headless stored start now u.given first last e other u.took.consumed u.why)
       ]
     ];
+    certified = λ s. tt;
     crash = on_both start.left first.reads _ (λ disk input l x. elim a [
       | inr tried ↦ answered_recovery fresh disk input stored (told_at fresh stored tells x) new first last law x l tried
           (tried.1.whole (told_by first disk x)) result
@@ -517,6 +524,7 @@ exit_other path fresh stored {start = start} {now = now} old first last law last
       lasting = answered_lasts stored first last law last_law {result = Err (OtherChain b c p d e q)} (inl u);
       chain = untried_chain stored first.reads result u (line_ends EndsByChain result status.OtherChain same tt tt)
           (line_ends (λ s. s ≡ status.DiskFault → ⊥) result status.OtherChain same (λ e. cc) (λ e. cc));
+      certified = λ s. tt;
       crash = on_both start.left first.reads _ (λ disk input l x.
           other_recovery fresh disk input now.left old new first last result law last_law x u.given
           (subst (λ (o : Option (List ℕ)). Consumes o now.left u.given) l u.took.consumed) u.why.1
@@ -590,6 +598,7 @@ ends_on path fresh before after old new first mid last s law mid_law last_law lo
       joined_last first mid last HoldsJournal mid_law last_law (looks_last first mid HoldsJournal law mid_law looks)
       (at_one (λ (d : List ℕ). Lasts mid last HoldsJournal) (looks.reads ∙ r) k.lasting));
   chain = subst (λ (o : Option (List ℕ)). OnBoth before o (λ disk input. HasOtherChain disk input → EndsAtHead before after s)) looks.reads k.chain;
+  certified = λ s. tt;
   crash = on_map before first.reads _ _ (λ disk input l r h. recovery_on fresh disk input after old new first mid last s law mid_law r looks h)
       (subst (λ (o : Option (List ℕ)). OnBoth before o (λ disk input. Recovery fresh disk input after old new mid last s)) looks.reads k.crash);
 }
@@ -647,6 +656,7 @@ module _ (path : List ℕ) (fresh : Bool) (left old : Option (List ℕ)) (first 
     onward = looked_stays first last law looks;
     lasting = looked_lasts first last law last_law looks;
     chain = on_both left first.reads _ (λ disk input l r other. nothing_headed left s (early_chain s early));
+    certified = λ s. tt;
     crash = on_both left first.reads _ (λ disk input l r.
         early_recovery fresh disk input left old old first last s law last_law r [] (none_consumed input l) looks (appends_none old) early none_ends
         (λ e. nothing_begun));
@@ -688,6 +698,7 @@ module _ (path : List ℕ) (fresh : Bool) (left old : Option (List ℕ)) (first 
     onward = looked_stays first last law looks;
     lasting = looked_lasts first last law last_law looks;
     chain = on_both left first.reads _ (λ disk input l r other. absurd (unfound disk other.contents r other.found));
+    certified = λ s. tt;
     crash = on_both left first.reads _ (λ disk input l r.
         other_recovery fresh disk input left old new first last result law last_law r [] (none_consumed input l) looks (says disk input r).1);
   }

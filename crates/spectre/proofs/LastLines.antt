@@ -15,11 +15,20 @@ use Rattle.sp_names.specs.Labels.{no_labels}
 use Rattle.sp_play.specs.Scene.{Scene, scene}
 use Rattle.sp_play.specs.Source.{scenario_limit}
 use Rattle.sp_play.specs.declared.why.LineFault.{LineFault}
-use Rattle.sp_report.specs.Lines.{too_long_text}
+use Rattle.sp_report.specs.Lines.{malformed_text, too_long_text, truncated_text}
 use Rattle.spectre.specs.Chains.{EndsAtHead, EndsByChain}
 use Rattle.spectre.specs.Ends.{EndsByDisk}
-use Rattle.spectre.specs.Faults.{EndsMalformed, EndsTooLong, EndsTruncated, EndsWhole, IsDamaged, IsDiskAtFault, IsLarge, IsMalformed, IsNoJournal, IsOtherChain, IsPoor, IsTooLong, IsTruncated}
+use Rattle.spectre.specs.Faults.{EndsMalformed, EndsTooLong, EndsTruncated, EndsWhole, IsDamaged, IsDiskAtFault, IsLarge, IsMalformed, IsNoJournal, IsNoPair, IsOtherChain, IsPoor, IsRefuted, IsTooLong, IsTruncated}
 use Rattle.spectre.specs.JobEnds.{JobEnds, WritesBy}
+use Rattle.sp_cert.specs.Certificate.{Certificate}
+use Rattle.sp_cert.specs.Format.{Said, said}
+use Rattle.sp_cert.specs.Format as certs
+use Rattle.sp_cert.specs.Refusals.{refusal}
+use Rattle.sp_cert.specs.declared.fault.CheckFault.{CheckFault}
+use Rattle.sp_cert.specs.declared.fault.CertifyFault.TheVariants as certifies
+use Rattle.spectre.specs.Certifies.{Certified, certified, certified_at, certified_fed, certified_text, no_pair_text}
+use Rattle.spectre.specs.Certifies as certificates
+use Rattle.spectre.specs.Checks.{checked, judged_text, refuted_text, said_text}
 use Rattle.spectre.specs.Gossips.{Fault, gossip, told_line, told_text}
 use Rattle.spectre.specs.Journals.{chained, found_blocks, blocks_in, HasNoJournal, HasOtherChain, IsDamagedDisk, is_chain_of, kept_by, kept_output, may_be_new, not_journal_text, other_chain_text, shown_by, shown_output}
 use Rattle.spectre.specs.LastLine.{AreLines, EndsInLine, IsLineOf, NamesFault}
@@ -42,6 +51,7 @@ use Rattle.sp_watch.specs.declared.item.Item.{Item}
 use Rattle.sp_wallet.specs.declared.fault.SpendFault.TheVariants as spends
 use Rattle.spectre.specs.Spends.{large_text, poor_text, spend_fed, spend_text, Spent, spent, spent_at, text_or_none}
 use Rattle.spectre.specs.Watches.{watch_replied, watched}
+use Rattle.spectre.proofs.CertifiedFeeds.{certified_closes}
 use Rattle.spectre.proofs.Due.{Stops}
 use Rattle.spectre.proofs.SpentFeeds.{spent_closes}
 use Rattle.spectre.proofs.WatchedFeeds.{watched_closes}
@@ -134,6 +144,28 @@ spent_ends : (words : List (List ℕ)) (amount to : ℕ) (input : List ℕ) (s :
 unfolding spent
 spent_ends words amount to input s whole is = spent_whole (text_or_none (spend_fed words amount to input)) (fed input).end whole ∙ ap text_or_none is
 
+-- so does the line where no pair is certified, and that of a feed that is
+
+certified_stops : (x y : ℕ) (input : List ℕ) (end : End) → (fed input).end ≡ end → Stops end → certified x y input ≡ end_text end
+certified_stops x y input end e stops = certified_closes x y input end e stops
+
+certified_whole : (text : List ℕ) (end : End) → EndsWhole end → certified_at text end ≡ text
+certified_whole text (Whole rest) h = refl
+certified_whole text other h = absurd h
+
+certified_ends : (x y : ℕ) (input : List ℕ) (c : Certified) → EndsWhole (fed input).end → certified_fed x y input ≡ Some c → certified x y input ≡ certified_text c
+unfolding certified
+certified_ends x y input c whole is =
+    certified_whole (certificates.text_or_none (certified_fed x y input)) (fed input).end whole ∙ ap certificates.text_or_none is
+
+-- what is said of a certificate's bytes
+checked_is : (input : List ℕ) (s : Said) → said input ≡ s → checked input ≡ said_text s
+unfolding checked
+checked_is input s is = ap said_text is
+
+refuted_is : (input : List ℕ) (cert : Certificate) (fault : CheckFault) → said input ≡ certs.Whole cert → refusal cert ≡ Some fault → checked input ≡ refuted_text fault
+refuted_is input cert fault says refused = checked_is input (certs.Whole cert) says ∙ ap (judged_text cert) refused
+
 -- the lines of a watch, and then that of the feed's fault
 watched_line : {disk : List ℕ} {s : Status} {old new : Option (List ℕ)} (items : List Item) (input : List ℕ) (end : End) → (fed input).end ≡ end → Stops end → IsLineOf (Some (jobs.Watch items)) disk input s (end_text end) → Appends old new (watched items input)
     → EndsInLine (Some (jobs.Watch items)) disk input s old new
@@ -188,17 +220,21 @@ module _ {old new : Option (List ℕ)} where
   malformed (Some (jobs.Keep path fresh)) disk input took bad right same =
       let at = at_malformed (fed input).end bad in fed_line (found_blocks disk) input (kept_output fresh disk input) (Malformed at.0) (kept_replayed fresh disk input right same) at.1 (inl (tt, (at.0, at.1, refl))) took
   malformed (Some jobs.Play) disk input took bad right same =
-      played_line (scene input) _ (output_short (Scenario Play) input (is_short (length input) bad.short)) bad.wrong (λ fault is. inr (inl (record { scene = scene input; plays = refl; fault = fault; has = is; is = refl }))) took
+      played_line (scene input) _ (output_short (Scenario Play) input (is_short (length input) bad.short)) bad.wrong (λ fault is. inr (inr (inl (record { scene = scene input; plays = refl; fault = fault; has = is; is = refl })))) took
   malformed (Some jobs.Build) disk input took bad right same =
       let b = built_is (scene input) in
-      lone_line (scene input) _ b.0 (output_short (Scenario Build) input (is_short (length input) bad.short) ∙ b.1) bad.wrong (λ fault is. inr (inl (record { scene = scene input; plays = refl; fault = fault; has = is; is = refl }))) took
+      lone_line (scene input) _ b.0 (output_short (Scenario Build) input (is_short (length input) bad.short) ∙ b.1) bad.wrong (λ fault is. inr (inr (inl (record { scene = scene input; plays = refl; fault = fault; has = is; is = refl })))) took
   malformed (Some (jobs.Drill n seed width)) disk input took bad right same =
       let s = scene (made n seed width) in
-      lone_line s _ (summary_in s) (drilled_is s) bad (λ fault is. inr (inl (record { scene = s; plays = refl; fault = fault; has = is; is = refl }))) took
+      lone_line s _ (summary_in s) (drilled_is s) bad (λ fault is. inr (inr (inl (record { scene = s; plays = refl; fault = fault; has = is; is = refl })))) took
   malformed (Some jobs.Gossip) disk input took bad right same =
       let f = told_fault (gossip input).fault bad.wrong in
       parts _ (gossip input).text (told_line f.0) (output_short Gossip input (is_short (length input) bad.short) ∙ ap (λ (o : Option Fault). (gossip input).text ++ told_text o) f.1) (gossip_lines input)
-      (inr (inr (record { plays = refl; fault = f.0; has = f.1; is = refl }))) took
+      (inr (inr (inr (record { plays = refl; fault = f.0; has = f.1; is = refl })))) took
+  malformed (Some (jobs.Certify x y)) disk input took bad right same =
+      let at = at_malformed (fed input).end bad in alone _ (end_text (Malformed at.0)) (certified_stops x y input (Malformed at.0) at.1 tt) (inl (tt, (at.0, at.1, refl))) took
+  malformed (Some jobs.Check) disk input took bad right same =
+      alone _ (malformed_text bad.0) (checked_is input (certs.Malformed bad.0) bad.1) (inr (inl (tt, (bad.0, bad.1, refl)))) took
   malformed (Some (jobs.Spend amount to words)) disk input took bad right same =
       let at = at_malformed (fed input).end bad in alone _ (end_text (Malformed at.0)) (spent_stops words amount to input (Malformed at.0) at.1 tt) (inl (tt, (at.0, at.1, refl))) took
   malformed (Some (jobs.Watch items)) disk input took bad right same =
@@ -207,13 +243,17 @@ module _ {old new : Option (List ℕ)} where
 
   truncated : (job : Option Job) (disk input : List ℕ) → Appends old new (output_by job disk input) → IsTruncated job input → (IsDiskAtFault job disk → ⊥) → (IsOtherChain job disk input → ⊥) → EndsInLine job disk input status.Truncated old new
   truncated (Some jobs.Replay) disk input took bad right same =
-      let at = at_truncated (fed input).end bad in fed_line [] input (replayed [] input) (Truncated at.0) refl at.1 (tt, (at.0, at.1, refl)) took
+      let at = at_truncated (fed input).end bad in fed_line [] input (replayed [] input) (Truncated at.0) refl at.1 (inl (tt, (at.0, at.1, refl))) took
   truncated (Some (jobs.Keep path fresh)) disk input took bad right same =
-      let at = at_truncated (fed input).end bad in fed_line (found_blocks disk) input (kept_output fresh disk input) (Truncated at.0) (kept_replayed fresh disk input right same) at.1 (tt, (at.0, at.1, refl)) took
+      let at = at_truncated (fed input).end bad in fed_line (found_blocks disk) input (kept_output fresh disk input) (Truncated at.0) (kept_replayed fresh disk input right same) at.1 (inl (tt, (at.0, at.1, refl))) took
+  truncated (Some (jobs.Certify x y)) disk input took bad right same =
+      let at = at_truncated (fed input).end bad in alone _ (end_text (Truncated at.0)) (certified_stops x y input (Truncated at.0) at.1 tt) (inl (tt, (at.0, at.1, refl))) took
+  truncated (Some jobs.Check) disk input took bad right same =
+      alone _ (truncated_text bad.0) (checked_is input (certs.Truncated bad.0) bad.1) (inr (tt, (bad.0, bad.1, refl))) took
   truncated (Some (jobs.Spend amount to words)) disk input took bad right same =
-      let at = at_truncated (fed input).end bad in alone _ (end_text (Truncated at.0)) (spent_stops words amount to input (Truncated at.0) at.1 tt) (tt, (at.0, at.1, refl)) took
+      let at = at_truncated (fed input).end bad in alone _ (end_text (Truncated at.0)) (spent_stops words amount to input (Truncated at.0) at.1 tt) (inl (tt, (at.0, at.1, refl))) took
   truncated (Some (jobs.Watch items)) disk input took bad right same =
-      let at = at_truncated (fed input).end bad in watched_line items input (Truncated at.0) at.1 tt (tt, (at.0, at.1, refl)) took
+      let at = at_truncated (fed input).end bad in watched_line items input (Truncated at.0) at.1 tt (inl (tt, (at.0, at.1, refl))) took
   truncated other disk input took bad right same = absurd bad
 
   too_long : (job : Option Job) (disk input : List ℕ) → Appends old new (output_by job disk input) → IsTooLong job input → (IsDiskAtFault job disk → ⊥) → (IsOtherChain job disk input → ⊥) → EndsInLine job disk input status.TooLong old new
@@ -224,11 +264,22 @@ module _ {old new : Option (List ℕ)} where
   too_long (Some jobs.Play) disk input took bad right same = alone _ (too_long_text scenario_limit) (output_long (Scenario Play) input (is_long (length input) bad)) (inr (tt, refl)) took
   too_long (Some jobs.Build) disk input took bad right same = alone _ (too_long_text scenario_limit) (output_long (Scenario Build) input (is_long (length input) bad)) (inr (tt, refl)) took
   too_long (Some jobs.Gossip) disk input took bad right same = alone _ (too_long_text scenario_limit) (output_long Gossip input (is_long (length input) bad)) (inr (tt, refl)) took
+  too_long (Some (jobs.Certify x y)) disk input took bad right same =
+      let at = at_too_long (fed input).end bad in alone _ (end_text (TooLong at.0)) (certified_stops x y input (TooLong at.0) at.1 tt) (inl (tt, (at.0, at.1, refl))) took
   too_long (Some (jobs.Spend amount to words)) disk input took bad right same =
       let at = at_too_long (fed input).end bad in alone _ (end_text (TooLong at.0)) (spent_stops words amount to input (TooLong at.0) at.1 tt) (inl (tt, (at.0, at.1, refl))) took
   too_long (Some (jobs.Watch items)) disk input took bad right same =
       let at = at_too_long (fed input).end bad in watched_line items input (TooLong at.0) at.1 tt (inl (tt, (at.0, at.1, refl))) took
   too_long other disk input took bad right same = absurd bad
+
+  no_pair : (job : Option Job) (disk input : List ℕ) → Appends old new (output_by job disk input) → IsNoPair job input → EndsInLine job disk input status.NoPair old new
+  no_pair (Some (jobs.Certify x y)) disk input took bad = alone _ no_pair_text (certified_ends x y input (Err certifies.NoPair) bad.0 bad.1) (bad.1, refl) took
+  no_pair other disk input took bad = absurd bad
+
+  refuted : (job : Option Job) (disk input : List ℕ) → Appends old new (output_by job disk input) → IsRefuted job input → EndsInLine job disk input status.Refuted old new
+  refuted (Some jobs.Check) disk input took bad =
+      let s = bad.1 in alone _ (refuted_text bad.0) (refuted_is input s.0 bad.0 s.1 s.2) (tt, (bad.0, s, refl)) took
+  refuted other disk input took bad = absurd bad
 
   poor : (job : Option Job) (disk input : List ℕ) → Appends old new (output_by job disk input) → IsPoor job input → EndsInLine job disk input status.Poor old new
   poor (Some (jobs.Spend amount to words)) disk input took bad =
@@ -305,6 +356,8 @@ module _ (job : Option Job) (reads before after old new : Option (List ℕ)) (Q 
   by_status status.Memory names by first chain = absurd names
   by_status status.Damaged names by first chain = of_disk status.Damaged (λ disk input. IsDamaged job disk) (damaged job) by
   by_status status.TooLong names by first chain = of_feed status.TooLong (λ disk input. IsTooLong job input) (λ no. no) (λ no. no) (too_long job) by.0 first chain
+  by_status status.NoPair names by first chain = of_disk status.NoPair (λ disk input. IsNoPair job input) (no_pair job) by.0
+  by_status status.Refuted names by first chain = of_disk status.Refuted (λ disk input. IsRefuted job input) (refuted job) by.0
   by_status status.Poor names by first chain = of_disk status.Poor (λ disk input. IsPoor job input) (poor job) by.0
   by_status status.Large names by first chain = of_disk status.Large (λ disk input. IsLarge job input) (large job) by.0
 

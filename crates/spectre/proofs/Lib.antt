@@ -2,6 +2,7 @@ pub mod Outputs
 pub mod Running
 pub mod Keeping
 pub mod KeptRuns
+pub mod KeptWords
 pub mod Onward
 pub mod Lasting
 pub mod KeptExits
@@ -25,6 +26,9 @@ pub mod Sending
 pub mod Due
 pub mod BroughtBlocks
 pub mod SpentFeeds
+pub mod CertifiedFeeds
+pub mod CheckedCerts
+pub mod ShownSigns
 pub mod WatchedMessages
 pub mod WatchedFeeds
 pub mod WatchEnds

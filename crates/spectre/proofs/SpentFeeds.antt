@@ -100,6 +100,8 @@ module _ (words : List (List ℕ)) (amount to : ℕ) where
         (λ s. (f.too_long s, f.too_long_end s))
         (λ s. absurd (subst AfterFault s f.among))
         (λ s. absurd (subst AfterFault s f.among))
+        (λ s. absurd (subst AfterFault s f.among))
+        (λ s. absurd (subst AfterFault s f.among))
 
   -- memory was refused before the feed's end
   pub by_memory : (reads before after old : Option (List ℕ)) → WritesBy job reads before after old old status.Memory
@@ -156,6 +158,8 @@ module _ (words : List (List ℕ)) (amount to : ℕ) where
     by_spend reads status.OtherChain w = absurd w
     by_spend reads status.Damaged w = absurd w
     by_spend reads status.TooLong w = absurd w
+    by_spend reads status.NoPair w = absurd w
+    by_spend reads status.Refuted w = absurd w
 
 -- what is written behind what is due
 pub takes_spend : (due : List ℕ → List ℕ) (s : Spent) (before after old new : Option (List ℕ)) (result : Status) → TakesFeedFor due before after old old → WritesSpend s old new result → TakesFeedFor due before after old new
@@ -176,6 +180,8 @@ takes_spend due s before after old new result t w = takes_line due before after 
     front status.OtherChain w = absurd w
     front status.Damaged w = absurd w
     front status.TooLong w = absurd w
+    front status.NoPair w = absurd w
+    front status.Refuted w = absurd w
 
 -- ---- the line of why there is no spend
 

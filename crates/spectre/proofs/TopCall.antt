@@ -33,21 +33,23 @@ asked_ends {reads = reads} {before = before} {after = after} {old = old} {new = 
 -- by each status that there is
 pub on_status : (P : Status → Type 0) (s : Status) → (s ≡ status.Done → P status.Done) → (s ≡ status.Usage → P status.Usage) → (s ≡ status.Malformed → P status.Malformed) → (s ≡ status.Truncated → P status.Truncated) → (s ≡ status.ReadFault → P status.ReadFault) → (s ≡ status.WriteFault → P status.WriteFault)
     → (s ≡ status.DiskFault → P status.DiskFault) → (s ≡ status.NotJournal → P status.NotJournal) → (s ≡ status.OtherChain → P status.OtherChain) → (s ≡ status.Memory → P status.Memory) → (s ≡ status.Damaged → P status.Damaged) → (s ≡ status.TooLong → P status.TooLong)
-    → (s ≡ status.Poor → P status.Poor) → (s ≡ status.Large → P status.Large) → P s
-on_status P status.Done done usage malformed truncated read write disk no_journal other memory damaged long poor large = done refl
-on_status P status.Usage done usage malformed truncated read write disk no_journal other memory damaged long poor large = usage refl
-on_status P status.Malformed done usage malformed truncated read write disk no_journal other memory damaged long poor large = malformed refl
-on_status P status.Truncated done usage malformed truncated read write disk no_journal other memory damaged long poor large = truncated refl
-on_status P status.ReadFault done usage malformed truncated read write disk no_journal other memory damaged long poor large = read refl
-on_status P status.WriteFault done usage malformed truncated read write disk no_journal other memory damaged long poor large = write refl
-on_status P status.DiskFault done usage malformed truncated read write disk no_journal other memory damaged long poor large = disk refl
-on_status P status.NotJournal done usage malformed truncated read write disk no_journal other memory damaged long poor large = no_journal refl
-on_status P status.OtherChain done usage malformed truncated read write disk no_journal other memory damaged long poor large = other refl
-on_status P status.Memory done usage malformed truncated read write disk no_journal other memory damaged long poor large = memory refl
-on_status P status.Damaged done usage malformed truncated read write disk no_journal other memory damaged long poor large = damaged refl
-on_status P status.TooLong done usage malformed truncated read write disk no_journal other memory damaged long poor large = long refl
-on_status P status.Poor done usage malformed truncated read write disk no_journal other memory damaged long poor large = poor refl
-on_status P status.Large done usage malformed truncated read write disk no_journal other memory damaged long poor large = large refl
+    → (s ≡ status.NoPair → P status.NoPair) → (s ≡ status.Refuted → P status.Refuted) → (s ≡ status.Poor → P status.Poor) → (s ≡ status.Large → P status.Large) → P s
+on_status P status.Done done usage malformed truncated read write disk no_journal other memory damaged long no_pair refuted poor large = done refl
+on_status P status.Usage done usage malformed truncated read write disk no_journal other memory damaged long no_pair refuted poor large = usage refl
+on_status P status.Malformed done usage malformed truncated read write disk no_journal other memory damaged long no_pair refuted poor large = malformed refl
+on_status P status.Truncated done usage malformed truncated read write disk no_journal other memory damaged long no_pair refuted poor large = truncated refl
+on_status P status.ReadFault done usage malformed truncated read write disk no_journal other memory damaged long no_pair refuted poor large = read refl
+on_status P status.WriteFault done usage malformed truncated read write disk no_journal other memory damaged long no_pair refuted poor large = write refl
+on_status P status.DiskFault done usage malformed truncated read write disk no_journal other memory damaged long no_pair refuted poor large = disk refl
+on_status P status.NotJournal done usage malformed truncated read write disk no_journal other memory damaged long no_pair refuted poor large = no_journal refl
+on_status P status.OtherChain done usage malformed truncated read write disk no_journal other memory damaged long no_pair refuted poor large = other refl
+on_status P status.Memory done usage malformed truncated read write disk no_journal other memory damaged long no_pair refuted poor large = memory refl
+on_status P status.Damaged done usage malformed truncated read write disk no_journal other memory damaged long no_pair refuted poor large = damaged refl
+on_status P status.TooLong done usage malformed truncated read write disk no_journal other memory damaged long no_pair refuted poor large = long refl
+on_status P status.NoPair done usage malformed truncated read write disk no_journal other memory damaged long no_pair refuted poor large = no_pair refl
+on_status P status.Refuted done usage malformed truncated read write disk no_journal other memory damaged long no_pair refuted poor large = refuted refl
+on_status P status.Poor done usage malformed truncated read write disk no_journal other memory damaged long no_pair refuted poor large = poor refl
+on_status P status.Large done usage malformed truncated read write disk no_journal other memory damaged long no_pair refuted poor large = large refl
 
 -- a run that takes nothing leaves all of it
 pub left_whole : (o : Option (List ℕ)) → IfSome o (λ input. o ≡ Some input)
@@ -101,6 +103,8 @@ memory_comes (Some jobs.Play) some = tt
 memory_comes (Some jobs.Build) some = tt
 memory_comes (Some (jobs.Make n seed width)) some = tt
 memory_comes (Some (jobs.Drill n seed width)) some = tt
+memory_comes (Some (jobs.Certify x y)) some = tt
+memory_comes (Some jobs.Check) some = tt
 memory_comes (Some jobs.Gossip) some = tt
 memory_comes (Some (jobs.Spend amount to words)) some = tt
 memory_comes (Some (jobs.Watch items)) some = tt

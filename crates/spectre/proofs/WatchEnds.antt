@@ -71,3 +71,5 @@ module _ (items : List Item) where
         (λ s. (f.too_long s, f.too_long_end s))
         (λ s. absurd (subst AfterFault s f.among))
         (λ s. absurd (subst AfterFault s f.among))
+        (λ s. absurd (subst AfterFault s f.among))
+        (λ s. absurd (subst AfterFault s f.among))

@@ -16,5 +16,7 @@ code_of status.OtherChain = 8
 code_of status.Memory = 9
 code_of status.Damaged = 10
 code_of status.TooLong = 11
+code_of status.NoPair = 12
+code_of status.Refuted = 13
 code_of status.Poor = 14
 code_of status.Large = 15

@@ -45,6 +45,14 @@ Replays s = IsOneOf s (status.Done ∷ status.Malformed ∷ status.Truncated ∷
 abbrev pub SpendsTo : Status → Type 0
 SpendsTo s = IsOneOf s (status.Done ∷ status.Malformed ∷ status.Truncated ∷ status.ReadFault ∷ status.WriteFault ∷ status.Memory ∷ status.TooLong ∷ status.Poor ∷ status.Large ∷ [])
 
+-- the statuses that a certificate of what a feed says can end with
+abbrev pub CertifiesTo : Status → Type 0
+CertifiesTo s = IsOneOf s (status.Done ∷ status.Malformed ∷ status.Truncated ∷ status.ReadFault ∷ status.WriteFault ∷ status.Memory ∷ status.TooLong ∷ status.NoPair ∷ [])
+
+-- the statuses that the check of a certificate can end with
+abbrev pub Checks : Status → Type 0
+Checks s = IsOneOf s (status.Done ∷ status.Malformed ∷ status.Truncated ∷ status.ReadFault ∷ status.WriteFault ∷ status.Memory ∷ status.Refuted ∷ [])
+
 -- the status of what was done with a scene
 abbrev pub status_by : Result Ending Stop → Status
 status_by (Ok Whole) = status.Done
@@ -79,6 +87,8 @@ Comes (Some jobs.Play) s = Plays s
 Comes (Some jobs.Build) s = Plays s
 Comes (Some (jobs.Make n seed width)) s = Makes s
 Comes (Some (jobs.Drill n seed width)) s = Makes s
+Comes (Some (jobs.Certify x y)) s = CertifiesTo s
+Comes (Some jobs.Check) s = Checks s
 Comes (Some jobs.Gossip) s = Plays s
 Comes (Some (jobs.Spend amount to words)) s = SpendsTo s
 Comes (Some (jobs.Watch items)) s = Replays s

@@ -6,11 +6,12 @@ use Rattle.sp_io.specs.Whole.{AppendsFront, ConsumesUpTo}
 use Rattle.sp_play.specs.Source.{scenario_limit}
 use Rattle.sp_journal.specs.Creation.{HoldsJournal, IsSynced}
 use Rattle.sp_journal.specs.Records.{records}
+use Rattle.spectre.specs.Certificates.{Stands}
 use Rattle.spectre.specs.Chains.{EndsAtHead}
 use Rattle.spectre.specs.Crashes.{HoldsOnward, Recovery}
-use Rattle.spectre.specs.Faults.{beyond, IsDamaged, IsFaultless, IsLarge, IsMalformed, IsNoJournal, IsOtherChain, IsPoor, IsTooLong, IsTruncated, unread}
+use Rattle.spectre.specs.Faults.{beyond, IsDamaged, IsFaultless, IsLarge, IsMalformed, IsNoJournal, IsNoPair, IsOtherChain, IsPoor, IsRefuted, IsTooLong, IsTruncated, unread}
 use Rattle.spectre.specs.Jobs.{AnswersFeed, TakesScenario}
-use Rattle.spectre.specs.Output.{blocks_before, due_of, OnDisk, OnInput, OnKeep, output_by}
+use Rattle.spectre.specs.Output.{blocks_before, due_of, OnCertify, OnDisk, OnInput, OnKeep, output_by}
 use Rattle.spectre.specs.Replay.{replied_but_last}
 use Rattle.spectre.specs.Taken.{TakesFeedFor}
 use Rattle.spectre.specs.declared.job.Job.{Job}
@@ -49,6 +50,10 @@ WritesBy job reads before after old new status.Memory = WritesFront job reads be
 WritesBy job reads before after old new status.Damaged = WritesAll job reads before old new (λ bytes input. IsDamaged job bytes)
 WritesBy job reads before after old new status.TooLong =
     WritesAll job reads before old new (λ bytes input. IsTooLong job input) × IfSome before (λ input. after ≡ Some (beyond job input))
+WritesBy job reads before after old new status.NoPair =
+    WritesAll job reads before old new (λ bytes input. IsNoPair job input) × IfSome before (λ input. after ≡ Some (unread job input))
+WritesBy job reads before after old new status.Refuted =
+    WritesAll job reads before old new (λ bytes input. IsRefuted job input) × IfSome before (λ input. after ≡ Some (unread job input))
 WritesBy job reads before after old new status.Poor =
     WritesAll job reads before old new (λ bytes input. IsPoor job input) × IfSome before (λ input. after ≡ Some (unread job input))
 WritesBy job reads before after old new status.Large =
@@ -60,6 +65,7 @@ pub record JobEnds (job : Option Job) (reads before after old new : Option (List
   pub taken : TakesScenario job → ConsumesUpTo before after scenario_limit
   pub taken_fed : AnswersFeed job → OnDisk job reads (λ bytes. TakesFeedFor (due_of job bytes) before after old new)
   pub chain : OnInput job before (λ input. OnDisk job reads (λ bytes. IsOtherChain job bytes input → EndsAtHead before after s))
+  pub certified : s ≡ status.Done → OnCertify job (λ x y. Stands x y old new)
   pub onward : OnKeep job (λ fresh. IfSome reads (λ bytes. IsSynced first → Leaves first last (HoldsOnward (records bytes))))
   pub lasting : OnKeep job (λ fresh. IfSome reads (λ bytes. Lasts first last HoldsJournal))
   pub crash : OnKeep job (λ fresh. IfSome before (λ input. IfSome reads (λ bytes. Recovery fresh bytes input after old new first last s)))

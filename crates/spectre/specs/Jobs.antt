@@ -4,13 +4,14 @@ use Rattle.std.specs.Str.{bytes_eq}
 use Rattle.sp_play.specs.Numbers.{number_in}
 use Rattle.sp_play.specs.declared.why.Why.{Why}
 use Rattle.spectre.specs.Files.{file_in}
+use Rattle.spectre.specs.IdWords.{ids_in}
 use Rattle.sp_watch.specs.declared.item.Item.{Item}
 use Rattle.spectre.specs.WalletWords.{spend_in, SpendAsked, watch_in}
 use Rattle.spectre.specs.Words.{word_at}
 use Rattle.spectre.specs.declared.files.FileUse.{FileUse}
 use Rattle.spectre.specs.declared.files.FileUse.TheVariants as uses
 use Rattle.spectre.specs.declared.job.Job.{Job}
-use Rattle.spectre.specs.declared.job.Job.TheVariants.{Replay, Keep, Show, Export, Play, Build, Make, Drill, Gossip, Spend, Watch}
+use Rattle.spectre.specs.declared.job.Job.TheVariants.{Replay, Keep, Show, Export, Play, Build, Make, Drill, Certify, Check, Gossip, Spend, Watch}
 pub use Rattle.spectre.specs.Words.{texts}
 
 -- a job that is a single word
@@ -19,6 +20,7 @@ job_named word =
     if bytes_eq word (codes "replay") then Some Replay else
     if bytes_eq word (codes "play") then Some Play else
     if bytes_eq word (codes "build") then Some Build else
+    if bytes_eq word (codes "check") then Some Check else
     if bytes_eq word (codes "gossip") then Some Gossip else None
 
 -- a job with three numbers
@@ -39,10 +41,20 @@ unfoldable pub job_of_numbers : List (List ℕ) → Option Job
 job_of_numbers words =
     job_by (word_at words 0) (number_in 0 511 (word_at words 1)) (number_in 0 (2 ^ 64 - 1) (word_at words 2)) (number_in 1 16 (word_at words 3))
 
--- `replay`, `play`, `build`, `gossip`, `make N SEED WIDTH` and `drill N SEED WIDTH`
+abbrev pub certify_job : Option (ℕ × ℕ) → Option Job
+certify_job None = None
+certify_job (Some ids) = Some (Certify ids.0 ids.1)
+
+-- X and Y are ids
+unfoldable pub job_of_ids : List (List ℕ) → Option Job
+job_of_ids words =
+    if bytes_eq (word_at words 0) (codes "certify") then certify_job (ids_in (word_at words 1) (word_at words 2)) else None
+
+-- `replay`, `play`, `build`, `check`, `gossip`, `certify X Y`, `make N SEED WIDTH` and `drill N SEED WIDTH`
 abbrev pub plain_job : List (List ℕ) → Option Job
 plain_job words =
     if length words == 1 then job_named (word_at words 0) else
+    if length words == 3 then job_of_ids words else
     if length words == 4 then job_of_numbers words else None
 
 -- a job on a file
@@ -102,7 +114,7 @@ IsJob (Spend amount to words) = IsSpending amount words
 IsJob (Watch items) = IsWatching items
 IsJob other = Unit {0}
 
--- a job takes a scenario, with a script behind it or not, a feed or nothing
+-- a job takes a scenario, with a script behind it or not, a feed, a certificate or nothing
 
 abbrev pub TakesScenario : Option Job → Type 0
 TakesScenario (Some Play) = Unit {0}
@@ -113,6 +125,7 @@ TakesScenario other = ⊥
 abbrev pub AnswersFeed : Option Job → Type 0
 AnswersFeed (Some Replay) = Unit {0}
 AnswersFeed (Some (Keep path fresh)) = Unit {0}
+AnswersFeed (Some (Certify x y)) = Unit {0}
 AnswersFeed (Some (Spend amount to words)) = Unit {0}
 AnswersFeed (Some (Watch items)) = Unit {0}
 AnswersFeed other = ⊥
@@ -122,10 +135,33 @@ TakesNothing (Some Play) = ⊥
 TakesNothing (Some Build) = ⊥
 TakesNothing (Some Replay) = ⊥
 TakesNothing (Some (Keep path fresh)) = ⊥
+TakesNothing (Some (Certify x y)) = ⊥
+TakesNothing (Some Check) = ⊥
 TakesNothing (Some Gossip) = ⊥
 TakesNothing (Some (Spend amount to words)) = ⊥
 TakesNothing (Some (Watch items)) = ⊥
 TakesNothing other = Unit {0}
+
+abbrev pub IsCheck : Option Job → Type 0
+IsCheck (Some Check) = Unit {0}
+IsCheck other = ⊥
+
+-- of a scenario and of a certificate nothing is written before all of it was taken
+abbrev pub WritesLast : Option Job → Type 0
+WritesLast (Some Play) = Unit {0}
+WritesLast (Some Build) = Unit {0}
+WritesLast (Some Check) = Unit {0}
+WritesLast (Some Gossip) = Unit {0}
+WritesLast other = ⊥
+
+-- it keeps some of its words: the name of a file, those of a wallet, or the items of a watch
+abbrev pub KeepsWords : Option Job → Type 0
+KeepsWords (Some (Keep path fresh)) = Unit {0}
+KeepsWords (Some (Show path)) = Unit {0}
+KeepsWords (Some (Export path profile)) = Unit {0}
+KeepsWords (Some (Spend amount to words)) = Unit {0}
+KeepsWords (Some (Watch items)) = Unit {0}
+KeepsWords other = ⊥
 
 -- it shows a journal, or the feed of its blocks; it names the file of one; else it asks nothing of a disk
 

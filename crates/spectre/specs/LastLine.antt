@@ -2,6 +2,8 @@
 use Rattle.std.specs.Prelude.{◌≡◌, ◌⊎◌, ℕ, List, [], ◌∷◌, ◌++◌, Option, Some, None, Err}
 use Rattle.std.specs.Io.KnownBytes.{Appends}
 use Rattle.sp_ids.specs.Digest.{sha256_number}
+use Rattle.sp_cert.specs.Format as certs
+use Rattle.sp_cert.specs.declared.fault.CheckFault.{CheckFault}
 use Rattle.sp_feed.specs.Feed.{Malformed, TooLong, Truncated}
 use Rattle.sp_feed.specs.Format.{Head}
 use Rattle.sp_journal.specs.Journal.{Contents}
@@ -11,8 +13,10 @@ use Rattle.sp_play.specs.Scene.{Scene, scene}
 use Rattle.sp_play.specs.Source.{scenario_limit}
 use Rattle.sp_play.specs.declared.why.LineFault.{LineFault}
 use Rattle.sp_report.specs.Lines.{malformed_text, too_long_text, truncated_text}
+use Rattle.spectre.specs.Certifies.{certified_fed, IsNoPairBy, no_pair_text}
+use Rattle.spectre.specs.Checks.{refuted_text, SaysRefuted}
 use Rattle.spectre.specs.Gossips.{Fault, gossip, told_line}
-use Rattle.spectre.specs.Jobs.{AnswersFeed, TakesScenario}
+use Rattle.spectre.specs.Jobs.{AnswersFeed, IsCheck, TakesScenario}
 use Rattle.spectre.specs.Journals.{damaged_text, not_journal_text, other_chain_text}
 use Rattle.spectre.specs.Lines.{fault_line}
 use Rattle.spectre.specs.Replay.{fed}
@@ -73,6 +77,23 @@ pub record TellsChains (disk input line : List ℕ) : Type 0 where
 abbrev pub TellsDamage : List ℕ → List ℕ → Type 0
 TellsDamage disk line = (at : ℕ) × (records disk ≡ Damaged at) × (line ≡ damaged_text at)
 
+-- the place of a certificate's malformed field, or of the first byte behind its last one; after how many bytes it ends too early
+
+abbrev pub TellsCertField : List ℕ → List ℕ → Type 0
+TellsCertField input line = (at : ℕ) × (certs.said input ≡ certs.Malformed at) × (line ≡ malformed_text at)
+
+abbrev pub TellsCertEnd : List ℕ → List ℕ → Type 0
+TellsCertEnd input line = (at : ℕ) × (certs.said input ≡ certs.Truncated at) × (line ≡ truncated_text at)
+
+-- no pair is certified
+abbrev pub TellsNoPair : Option Job → List ℕ → List ℕ → Type 0
+TellsNoPair (Some (jobs.Certify x y)) input line = IsNoPairBy (certified_fed x y input) × (line ≡ no_pair_text)
+TellsNoPair other input line = ⊥
+
+-- what refuses a certificate
+abbrev pub TellsRefusal : List ℕ → List ℕ → Type 0
+TellsRefusal input line = (fault : CheckFault) × SaysRefuted input fault × (line ≡ refuted_text fault)
+
 -- what may be spent, or what would be
 
 abbrev pub TellsPoor : Option Job → List ℕ → List ℕ → Type 0
@@ -85,19 +106,21 @@ TellsLarge other input line = ⊥
 
 -- the line of the fault that a status names; the other statuses name none
 abbrev pub IsLineOf : Option Job → List ℕ → List ℕ → Status → List ℕ → Type 0
-IsLineOf job disk input status.Malformed line = (AnswersFeed job × TellsField input line) ⊎ (TellsScene job input line ⊎ TellsScript job input line)
-IsLineOf job disk input status.Truncated line = AnswersFeed job × TellsEarlyEnd input line
+IsLineOf job disk input status.Malformed line = (AnswersFeed job × TellsField input line) ⊎ ((IsCheck job × TellsCertField input line) ⊎ (TellsScene job input line ⊎ TellsScript job input line))
+IsLineOf job disk input status.Truncated line = (AnswersFeed job × TellsEarlyEnd input line) ⊎ (IsCheck job × TellsCertEnd input line)
 IsLineOf job disk input status.NotJournal line = (records disk ≡ NoJournal) × (line ≡ not_journal_text)
 IsLineOf job disk input status.OtherChain line = TellsChains disk input line
 IsLineOf job disk input status.Damaged line = TellsDamage disk line
 IsLineOf job disk input status.TooLong line = (AnswersFeed job × TellsLongFeed input line) ⊎ (TakesScenario job × (line ≡ too_long_text scenario_limit))
+IsLineOf job disk input status.NoPair line = TellsNoPair job input line
+IsLineOf job disk input status.Refuted line = IsCheck job × TellsRefusal input line
 IsLineOf job disk input status.Poor line = TellsPoor job input line
 IsLineOf job disk input status.Large line = TellsLarge job input line
 IsLineOf job disk input other line = ⊥
 
 -- the statuses that name such a fault
 abbrev pub NamesFault : Status → Type 0
-NamesFault s = IsOneOf s (status.Malformed ∷ status.Truncated ∷ status.NotJournal ∷ status.OtherChain ∷ status.Damaged ∷ status.TooLong ∷ status.Poor ∷ status.Large ∷ [])
+NamesFault s = IsOneOf s (status.Malformed ∷ status.Truncated ∷ status.NotJournal ∷ status.OtherChain ∷ status.Damaged ∷ status.TooLong ∷ status.NoPair ∷ status.Refuted ∷ status.Poor ∷ status.Large ∷ [])
 
 -- The sink took some lines, and then that fault's own line.
 pub record EndsInLine (job : Option Job) (disk input : List ℕ) (s : Status) (old new : Option (List ℕ)) : Type 0 where

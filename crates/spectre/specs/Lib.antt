@@ -2,6 +2,7 @@ pub mod Words
 pub mod Codes
 pub mod OneOf
 pub mod Files
+pub mod IdWords
 pub mod WalletWords
 pub mod Jobs
 pub mod Lines
@@ -10,6 +11,8 @@ pub mod Scenes
 pub mod Replay
 pub mod Sent
 pub mod Spends
+pub mod Certifies
+pub mod Checks
 pub mod Watches
 pub mod Exports
 pub mod Journals
@@ -26,6 +29,9 @@ pub mod Watching
 pub mod Running
 pub mod Keeping
 pub mod SpendEnds
+pub mod CheckEnds
+pub mod CertifyEnds
+pub mod Certificates
 pub mod JobEnds
 pub mod LastLine
 pub mod Ends

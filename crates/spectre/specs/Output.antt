@@ -5,6 +5,8 @@ use Rattle.sp_make.specs.Made.{made}
 use Rattle.sp_play.specs.Scene.{scene}
 use Rattle.sp_play.specs.Source.{scenario_limit}
 use Rattle.sp_report.specs.Lines.{too_long_text}
+use Rattle.spectre.specs.Certifies.{certified}
+use Rattle.spectre.specs.Checks.{checked}
 use Rattle.spectre.specs.Gossips.{gossiped}
 use Rattle.spectre.specs.Jobs.{job_in}
 use Rattle.spectre.specs.Journals.{found_blocks, kept_output, shown_output}
@@ -43,6 +45,8 @@ output_by (Some jobs.Play) disk input = source_output (Scenario Play) input
 output_by (Some jobs.Build) disk input = source_output (Scenario Build) input
 output_by (Some (jobs.Make n seed width)) disk input = made n seed width
 output_by (Some (jobs.Drill n seed width)) disk input = drilled (scene (made n seed width))
+output_by (Some (jobs.Certify x y)) disk input = certified x y input
+output_by (Some jobs.Check) disk input = checked input
 output_by (Some jobs.Gossip) disk input = source_output Gossip input
 output_by (Some (jobs.Spend amount to words)) disk input = spent words amount to input
 output_by (Some (jobs.Watch items)) disk input = watched items input
@@ -67,6 +71,8 @@ input_told (Some jobs.Replay) left = left
 input_told (Some (jobs.Keep path fresh)) left = left
 input_told (Some jobs.Play) left = left
 input_told (Some jobs.Build) left = left
+input_told (Some (jobs.Certify x y)) left = left
+input_told (Some jobs.Check) left = left
 input_told (Some jobs.Gossip) left = left
 input_told (Some (jobs.Spend amount to words)) left = left
 input_told (Some (jobs.Watch items)) left = left
@@ -84,11 +90,17 @@ blocks_before (Some (jobs.Export path profile)) disk = found_blocks disk
 blocks_before other disk = []
 
 -- What is written for the messages in some bytes of a feed before it ends: the answers, behind the blocks of a journal; of
--- a watch what they change, too; of a spend nothing
+-- a watch what they change, too; of a certificate of them and of a spend nothing
 abbrev pub due_of : Option Job → List ℕ → List ℕ → List ℕ
+due_of (Some (jobs.Certify x y)) disk = λ given. []
 due_of (Some (jobs.Spend amount to words)) disk = λ given. []
 due_of (Some (jobs.Watch items)) disk = watch_replied items
 due_of job disk = replied (blocks_before job disk)
+
+-- what is said of a run that certifies what is said of two blocks
+abbrev pub OnCertify : Option Job → (ℕ → ℕ → Type 0) → Type 0
+OnCertify (Some (jobs.Certify x y)) P = P x y
+OnCertify other P = Unit {0}
 
 -- what is said of a run that keeps a journal
 abbrev pub OnKeep : Option Job → (Bool → Type 0) → Type 0

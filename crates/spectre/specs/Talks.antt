@@ -46,7 +46,7 @@ abbrev pub scene_talk : Scene → Option Talk
 scene_talk s = Some (record { labels = s.names; terms = scene_terms s; genesis = s.genesis; found = []; messages = s.messages })
 
 -- The messages that a job answers. A `gossip` plays none, and a `drill` answers none; its summary is that of the blocks which
--- are kept of all. So it is with a spend
+-- are kept of all. So it is with a certificate of what they say and with a spend; and `check` takes no messages
 abbrev pub talk_by : Option Job → List ℕ → List ℕ → Option Talk
 talk_by None disk input = None
 talk_by (Some jobs.Replay) disk input = feed_talk [] (fed input).head (fed input).messages
@@ -57,6 +57,8 @@ talk_by (Some jobs.Play) disk input = scene_talk (scene input)
 talk_by (Some jobs.Build) disk input = None
 talk_by (Some (jobs.Make n seed width)) disk input = None
 talk_by (Some (jobs.Drill n seed width)) disk input = scene_talk (scene (made n seed width))
+talk_by (Some (jobs.Certify x y)) disk input = feed_talk [] (fed input).head (fed input).messages
+talk_by (Some jobs.Check) disk input = None
 talk_by (Some jobs.Gossip) disk input = None
 talk_by (Some (jobs.Spend amount to words)) disk input = feed_talk [] (fed input).head (fed input).messages
 talk_by (Some (jobs.Watch items)) disk input = feed_talk [] (fed input).head (fed input).messages
@@ -71,7 +73,7 @@ TalkAgrees talk =
     (genesis : ReadBlock) → block_in true talk.genesis ≡ Ok genesis → (before after : List Said) → talk.messages ≡ before ++ after →
     Agrees talk.terms.profile genesis (kept_by_all talk.terms.bits genesis (arrived_by talk before))
 
--- what is asked of an input: of a feed that it is bytes, of a scenario nothing
+-- what is asked of an input: of a feed that it is bytes, of a scenario and of a certificate nothing
 abbrev pub IsOfBytes : Option Job → List ℕ → Type 0
 IsOfBytes None input = Unit {0}
 IsOfBytes (Some jobs.Replay) input = IsBytes input
@@ -82,6 +84,8 @@ IsOfBytes (Some jobs.Play) input = Unit {0}
 IsOfBytes (Some jobs.Build) input = Unit {0}
 IsOfBytes (Some (jobs.Make n seed width)) input = Unit {0}
 IsOfBytes (Some (jobs.Drill n seed width)) input = Unit {0}
+IsOfBytes (Some (jobs.Certify x y)) input = IsBytes input
+IsOfBytes (Some jobs.Check) input = Unit {0}
 IsOfBytes (Some jobs.Gossip) input = Unit {0}
 IsOfBytes (Some (jobs.Spend amount to words)) input = IsBytes input
 IsOfBytes (Some (jobs.Watch items)) input = IsBytes input

@@ -10,6 +10,7 @@ use Rattle.sp_play.specs.declared.why.Why.{Why}
 use Rattle.sp_watch.specs.declared.item.Item.{Item}
 use Rattle.sp_watch.specs.declared.item.Item.TheVariants.{Tx, Balance, Vote}
 use Rattle.spectre.specs.Files.{is_file}
+use Rattle.spectre.specs.IdWords.{ids_in}
 use Rattle.spectre.specs.Words.{word_at}
 
 -- ---- `spend AMOUNT to WORD from WORD ..`
@@ -62,15 +63,14 @@ abbrev pub item_by : (ℕ → Item) → Result ℕ HexFault → Option Item
 item_by item (Ok id) = Some (item id)
 item_by item (Err fault) = None
 
-abbrev pub pair_by : Result ℕ HexFault → Result ℕ HexFault → Option Item
-pair_by (Ok x) (Ok y) = Some (Vote x y)
-pair_by (Ok x) (Err fault) = None
-pair_by (Err fault) y = None
+abbrev pub pair_by : Option (ℕ × ℕ) → Option Item
+pair_by None = None
+pair_by (Some ids) = Some (Vote ids.0 ids.1)
 
--- ID,ID: two times 64 hexadecimal digits of either case
+-- ID,ID
 unfoldable pub pair_in : List ℕ → Option Item
 pair_in text =
-    if bytes_eq (take 1 (drop 64 text)) (codes ",") then pair_by (hex_of (take 64 text)) (hex_of (drop 65 text)) else None
+    if bytes_eq (take 1 (drop 64 text)) (codes ",") then pair_by (ids_in (take 64 text) (drop 65 text)) else None
 
 -- `lock:ID` or `pair:ID,ID`
 unfoldable pub longer_item : List ℕ → Option Item

@@ -8,13 +8,14 @@ ghost use Rattle.sp_journal.specs.Records.{records};
 ghost use Rattle.sp_io.specs.Causes.{Rose};
 ghost use Rattle.sp_io.specs.Whole.{AppendsFront, ConsumesUpTo};
 ghost use Rattle.sp_play.specs.Source.{scenario_limit};
+ghost use Rattle.spectre.specs.Certificates.{ShowsSign, Stands};
 ghost use Rattle.spectre.specs.Chains.{EndsByChain, TakesHead};
 ghost use Rattle.spectre.specs.Crashes.{HoldsOnward, Recovery};
 ghost use Rattle.spectre.specs.Ends.{Comes, EndsByDisk};
-ghost use Rattle.spectre.specs.Faults.{beyond, IsDamaged, IsDiskAtFault, IsFaultless, IsLarge, IsMalformed, IsNoJournal, IsOtherChain, IsPoor, IsTooLong, IsTruncated, unread};
-ghost use Rattle.spectre.specs.Jobs.{AnswersFeed, job_in, NamesFile, Shows, TakesNothing, TakesScenario, texts};
+ghost use Rattle.spectre.specs.Faults.{beyond, IsDamaged, IsDiskAtFault, IsFaultless, IsLarge, IsMalformed, IsNoJournal, IsNoPair, IsOtherChain, IsPoor, IsRefuted, IsTooLong, IsTruncated, unread};
+ghost use Rattle.spectre.specs.Jobs.{AnswersFeed, IsCheck, job_in, NamesFile, Shows, TakesNothing, TakesScenario, texts, WritesLast};
 ghost use Rattle.spectre.specs.LastLine.{EndsInLine, NamesFault};
-ghost use Rattle.spectre.specs.Output.{blocks_before, due_of, OnDisk, OnInput, OnKeep, output};
+ghost use Rattle.spectre.specs.Output.{blocks_before, due_of, OnCertify, OnDisk, OnInput, OnKeep, output};
 ghost use Rattle.spectre.specs.Replay.{replied_but_last};
 ghost use Rattle.spectre.specs.Rests.{KeptAgree};
 ghost use Rattle.spectre.specs.Taken.{TakesFeedFor};
@@ -24,6 +25,7 @@ use crate::doing::do_job;
 use crate::job::{Job, JobFault, read_job};
 use crate::laws::{jobs_agree, kept_agree};
 use crate::status::Status;
+use sp_cert::laws::{read_is_certificate, soundness};
 use sp_disk::Disk;
 use sp_io::{Sink, Source};
 use std::alloc::Global;
@@ -32,8 +34,9 @@ use std::alloc::Global;
 /// read a scenario from `source` to the end before they write the first byte to `sink`; `replay`
 /// reads a feed message by message and writes the answer to each before it takes a byte of the next;
 /// `node` does so too, and records each kept block in the journal on `disk` before its line is written;
-/// `show` writes what that journal holds; `make` and `drill` read nothing. `spend` reads a feed to its end
-/// before it writes the first byte; `watch` answers one as `replay` does, and writes what each block changes.
+/// `show` writes what that journal holds; `make` and `drill` read nothing. `certify` and `spend` read a feed,
+/// and `check` a certificate, to its end before they write the first byte; `watch` answers a feed as `replay`
+/// does, and writes what each block changes.
 ///
 /// No clause speaks of time. A block that becomes present takes a few passes over the pairs of unrelated
 /// blocks, at most 130,816, and for each voter that is asked anew on such a pair a count over rows of
@@ -49,12 +52,16 @@ pub fn run<S: Source, K: Sink, D: Disk>(
 ) -> Status
     // Where the run is done, the sink took the output and nothing else, neither the input nor what the
     // disk held has a fault, and what stays of the input is what follows a feed's end, and nothing of a
-    // scenario.
+    // scenario or a certificate.
     ensures done { result ≡ Status.Done → OnInput (job_in (texts words.now)) (S.left source.old) (λ input.
         OnDisk (job_in (texts words.now)) (D.now disk.old).reads (λ bytes.
         Appends (K.taken sink.old) (K.taken sink.new) (output (texts words.now) bytes input)
         × IsFaultless (job_in (texts words.now)) bytes input)) }
     ensures done_end { result ≡ Status.Done → IfSome (S.left source.old) (λ input.
+        S.left source.new ≡ Some (unread (job_in (texts words.now)) input)) }
+    ensures no_pair_end { result ≡ Status.NoPair → IfSome (S.left source.old) (λ input.
+        S.left source.new ≡ Some (unread (job_in (texts words.now)) input)) }
+    ensures refuted_end { result ≡ Status.Refuted → IfSome (S.left source.old) (λ input.
         S.left source.new ≡ Some (unread (job_in (texts words.now)) input)) }
     ensures poor_end { result ≡ Status.Poor → IfSome (S.left source.old) (λ input.
         S.left source.new ≡ Some (unread (job_in (texts words.now)) input)) }
@@ -67,8 +74,8 @@ pub fn run<S: Source, K: Sink, D: Disk>(
     ensures no_input { TakesNothing (job_in (texts words.now)) → source.new ≡ source.old }
     ensures unwritten { result ≡ Status.Usage → sink.new ≡ sink.old }
 
-    // Where the input or what the disk held is at fault, ends too early or is too long, or leaves no spend,
-    // the sink took the output, which ends with that fault's line.
+    // Where the input or what the disk held is at fault, ends too early or is too long, says nothing of two
+    // blocks, is refused, or leaves no spend, the sink took the output, which ends with that fault's line.
     ensures malformed { result ≡ Status.Malformed → OnInput (job_in (texts words.now)) (S.left source.old) (λ input.
         OnDisk (job_in (texts words.now)) (D.now disk.old).reads (λ bytes.
         Appends (K.taken sink.old) (K.taken sink.new) (output (texts words.now) bytes input)
@@ -89,6 +96,14 @@ pub fn run<S: Source, K: Sink, D: Disk>(
         OnDisk (job_in (texts words.now)) (D.now disk.old).reads (λ bytes.
         Appends (K.taken sink.old) (K.taken sink.new) (output (texts words.now) bytes input)
         × IsOtherChain (job_in (texts words.now)) bytes input)) }
+    ensures no_pair { result ≡ Status.NoPair → OnInput (job_in (texts words.now)) (S.left source.old) (λ input.
+        OnDisk (job_in (texts words.now)) (D.now disk.old).reads (λ bytes.
+        Appends (K.taken sink.old) (K.taken sink.new) (output (texts words.now) bytes input)
+        × IsNoPair (job_in (texts words.now)) input)) }
+    ensures refuted { result ≡ Status.Refuted → OnInput (job_in (texts words.now)) (S.left source.old) (λ input.
+        OnDisk (job_in (texts words.now)) (D.now disk.old).reads (λ bytes.
+        Appends (K.taken sink.old) (K.taken sink.new) (output (texts words.now) bytes input)
+        × IsRefuted (job_in (texts words.now)) input)) }
     ensures poor { result ≡ Status.Poor → OnInput (job_in (texts words.now)) (S.left source.old) (λ input.
         OnDisk (job_in (texts words.now)) (D.now disk.old).reads (λ bytes.
         Appends (K.taken sink.old) (K.taken sink.new) (output (texts words.now) bytes input)
@@ -122,7 +137,8 @@ pub fn run<S: Source, K: Sink, D: Disk>(
 
     // However the run ends, of a scenario 16,777,216 bytes were taken at most. Of a feed no more
     // were than its limit, and none that wasn't needed: each front of them that isn't all ends too
-    // early for a feed, and what is due for its messages was written: their lines, but nothing in `spend`.
+    // early for a feed, and what is due for its messages was written: their lines, but nothing in `certify` and
+    // `spend`.
     ensures taken { TakesScenario (job_in (texts words.now))
         → ConsumesUpTo (S.left source.old) (S.left source.new) scenario_limit }
     ensures taken_fed { AnswersFeed (job_in (texts words.now))
@@ -140,11 +156,11 @@ pub fn run<S: Source, K: Sink, D: Disk>(
     ensures too_long_end { result ≡ Status.TooLong → IfSome (S.left source.old) (λ input.
         S.left source.new ≡ Some (beyond (job_in (texts words.now)) input)) }
 
-    // Where a read failed, the sink took nothing of a scenario, and of a feed exactly what is due for
+    // Where a read failed, the sink took nothing for a scenario or a certificate, and of a feed exactly what is due for
     // the messages in the bytes that were given; where the disk failed, these without the last one's,
     // and nothing of what it holds.
     ensures read_fault { result ≡ Status.ReadFault
-        → TakesScenario (job_in (texts words.now)) → sink.new ≡ sink.old }
+        → WritesLast (job_in (texts words.now)) → sink.new ≡ sink.old }
     ensures read_fault_fed { result ≡ Status.ReadFault → AnswersFeed (job_in (texts words.now))
         → OnDisk (job_in (texts words.now)) (D.now disk.old).reads (λ bytes. (given : List ℕ)
         × Consumes (S.left source.old) (S.left source.new) given
@@ -206,6 +222,14 @@ pub fn run<S: Source, K: Sink, D: Disk>(
         OnDisk (job_in (texts words.now)) (D.now disk.old).reads (λ bytes.
         JobAnswersAlike (job_in (texts words.now)) bytes input)) }
 
+    // What `certify` wrote where it is done is a certificate of the two blocks, which nothing refuses and
+    // which its bytes say again, so that `check` shows it; and what `check` then showed is so: the virtual vote
+    // of the certificate's own blocks, which are all present, on its two is its sign.
+    ensures certified { result ≡ Status.Done → OnCertify (job_in (texts words.now)) (λ x y.
+        Stands x y (K.taken sink.old) (K.taken sink.new)) }
+    ensures shown { result ≡ Status.Done → IsCheck (job_in (texts words.now))
+        → IfSome (S.left source.old) (λ input. ShowsSign input (K.taken sink.old) (K.taken sink.new)) }
+
     // Where nothing failed and neither the input nor what the disk held has a fault, the run is done, or
     // memory was refused.
     ensures complete { ¬ Rose (S.faults source.old) (S.faults source.new)
@@ -222,6 +246,9 @@ pub fn run<S: Source, K: Sink, D: Disk>(
     // Tells the proof what every answer rests on.
     jobs_agree();
     kept_agree();
+    // And what a certificate shows that nothing refuses.
+    read_is_certificate();
+    soundness();
     match read_job(alloc, words) {
         Ok(job) => do_job(alloc, &job, source, sink, disk),
         Err(JobFault::Usage) => Status::Usage,

@@ -6,10 +6,10 @@ use std::alloc::{AllocError, Global};
 
 /// The usage line, without its end.
 pub const USAGE: &str =
-    "usage: spectre play | build | make N SEED WIDTH | drill N SEED WIDTH | replay | node [--fresh] FILE | show FILE | export FILE N | gossip | spend AMOUNT to WORD from WORD .. | watch ITEM ..";
+    "usage: spectre play | build | make N SEED WIDTH | drill N SEED WIDTH | replay | node [--fresh] FILE | show FILE | export FILE N | certify X Y | check | gossip | spend AMOUNT to WORD from WORD .. | watch ITEM ..";
 
 /// The words of each command, and what it reads and writes.
-const COMMANDS: [(&str, &str); 12] = [
+const COMMANDS: [(&str, &str); 14] = [
     (
         "play",
         "reads a scenario, writes the answers to it, with its names",
@@ -36,6 +36,14 @@ const COMMANDS: [(&str, &str); 12] = [
     (
         "export FILE N",
         "writes the feed of its blocks, N being their profile, 1 or 2",
+    ),
+    (
+        "certify X Y",
+        "reads a feed, writes the certificate of what its blocks say of those with the ids X and Y",
+    ),
+    (
+        "check",
+        "reads a certificate, writes which of its two blocks comes first, or what refuses it",
     ),
     (
         "gossip",

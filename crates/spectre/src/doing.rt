@@ -6,9 +6,11 @@ ghost use Rattle.sp_io.specs.Causes.{Rose};
 ghost use Rattle.spectre.specs.Ends.{Comes, EndsByDisk};
 ghost use Rattle.spectre.specs.Faults.{IsDiskAtFault};
 ghost use Rattle.spectre.specs.JobEnds.{JobEnds};
-ghost use Rattle.spectre.specs.Jobs.{IsJob, NamesFile, Shows, TakesNothing, TakesScenario};
+ghost use Rattle.spectre.specs.Jobs.{IsJob, NamesFile, Shows, TakesNothing, WritesLast};
 ghost use Rattle.spectre.specs.Output.{OnDisk};
 
+use crate::certify::certify;
+use crate::check::check;
 use crate::job::Job;
 use crate::keep::keep;
 use crate::made::{drill_text, make_text};
@@ -38,7 +40,7 @@ pub fn do_job<S: Source, K: Sink, D: Disk>(
     ensures disk_first { OnDisk (Some job.now) (D.now disk.old).reads (λ bytes.
         IsDiskAtFault (Some job.now) bytes → EndsByDisk result × (source.new ≡ source.old)) }
     ensures no_input { TakesNothing (Some job.now) → source.new ≡ source.old }
-    ensures read_fault { result ≡ Status.ReadFault → TakesScenario (Some job.now) → sink.new ≡ sink.old }
+    ensures read_fault { result ≡ Status.ReadFault → WritesLast (Some job.now) → sink.new ≡ sink.old }
     ensures disk_fault_shown { result ≡ Status.DiskFault → Shows (Some job.now) → sink.new ≡ sink.old }
     ensures read_cause { result ≡ Status.ReadFault → Rose (S.faults source.old) (S.faults source.new) }
     ensures write_cause { result ≡ Status.WriteFault → Rose (K.faults sink.old) (K.faults sink.new) }
@@ -60,6 +62,8 @@ pub fn do_job<S: Source, K: Sink, D: Disk>(
         Job::Build => from_source(alloc, Task::Scenario(Purpose::Build), source, sink),
         Job::Make { n, seed, width } => make_text(alloc, *n, *seed, *width, sink),
         Job::Drill { n, seed, width } => drill_text(alloc, *n, *seed, *width, sink),
+        Job::Certify { x, y } => certify(alloc, x, y, source, sink),
+        Job::Check => check(alloc, source, sink),
         Job::Gossip => from_source(alloc, Task::Gossip, source, sink),
         Job::Spend { amount, to, words } => spend(alloc, *amount, *to, words, source, sink),
         Job::Watch { items } => watch(alloc, items, source, sink),

@@ -1,15 +1,16 @@
 //! The words of the command line: which job they ask for.
 
-ghost use Rattle.std.specs.Prelude.{◌≡◌, ◌≤◌, IfOk, IfSome, IsErrOf, IsNone, IsSome, length, Some};
-ghost use Rattle.spectre.specs.Jobs.{AreNumbers, IsJob, job_in, texts, wallet_job};
+ghost use Rattle.std.specs.Prelude.{◌≡◌, ◌≤◌, IfOk, IfSome, IsErrOf, IsNone, length, Some};
+ghost use Rattle.spectre.specs.Jobs.{AreNumbers, IsJob, job_in, KeepsWords, texts, wallet_job};
 ghost use Rattle.spectre.specs.Jobs as meant;
 ghost use Rattle.spectre.specs.declared.job.JobFault.TheVariants as faults;
 
 use crate::file_name::FileName;
 use crate::files::{FileUse, file_of};
+use crate::id_words::ids_of;
 use crate::spend_words::{preimages_of, spend_of};
 use crate::watch_words::{items_of, watch_of};
-use sp_ids::{Lock, Memory as Refused};
+use sp_ids::{BlockId, Lock, Memory as Refused};
 use sp_model::Profile;
 use sp_play::number_of;
 use sp_wallet::Preimages;
@@ -54,6 +55,13 @@ pub enum Job {
         seed: u64,
         width: u8,
     },
+    /// To write the certificate of what the blocks of a feed say of two of them.
+    Certify {
+        x: BlockId,
+        y: BlockId,
+    },
+    /// To check a certificate.
+    Check,
     /// To play a script of nodes behind a scenario.
     Gossip,
     /// To write the transaction that pays an amount to a lock, out of what the blocks of a feed leave
@@ -100,6 +108,8 @@ fn job_named(word: &[u8]) -> Option<Job>
         Some(Job::Play)
     } else if word == b"build".as_slice() {
         Some(Job::Build)
+    } else if word == b"check".as_slice() {
+        Some(Job::Check)
     } else if word == b"gossip".as_slice() {
         Some(Job::Gossip)
     } else {
@@ -136,6 +146,20 @@ fn job_of_numbers(words: &[String]) -> Option<Job>
     job_with(words[0].as_bytes(), n as u16, seed, width as u8)
 }
 
+/// The job that three words ask for, if none of them is a file.
+#[tactic(auto, unfolding(crate::specs::Jobs::job_of_ids))]
+fn job_of_ids(words: &[String]) -> Option<Job>
+    requires { length words.now ≡ 3 }
+    ensures value { result ≡ meant.job_of_ids (texts words.now) }
+    ensures ranges { IfSome result IsJob }
+{
+    if words[0].as_bytes() != b"certify".as_slice() {
+        return None;
+    }
+    let (x, y) = ids_of(words[1].as_bytes(), words[2].as_bytes())?;
+    Some(Job::Certify { x, y })
+}
+
 /// The job that some words ask for, if they are so many and none of them is a file.
 fn job_of(words: &[String]) -> Option<Job>
     ensures value { result ≡ meant.plain_job (texts words.now) }
@@ -143,6 +167,7 @@ fn job_of(words: &[String]) -> Option<Job>
 {
     match words.len() {
         1 => job_named(words[0].as_bytes()),
+        3 => job_of_ids(words),
         4 => job_of_numbers(words),
         _ => None,
     }
@@ -166,7 +191,7 @@ fn job_on(path: FileName, how: FileUse) -> Job
 fn wallet_job_of(alloc: Global, words: &[String]) -> Result<Job, JobFault>
     ensures job { IfOk result (λ job. wallet_job (texts words.now) ≡ Some job) }
     ensures usage { IsErrOf result faults.Usage → IsNone (wallet_job (texts words.now)) }
-    ensures memory { IsErrOf result faults.Memory → IsSome (wallet_job (texts words.now)) }
+    ensures memory { IsErrOf result faults.Memory → KeepsWords (wallet_job (texts words.now)) }
     ensures ranges { IfOk result IsJob }
 {
     if let Some(asked) = spend_of(words) {
@@ -186,11 +211,11 @@ fn wallet_job_of(alloc: Global, words: &[String]) -> Result<Job, JobFault>
 
 /// The job that the words after the program's name ask for: `replay`, `node FILE`, `node --fresh FILE`,
 /// `node FILE --fresh`, `show FILE`, `export FILE N`, `play`, `build`, `make N SEED WIDTH`,
-/// `drill N SEED WIDTH`, `gossip`, `spend AMOUNT to WORD from WORD ..` or `watch ITEM ..`. FILE isn't empty and
-/// doesn't begin with `-`. The N of `export` is 1 or 2. The numbers are decimal digits without a leading
-/// zero unless the number is 0. A WORD has 1 to 64 bytes and doesn't begin with `-`; behind `from` stand 1
-/// to 16 different ones. An ITEM is `tx:ID`, `lock:ID` or `pair:ID,ID`, with 64 hexadecimal digits for an
-/// ID; there are 1 to 64 different ones.
+/// `drill N SEED WIDTH`, `certify X Y`, `check`, `gossip`, `spend AMOUNT to WORD from WORD ..` or
+/// `watch ITEM ..`. FILE isn't empty and doesn't begin with `-`. The N of `export` is 1 or 2. The numbers are
+/// decimal digits without a leading zero unless the number is 0. X and Y are ids. A WORD has 1 to 64 bytes
+/// and doesn't begin with `-`; behind `from` stand 1 to 16 different ones. An ITEM is `tx:ID`, `lock:ID` or
+/// `pair:ID,ID`; there are 1 to 64 different ones. An id has 64 hexadecimal digits.
 ///
 /// # Errors
 ///
@@ -198,7 +223,7 @@ fn wallet_job_of(alloc: Global, words: &[String]) -> Result<Job, JobFault>
 pub fn read_job(alloc: Global, words: &[String]) -> Result<Job, JobFault>
     ensures job { IfOk result (λ job. job_in (texts words.now) ≡ Some job) }
     ensures usage { IsErrOf result faults.Usage → IsNone (job_in (texts words.now)) }
-    ensures memory { IsErrOf result faults.Memory → IsSome (job_in (texts words.now)) }
+    ensures memory { IsErrOf result faults.Memory → KeepsWords (job_in (texts words.now)) }
     ensures ranges { IfOk result IsJob }
 {
     if let Some((path, how)) = file_of(words) {

@@ -4,6 +4,8 @@
 #![tactic(auto)]
 
 mod bringing;
+mod certify;
+mod check;
 mod command;
 mod commands;
 mod counting;
@@ -16,6 +18,7 @@ mod file_name;
 mod files;
 mod genesis;
 mod gossip;
+mod id_words;
 mod job;
 mod keep;
 mod laws;

@@ -1,7 +1,6 @@
 //! How a run ended, apart from the run itself since `main` turns it into the program's exit code.
 
-/// How a run ended. The variants are in the order of their codes, which go on from 0 to 11, and to 14
-/// and 15.
+/// How a run ended. The variants are in the order of their codes, from 0 to 15.
 #[derive(Clone, Copy, Debug, PartialEq, Eq)]
 pub enum Status {
     /// The input was read to its end, of a feed that is its frame `E`, and all answers were written.
@@ -28,18 +27,23 @@ pub enum Status {
     Damaged,
     /// The input is longer than its limit, and that fault's line was written last.
     TooLong,
+    /// The two blocks have no certificate, being one block or not both present, and that fault's line was
+    /// written.
+    NoPair,
+    /// The certificate is refused, and that fault's line was written.
+    Refuted,
     /// What may be spent doesn't reach the amount, and that fault's line was written.
-    Poor = 14,
+    Poor,
     /// What is to be spent comes to too much, and that fault's line was written.
-    Large = 15,
+    Large,
 }
 
 impl Status {
     ghost use Rattle.std.specs.Prelude.{◌≡◌};
     ghost use Rattle.spectre.specs.Codes.{code_of};
 
-    /// The code that the program ends with: 0 for `Done`, and so on in the order of the variants up to 11,
-    /// and then 14 for `Poor` and 15 for `Large`.
+    /// The code that the program ends with: 0 for `Done`, and so on in the order of the variants, up to 15 for
+    /// `Large`.
     pub fn code(&self) -> u8
         ensures { result ≡ code_of self.now }
     {

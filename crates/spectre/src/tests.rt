@@ -9,6 +9,8 @@ mod alike;
 mod answered;
 mod balances;
 mod built;
+mod certified;
+mod certs;
 mod crashes;
 mod damage;
 mod disks;

@@ -2,28 +2,26 @@
 
 ghost use Rattle.std.specs.Prelude.{◌≡◌, ◌≤◌, if◌then◌else◌, codes, drop, length, IfOk, IfSome, IsNone, IsTrue, None, Some};
 ghost use Rattle.std.specs.Str.{bytes_eq};
-ghost use Rattle.sp_ids.specs.Hex.{hex_of};
+ghost use Rattle.spectre.specs.IdWords.{ids_in};
 ghost use Rattle.spectre.specs.WalletWords.{asks_watch, watch_in};
 ghost use Rattle.spectre.specs.WalletWords as meant;
 ghost use Rattle.spectre.specs.Words.{texts};
 
-use sp_ids::{BlockId, Lock, Memory, TxId};
+use crate::id_words::ids_of;
+use sp_ids::{Lock, Memory, TxId};
 use sp_watch::{Item, Items};
 use std::alloc::Global;
 
 /// The pair of two ids, if a comma stands between them.
 fn pair_of_parts(first: &[u8], comma: &[u8], second: &[u8]) -> Option<Item>
-    ensures { result ≡ (if bytes_eq comma.now (codes ",") then meant.pair_by (hex_of first.now) (hex_of second.now) else None) }
+    ensures { result ≡ (if bytes_eq comma.now (codes ",") then meant.pair_by (ids_in first.now second.now) else None) }
 {
     if comma != b",".as_slice() {
         return None;
     }
-    match BlockId::from_hex(first) {
-        Ok(x) => match BlockId::from_hex(second) {
-            Ok(y) => Some(Item::Vote(x, y)),
-            Err(_) => None,
-        },
-        Err(_) => None,
+    match ids_of(first, second) {
+        Some((x, y)) => Some(Item::Vote(x, y)),
+        None => None,
     }
 }
 

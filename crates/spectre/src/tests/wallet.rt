@@ -9,7 +9,7 @@ use std::alloc::Global;
 use std::process::Abort;
 
 /// The feed that is built of a scenario.
-fn built(rt: &impl Abort, alloc: Global, scenario: &[u8]) -> Text {
+pub fn built(rt: &impl Abort, alloc: Global, scenario: &[u8]) -> Text {
     let trial = Trial {
         words: b"build",
         input: scenario,

@@ -42,6 +42,12 @@ replay\0|
 play|replay|
 --|play|
 build|build|
+check|f|
+checks|
+Check|
+check||
+certify|
+certify|a|b|
 gossip|f|
 gossips|
 Gossip|
@@ -344,6 +350,8 @@ const NO_FILE: &[&[u8]] = &[
     b"build",
     b"make\n3\n0\n1",
     b"drill\n3\n0\n1",
+    b"certify\nebc352d52d8a2d8f607bc82f6edc468679599eb0e8a8429d88c82e4cffb62854\nEBC352D52D8A2D8F607BC82F6EDC468679599EB0E8A8429D88C82E4CFFB62854",
+    b"check",
     b"gossip",
     b"spend\n1\nto\nb\nfrom\na",
     b"spend\n9223372036854775807\nto\nto\nfrom\nfrom",
@@ -377,6 +385,8 @@ const ROWS: &[&str] = &[
     "  node --fresh FILE ",
     "  show FILE ",
     "  export FILE N ",
+    "  certify X Y ",
+    "  check ",
     "  gossip ",
     "  spend AMOUNT to WORD from WORD .. ",
     "  watch ITEM .. ",

@@ -1,11 +1,13 @@
 use Rattle.std.proofs.Common.{Option, Err, ap, refl, sym, subst}
 use Rattle.sp_journal.proofs.Looking.{told_bytes}
 use Rattle.spectre.specs.Ends.{Comes}
-use Rattle.spectre.specs.Jobs.{NamesFile, Shows, TakesNothing, TakesScenario}
+use Rattle.spectre.specs.Jobs.{job_in, NamesFile, Shows, TakesNothing, texts, WritesLast}
 use Rattle.spectre.specs.declared.job.Job.{Job}
 use Rattle.spectre.specs.declared.status.Status.TheVariants as status
+use Rattle.spectre.proofs.ShownSigns.{shows_sign}
 use Rattle.spectre.proofs.Completing.{completes}
 use Rattle.spectre.proofs.DiskFirst.{first_of, refused_first}
+use Rattle.spectre.proofs.KeptWords.{kept_some}
 use Rattle.spectre.proofs.LastLines.{last_line}
 use Rattle.spectre.proofs.Talking.{all_agree, all_alike}
 use Rattle.spectre.proofs.TopCall.{asked_ends, ends_at, memory_comes, no_usage, nothing_asked, nothing_behind, nothing_ended, nothing_fed, nothing_lost, nothing_written}
@@ -69,7 +71,7 @@ pub returns-in-Ok-clause-no_input : goal.returns-in-Ok-clause-no_input
 returns-in-Ok-clause-no_input g c = λ takes. c.do_job.ensures.no_input (subst TakesNothing c.in-Ok.ensures.job takes)
 
 pub returns-in-Ok-clause-read_fault : goal.returns-in-Ok-clause-read_fault
-returns-in-Ok-clause-read_fault g c = λ s takes. c.do_job.ensures.read_fault s (subst TakesScenario c.in-Ok.ensures.job takes)
+returns-in-Ok-clause-read_fault g c = λ s takes. c.do_job.ensures.read_fault s (subst WritesLast c.in-Ok.ensures.job takes)
 
 pub returns-in-Ok-clause-disk_fault_shown : goal.returns-in-Ok-clause-disk_fault_shown
 returns-in-Ok-clause-disk_fault_shown g c = λ s shows. c.do_job.ensures.disk_fault_shown s (subst Shows c.in-Ok.ensures.job shows)
@@ -151,6 +153,26 @@ returns-in-Ok-clause-found_stays g c = (asked_ends c.in-Ok.ensures.job c.do_job.
 pub returns-in-Err-Memory-clause-found_stays : goal.returns-in-Err-Memory-clause-found_stays
 returns-in-Err-Memory-clause-found_stays g c = nothing_lost _ (g.D.Disk.now c.args.disk.now) (g.met.D.Disk.is_moment c.args.disk.now)
 
+pub returns-in-Ok-clause-no_pair : goal.returns-in-Ok-clause-no_pair
+returns-in-Ok-clause-no_pair g c = λ s. (ends_at status.NoPair s (asked_ends c.in-Ok.ensures.job c.do_job.ensures.ends)).0
+
+pub returns-in-Ok-clause-no_pair_end : goal.returns-in-Ok-clause-no_pair_end
+returns-in-Ok-clause-no_pair_end g c = λ s. (ends_at status.NoPair s (asked_ends c.in-Ok.ensures.job c.do_job.ensures.ends)).1
+
+pub returns-in-Ok-clause-refuted : goal.returns-in-Ok-clause-refuted
+returns-in-Ok-clause-refuted g c = λ s. (ends_at status.Refuted s (asked_ends c.in-Ok.ensures.job c.do_job.ensures.ends)).0
+
+pub returns-in-Ok-clause-refuted_end : goal.returns-in-Ok-clause-refuted_end
+returns-in-Ok-clause-refuted_end g c = λ s. (ends_at status.Refuted s (asked_ends c.in-Ok.ensures.job c.do_job.ensures.ends)).1
+
+pub returns-in-Ok-clause-certified : goal.returns-in-Ok-clause-certified
+returns-in-Ok-clause-certified g c = (asked_ends c.in-Ok.ensures.job c.do_job.ensures.ends).certified
+
+pub returns-in-Ok-clause-shown : goal.returns-in-Ok-clause-shown
+returns-in-Ok-clause-shown g c = λ s checks.
+    let ends = asked_ends c.in-Ok.ensures.job c.do_job.ensures.ends in
+    shows_sign (job_in (texts c.args.words.now)) (g.S.Source.left c.args.source.now) (g.D.Disk.now c.args.disk.now).reads (g.K.Sink.taken c.args.sink.now) (g.K.Sink.taken c.do_job.new.sink) checks c.read_is_certificate.ensures c.soundness.ensures (ends_at status.Done s ends).0
+
 pub returns-in-Ok-clause-poor : goal.returns-in-Ok-clause-poor
 returns-in-Ok-clause-poor g c = λ s. (ends_at status.Poor s (asked_ends c.in-Ok.ensures.job c.do_job.ensures.ends)).0
 
@@ -164,7 +186,7 @@ pub returns-in-Ok-clause-large_end : goal.returns-in-Ok-clause-large_end
 returns-in-Ok-clause-large_end g c = λ s. (ends_at status.Large s (asked_ends c.in-Ok.ensures.job c.do_job.ensures.ends)).1
 
 pub returns-in-Err-Memory-clause-among : goal.returns-in-Err-Memory-clause-among
-returns-in-Err-Memory-clause-among g c = memory_comes _ (c.in-Err-Memory.ensures.memory (ap (λ e. Err e) c.in-Err-Memory.field-0-is))
+returns-in-Err-Memory-clause-among g c = memory_comes _ (kept_some _ (c.in-Err-Memory.ensures.memory (ap (λ e. Err e) c.in-Err-Memory.field-0-is)))
 
 pub returns-in-Err-Memory-clause-usage : goal.returns-in-Err-Memory-clause-usage
-returns-in-Err-Memory-clause-usage g c = ((λ e. absurd cc), (λ none. absurd (no_usage _ (c.in-Err-Memory.ensures.memory (ap (λ e. Err e) c.in-Err-Memory.field-0-is)) none)))
+returns-in-Err-Memory-clause-usage g c = ((λ e. absurd cc), (λ none. absurd (no_usage _ (kept_some _ (c.in-Err-Memory.ensures.memory (ap (λ e. Err e) c.in-Err-Memory.field-0-is))) none)))

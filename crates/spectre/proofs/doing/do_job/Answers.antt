@@ -1,5 +1,5 @@
 use Rattle.std.proofs.Common.{Some, ap, refl, sym, subst}
-use Rattle.spectre.specs.Ends.{Makes, Plays, Replays, Shows, SpendsTo}
+use Rattle.spectre.specs.Ends.{CertifiesTo, Checks, Makes, Plays, Replays, Shows, SpendsTo}
 use Rattle.spectre.specs.JobEnds.{JobEnds, WritesBy}
 use Rattle.spectre.specs.declared.job.Job.{Job}
 use Rattle.spectre.specs.declared.job.Job.TheVariants as jobs
@@ -32,10 +32,13 @@ returns-in-Replay-clause-ends g c =
           (λ s. absurd (subst Replays s e.among))
           (λ s. (e.too_long s, e.too_long_end s))
           (λ s. absurd (subst Replays s e.among))
+          (λ s. absurd (subst Replays s e.among))
+          (λ s. absurd (subst Replays s e.among))
           (λ s. absurd (subst Replays s e.among));
       taken = λ takes. absurd takes;
       taken_fed = λ _. e.taken;
       chain = if_all before _ (λ input other. absurd other);
+      certified = λ s. tt;
       onward = tt;
       lasting = tt;
       crash = tt;
@@ -80,10 +83,13 @@ returns-in-Show-clause-ends g c =
           (λ s. e.damaged s)
           (λ s. absurd (subst Shows s e.among))
           (λ s. absurd (subst Shows s e.among))
+          (λ s. absurd (subst Shows s e.among))
+          (λ s. absurd (subst Shows s e.among))
           (λ s. absurd (subst Shows s e.among));
       taken = λ takes. absurd takes;
       taken_fed = λ fed. absurd fed;
       chain = if_all first.reads _ (λ bytes other. absurd other);
+      certified = λ s. tt;
       onward = tt;
       lasting = tt;
       crash = tt;
@@ -117,10 +123,13 @@ returns-in-Export-clause-ends g c =
           (λ s. e.damaged s)
           (λ s. absurd (subst Shows s e.among))
           (λ s. absurd (subst Shows s e.among))
+          (λ s. absurd (subst Shows s e.among))
+          (λ s. absurd (subst Shows s e.among))
           (λ s. absurd (subst Shows s e.among));
       taken = λ takes. absurd takes;
       taken_fed = λ fed. absurd fed;
       chain = if_all first.reads _ (λ bytes other. absurd other);
+      certified = λ s. tt;
       onward = tt;
       lasting = tt;
       crash = tt;
@@ -154,10 +163,13 @@ returns-in-Play-clause-ends g c =
           (λ s. absurd (subst Plays s e.among))
           (λ s. (e.too_long s, e.too_long_end s))
           (λ s. absurd (subst Plays s e.among))
+          (λ s. absurd (subst Plays s e.among))
+          (λ s. absurd (subst Plays s e.among))
           (λ s. absurd (subst Plays s e.among));
       taken = λ _. e.taken;
       taken_fed = λ fed. absurd fed;
       chain = if_all before _ (λ input other. absurd other);
+      certified = λ s. tt;
       onward = tt;
       lasting = tt;
       crash = tt;
@@ -191,10 +203,13 @@ returns-in-Build-clause-ends g c =
           (λ s. absurd (subst Plays s e.among))
           (λ s. (e.too_long s, e.too_long_end s))
           (λ s. absurd (subst Plays s e.among))
+          (λ s. absurd (subst Plays s e.among))
+          (λ s. absurd (subst Plays s e.among))
           (λ s. absurd (subst Plays s e.among));
       taken = λ _. e.taken;
       taken_fed = λ fed. absurd fed;
       chain = if_all before _ (λ input other. absurd other);
+      certified = λ s. tt;
       onward = tt;
       lasting = tt;
       crash = tt;
@@ -228,10 +243,13 @@ returns-in-Make-clause-ends g c =
           (λ s. absurd (subst Makes s e.among))
           (λ s. absurd (subst Makes s e.among))
           (λ s. absurd (subst Makes s e.among))
+          (λ s. absurd (subst Makes s e.among))
+          (λ s. absurd (subst Makes s e.among))
           (λ s. absurd (subst Makes s e.among));
       taken = λ takes. absurd takes;
       taken_fed = λ fed. absurd fed;
       chain = λ other. absurd other;
+      certified = λ s. tt;
       onward = tt;
       lasting = tt;
       crash = tt;
@@ -268,10 +286,13 @@ returns-in-Drill-clause-ends g c =
           (λ s. absurd (subst Makes s e.among))
           (λ s. absurd (subst Makes s e.among))
           (λ s. absurd (subst Makes s e.among))
+          (λ s. absurd (subst Makes s e.among))
+          (λ s. absurd (subst Makes s e.among))
           (λ s. absurd (subst Makes s e.among));
       taken = λ takes. absurd takes;
       taken_fed = λ fed. absurd fed;
       chain = λ other. absurd other;
+      certified = λ s. tt;
       onward = tt;
       lasting = tt;
       crash = tt;
@@ -308,10 +329,13 @@ returns-in-Gossip-clause-ends g c =
           (λ s. absurd (subst Plays s e.among))
           (λ s. (e.too_long s, e.too_long_end s))
           (λ s. absurd (subst Plays s e.among))
+          (λ s. absurd (subst Plays s e.among))
+          (λ s. absurd (subst Plays s e.among))
           (λ s. absurd (subst Plays s e.among));
       taken = λ _. e.taken;
       taken_fed = λ fed. absurd fed;
       chain = if_all before _ (λ input other. absurd other);
+      certified = λ s. tt;
       onward = tt;
       lasting = tt;
       crash = tt;
@@ -349,6 +373,55 @@ returns-in-Export-clause-disk_first g c = first_of (Some c.args.job.now) (Some (
 pub returns-in-Gossip-clause-disk_first : goal.returns-in-Gossip-clause-disk_first
 returns-in-Gossip-clause-disk_first g c = first_of (Some c.args.job.now) (Some jobs.Gossip) (g.D.Disk.now c.args.disk.now).reads _ (ap Some c.in-Gossip.is) (λ fault. no_fault fault)
 
+pub returns-in-Certify-clause-ends : goal.returns-in-Certify-clause-ends
+returns-in-Certify-clause-ends g c =
+    let first = g.D.Disk.now c.args.disk.now in
+    let before = g.S.Source.left c.args.source.now in
+    let after = g.S.Source.left c.certify.new.source in
+    let old = g.K.Sink.taken c.args.sink.now in
+    let new = g.K.Sink.taken c.certify.new.sink in
+    let e = c.certify.ensures in
+    subst (λ (j : Job). JobEnds (Some j) first.reads before after old new first first c.certify.result) (sym c.in-Certify.is) record {
+      by = e.by first.reads;
+      taken = λ takes. absurd takes;
+      taken_fed = λ _. e.taken;
+      chain = if_all before _ (λ input other. absurd other);
+      certified = e.stands;
+      onward = tt;
+      lasting = tt;
+      crash = tt;
+    }
+
+pub returns-in-Certify-clause-disk_cause : goal.returns-in-Certify-clause-disk_cause
+returns-in-Certify-clause-disk_cause g c = λ s. absurd (subst CertifiesTo s c.certify.ensures.among)
+
+pub returns-in-Certify-clause-disk_first : goal.returns-in-Certify-clause-disk_first
+returns-in-Certify-clause-disk_first g c = first_of (Some c.args.job.now) (Some (jobs.Certify c.in-Certify.x c.in-Certify.y)) (g.D.Disk.now c.args.disk.now).reads _ (ap Some c.in-Certify.is) (λ fault. no_fault fault)
+
+pub returns-in-Check-clause-ends : goal.returns-in-Check-clause-ends
+returns-in-Check-clause-ends g c =
+    let first = g.D.Disk.now c.args.disk.now in
+    let before = g.S.Source.left c.args.source.now in
+    let after = g.S.Source.left c.check.new.source in
+    let old = g.K.Sink.taken c.args.sink.now in
+    let new = g.K.Sink.taken c.check.new.sink in
+    subst (λ (j : Job). JobEnds (Some j) first.reads before after old new first first c.check.result) (sym c.in-Check.is) record {
+      by = c.check.ensures.by first.reads;
+      taken = λ takes. absurd takes;
+      taken_fed = λ fed. absurd fed;
+      chain = if_all before _ (λ input other. absurd other);
+      certified = λ s. tt;
+      onward = tt;
+      lasting = tt;
+      crash = tt;
+    }
+
+pub returns-in-Check-clause-disk_cause : goal.returns-in-Check-clause-disk_cause
+returns-in-Check-clause-disk_cause g c = λ s. absurd (subst Checks s c.check.ensures.among)
+
+pub returns-in-Check-clause-disk_first : goal.returns-in-Check-clause-disk_first
+returns-in-Check-clause-disk_first g c = first_of (Some c.args.job.now) (Some jobs.Check) (g.D.Disk.now c.args.disk.now).reads _ (ap Some c.in-Check.is) (λ fault. no_fault fault)
+
 pub returns-in-Spend-clause-ends : goal.returns-in-Spend-clause-ends
 returns-in-Spend-clause-ends g c =
     let first = g.D.Disk.now c.args.disk.now in
@@ -362,6 +435,7 @@ returns-in-Spend-clause-ends g c =
       taken = λ takes. absurd takes;
       taken_fed = λ _. e.taken;
       chain = if_all before _ (λ input other. absurd other);
+      certified = λ s. tt;
       onward = tt;
       lasting = tt;
       crash = tt;
@@ -386,6 +460,7 @@ returns-in-Watch-clause-ends g c =
       taken = λ takes. absurd takes;
       taken_fed = λ _. e.taken;
       chain = if_all before _ (λ input other. absurd other);
+      certified = λ s. tt;
       onward = tt;
       lasting = tt;
       crash = tt;
