@@ -94,7 +94,7 @@ pairs_front front (ps ∷ back) order =
     }
 
 -- a pair that stands behind those of the first blocks has a later one
-behind_is_later : (xs more : List (ℕ × ℕ)) (n i : ℕ) (pair : ℕ × ℕ) → All (λ (pair : ℕ × ℕ). n ≤ pair.1) more → length xs ≤ i
+pub behind_is_later : (xs more : List (ℕ × ℕ)) (n i : ℕ) (pair : ℕ × ℕ) → All (λ (pair : ℕ × ℕ). n ≤ pair.1) more → length xs ≤ i
     → slice_get (xs ++ more) i ≡ Some pair → n ≤ pair.1
 behind_is_later [] more n i pair later le there =
     subst (λ (q : ℕ × ℕ). n ≤ q.1) (get_or_from_slice_get more i pair pair there) (later i pair (slice_get_within more i pair there))

@@ -78,7 +78,7 @@ unrelated-new table ps past order row =
     ∙ ap (λ (c : Bool). in_past (shape_of (table ++ ps ∷ [])) x (length table) || c) (past-no_new table ps x order inside)
     ∙ or_false (in_past (shape_of (table ++ ps ∷ [])) x (length table)) ∙ sym (row x inside)))
 
-flat_map_same : (f g : ℕ → List (ℕ × ℕ)) (a n : ℕ) → ((y : ℕ) → y < a + n → f y ≡ g y) → flat_map f (range_with_len a n) ≡ flat_map g (range_with_len a n)
+pub flat_map_same : (f g : ℕ → List (ℕ × ℕ)) (a n : ℕ) → ((y : ℕ) → y < a + n → f y ≡ g y) → flat_map f (range_with_len a n) ≡ flat_map g (range_with_len a n)
 flat_map_same f g a zero h = refl
 flat_map_same f g a (suc n) h =
     ap (λ (l : List (ℕ × ℕ)). l ++ flat_map f (range_with_len (a + 1) n)) (h a (omega arith))

@@ -11,5 +11,6 @@ pub mod Whole
 pub mod Lookup
 pub mod Ids
 pub mod Fronts
+pub mod Starts
 pub mod Ranked
 mod Cuts

@@ -8,7 +8,7 @@ use Rattle.std.proofs.lemmas.Option.{slice_get-get_or}
 use Rattle.sp_model.specs.Graph.{Block, IsGraph, IsDownset, AreDistinct, Rank, has, keys, parents_of, parents_or_none, rank_of, rank_or_least, complete, in_past, past, future, related}
 use Rattle.sp_model.specs.Agreement.{AreShapedAlike}
 use Rattle.sp_model.proofs.Shapes.{complete_alike, downset_alike, future_alike, in_past_alike, past_alike, related_alike}
-use Rattle.sp_dag.specs.Numbered.{Numbered, IsNumbered, AreInOrder, IsPair, blocks_from, graph_of, pairs_of, rank_at, unrelated_below, with_next}
+use Rattle.sp_dag.specs.Numbered.{Numbered, IsNumbered, AreInOrder, IsPair, blocks_from, graph_of, pairs_below, pairs_of, rank_at, unrelated_below, with_next}
 use Rattle.sp_dag.specs.Shapes.{no_rank, pairs_in, shape_of}
 use Rattle.sp_dag.proofs.Fronts as fronts
 use Rattle.sp_dag.proofs.Keys as shape
@@ -78,6 +78,10 @@ module _ (blocks : Numbered) where
 
   unrelated_shaped : (y : ℕ) → unrelated_below (graph_of blocks) y ≡ unrelated_below (shape_of blocks.parents) y
   unrelated_shaped y = λ k. filter (λ x. not (related_shaped x y k)) (range_with_len 0 y)
+
+  -- the pairs below a number
+  pub below_shaped : (n : ℕ) → pairs_below (graph_of blocks) n ≡ pairs_below (shape_of blocks.parents) n
+  below_shaped n = λ k. flat_map (λ y. map (λ x. (x, y)) (unrelated_shaped y k)) (range_with_len 0 n)
 
   pub pairs_shaped : pairs_of blocks ≡ pairs_in blocks.parents
   pairs_shaped = λ k. flat_map (λ y. map (λ x. (x, y)) (unrelated_shaped y k)) (range_with_len 0 (length blocks.parents))

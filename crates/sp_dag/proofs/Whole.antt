@@ -127,7 +127,7 @@ future_members table z w =
     there true e reached = refl
     there false e reached = absurd (false≢true (sym (in_past-absent (shape_of table) z w e) ∙ reached))
 
-All-filter_range : (P : ℕ → Type 0) (test : ℕ → Bool) (a n : ℕ) → ((k : ℕ) → a ≤ k → k < a + n → test k ≡ true → P k) → All P (filter test (range_with_len a n))
+pub All-filter_range : (P : ℕ → Type 0) (test : ℕ → Bool) (a n : ℕ) → ((k : ℕ) → a ≤ k → k < a + n → test k ≡ true → P k) → All P (filter test (range_with_len a n))
 All-filter_range P test a zero h = λ k d le. absurd (omega arith)
 All-filter_range P test a (suc n) h = at (test a) refl (All-filter_range P test (a + 1) n (λ k low high. h k (omega arith) (omega arith)))
   where
@@ -136,7 +136,7 @@ All-filter_range P test a (suc n) h = at (test a) refl (All-filter_range P test 
     at true e rest = All-cons P a (filter test (range_with_len (a + 1) n)) (h a (omega arith) (omega arith) e) rest
     at false e rest = rest
 
-All-flat_range : (P : ℕ × ℕ → Type 0) (f : ℕ → List (ℕ × ℕ)) (a n : ℕ) → ((y : ℕ) → a ≤ y → y < a + n → All P (f y)) → All P (flat_map f (range_with_len a n))
+pub All-flat_range : (P : ℕ × ℕ → Type 0) (f : ℕ → List (ℕ × ℕ)) (a n : ℕ) → ((y : ℕ) → a ≤ y → y < a + n → All P (f y)) → All P (flat_map f (range_with_len a n))
 All-flat_range P f a zero h = λ k d le. absurd (omega arith)
 All-flat_range P f a (suc n) h =
     All-append P (f a) (flat_map f (range_with_len (a + 1) n)) (h a (omega arith) (omega arith))

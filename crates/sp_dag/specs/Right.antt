@@ -2,7 +2,7 @@
 use Rattle.std.specs.Prelude.{ℕ, ◌≡◌, ◌<◌, ◌≤◌, ◌+◌, ◌*◌, true, List, [], length, Option, None, slice_index_or}
 use Rattle.sp_model.specs.Graph.{in_past}
 use Rattle.sp_bits.specs.Places.{places_where}
-use Rattle.sp_dag.specs.Numbered.{AreInOrder}
+use Rattle.sp_dag.specs.Numbered.{pairs_below, AreInOrder}
 use Rattle.sp_dag.specs.Shapes.{shape_of, pairs_in}
 use Rattle.sp_dag.specs.Indexed.{AreIndexed, index_at}
 
@@ -19,3 +19,8 @@ pub record AreRight (table pasts futures : List (List ℕ)) (pairs : List (ℕ �
   pub pairs_right : pairs ≡ pairs_in table
   pub indexed : AreIndexed pairs indices
   pub unlisted : (x y : ℕ) → x < y → y < length table → index_at indices x y ≡ None → in_past (shape_of table) x y ≡ true
+
+-- how many pairs there were before each block came, which is where its pairs begin
+pub record AreStarts (table : List (List ℕ)) (starts : List ℕ) : Type 0 where
+  pub long : length starts ≡ length table
+  pub right : (y : ℕ) → y < length table → slice_index_or starts y 0 ≡ length (pairs_below (shape_of table) y)

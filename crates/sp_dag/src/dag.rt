@@ -4,7 +4,7 @@ ghost use Rattle.std.specs.Prelude.{◌≡◌, ◌<◌, ◌≤◌, ◌∷◌, �
 ghost use Rattle.sp_model.specs.declared.profile.Profile.{Profile};
 ghost use Rattle.sp_model.specs.Graph.{has, in_past, keys, past, future, rank_of, related};
 ghost use Rattle.sp_model.specs.Votes.{settled_in};
-ghost use Rattle.sp_dag.specs.Numbered.{graph_of, cut_to, pairs_of, with_block, IsNumbered, IsPair};
+ghost use Rattle.sp_dag.specs.Numbered.{graph_of, cut_to, pairs_below, pairs_of, with_block, IsNumbered, IsPair};
 
 use crate::numbers::{Numbers, numbers_in};
 use crate::ranks::by_rank;
@@ -229,6 +229,19 @@ impl Dag {
         ensures bound { result ≤ 130816 }
     {
         self.table.pair_count()
+    }
+
+    /// Where the pairs begin whose higher number is n, and where they would stand if there are none; at
+    /// the number of blocks, how many pairs there are. Those of a block stand from here up to where
+    /// those of the next one begin. In a bounded number of steps.
+    pub fn first_pair(&self, n: u16) -> u32
+        requires { n ≤ length self.now.parents }
+        ensures value { result ≡ length (pairs_below (graph_of self.now) n) }
+        ensures from { (i x y : ℕ) → slice_get (pairs_of self.now) i ≡ Some (x, y) →
+            (result ≤ i) ↔ (n ≤ y) }
+        ensures within { result ≤ length (pairs_of self.now) }
+    {
+        self.table.first_pair(n)
     }
 
     /// An unrelated pair, the lower number first, in a bounded number of steps. Pairs stand by their higher number, and

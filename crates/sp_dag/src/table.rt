@@ -3,6 +3,7 @@
 
 ghost use Rattle.std.specs.Prelude.{◌≡◌, ◌<◌, ◌≤◌, ◌++◌, ◌∷◌, ◌||◌, ◌==◌, ◌↔◌, [], ℕ, length, All, IfOk, OnOk, OnErr, IfSome, IsNone, IsTrue, slice_get, Some, min, max, take, vec_capacity, vec_len};
 ghost use Rattle.sp_model.specs.Graph.{in_past, keys, past, future, related};
+ghost use Rattle.sp_dag.specs.Numbered.{pairs_below};
 ghost use Rattle.sp_dag.specs.Shapes.{shape_of, pairs_in, IsPairIn};
 
 use crate::indices::Indices;
@@ -21,6 +22,7 @@ pub(crate) struct Table {
     futures: Vec<Row>,
     pairs: Vec<(u16, u16)>,
     indices: Vec<Indices>,
+    starts: Vec<u32>,
 }
 
 // Written out, so that where a table is let go there is one call, and not one for each of its lists.
@@ -32,6 +34,7 @@ impl Drop for Table {
             futures: _,
             pairs: _,
             indices: _,
+            starts: _,
         } = self;
     }
 }
@@ -41,12 +44,13 @@ impl Model for Table {
 
     ghost Value = { List (List ℕ) };
 
-    ghost use Rattle.sp_dag.specs.Right.{AreRight};
+    ghost use Rattle.sp_dag.specs.Right.{AreRight, AreStarts};
 
     ghost view = { λ t. t.parents.items };
 
     ghost invariant = { λ t.
-        AreRight t.parents.items t.pasts.items t.futures.items t.pairs.items t.indices.items };
+        AreRight t.parents.items t.pasts.items t.futures.items t.pairs.items t.indices.items
+        × AreStarts t.parents.items t.starts.items };
 }
 
 // Makes room for one block more in each of these lists.
@@ -55,20 +59,24 @@ fn make_room(
     pasts: &mut Vec<Row>,
     futures: &mut Vec<Row>,
     indices: &mut Vec<Indices>,
+    starts: &mut Vec<u32>,
 ) -> Result<(), AllocError>
     ensures parents { parents.new.items ≡ parents.old.items }
     ensures pasts { pasts.new.items ≡ pasts.old.items }
     ensures futures { futures.new.items ≡ futures.old.items }
     ensures indices { indices.new.items ≡ indices.old.items }
+    ensures starts { starts.new.items ≡ starts.old.items }
     ensures room { OnOk result ((vec_len parents.new < vec_capacity parents.new)
         × (vec_len pasts.new < vec_capacity pasts.new)
         × (vec_len futures.new < vec_capacity futures.new)
-        × (vec_len indices.new < vec_capacity indices.new)) }
+        × (vec_len indices.new < vec_capacity indices.new)
+        × (vec_len starts.new < vec_capacity starts.new)) }
 {
     parents.reserve(1)?;
     pasts.reserve(1)?;
     futures.reserve(1)?;
-    indices.reserve(1)
+    indices.reserve(1)?;
+    starts.reserve(1)
 }
 
 impl Table {
@@ -82,6 +90,7 @@ impl Table {
             futures: Vec::new(alloc),
             pairs: Vec::new(alloc),
             indices: Vec::new(alloc),
+            starts: Vec::new(alloc),
         }
     }
 
@@ -99,16 +108,19 @@ impl Table {
             &mut self.pasts,
             &mut self.futures,
             &mut self.indices,
+            &mut self.starts,
         )?;
         self.pairs.reserve(count)?;
         let mut indices = Vec::with_capacity(alloc, count)?;
         let number = count as u16;
         let past = row_of(&self.pasts, parents.as_slice());
+        let start = self.pairs.len() as u32;
         push_unrelated(&mut self.pairs, &mut indices, &past, number);
         set_in_futures(&mut self.futures, &past, number);
         self.futures.push_reserved(Row::empty());
         self.pasts.push_reserved(past);
         self.indices.push_reserved(Indices::of(indices));
+        self.starts.push_reserved(start);
         self.parents.push_reserved(parents);
         Ok(number)
     }
@@ -124,6 +136,7 @@ impl Table {
         self.pasts.truncate(len);
         self.futures.truncate(len);
         self.indices.truncate(len);
+        self.starts.truncate(len);
         self.pairs.truncate(pairs);
         cut_futures(&mut self.futures, count);
     }
@@ -162,6 +175,18 @@ impl Table {
         ensures bound { result ≤ 130816 }
     {
         self.pairs.len() as u32
+    }
+
+    // Where the pairs of a block begin, and at the number of blocks, how many there are.
+    pub(crate) fn first_pair(&self, number: u16) -> u32
+        requires { number ≤ length self.now }
+        ensures { result ≡ length (pairs_below (shape_of self.now) number) }
+    {
+        if (number as usize) < self.starts.len() {
+            self.starts[number as usize]
+        } else {
+            self.pairs.len() as u32
+        }
     }
 
     pub(crate) fn pair(&self, index: u32) -> (u16, u16)

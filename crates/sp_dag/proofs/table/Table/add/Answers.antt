@@ -1,5 +1,7 @@
 use Rattle.std.proofs.Common.{◌≡◌, ◌∙◌, ◌++◌, ◌∷◌, [], ap, refl, List, ℕ, Option, length, arith}
 use Rattle.sp_dag.proofs.Adds.{AreBefore-all, Adds-read, AreRight-push, AreRight-same}
+use Rattle.sp_dag.specs.Shapes.{pairs_in}
+use Rattle.sp_dag.proofs.Starts.{AreStarts-push, AreStarts-same}
 use Rattle.sp_dag.proofs.table.Table.add.Goals as goal
 
 pub invariant_of-self-2 : goal.invariant_of-self-2
@@ -15,17 +17,24 @@ invariant_of-self-2 c =
     let number : c.len-count.result ≡ length table = omega (arith, c.len-count.ensures, c.self.inside.parents.ok.0) in
     let long : length later ≡ c.len-count.result = omega (arith, c.set_in_futures.ensures.len, c.set_in_futures.new.futures.ok.0) in
     let view : length table ≡ length c.args.self.now = ap length c.self.view_is in
+    let start : c.len-start.result ≡ length (pairs_in table) =
+    omega (arith, c.len-start.ensures, c.reserve.new.self.ok.0, ap length c.reserve.ensures.items, ap length c.self.invariant.0.pairs_right) in
     let adds =
     Adds-read table pasts futures pairs c.args.parents past later c.push_unrelated.new.pairs.items row c.len-count.result c.deref.result.now
     c.make_room.new.futures.items c.reserve.new.self.items c.as_slice.result.now number (c.deref.ensures.value ∙ c.make_room.ensures.pasts)
     c.make_room.ensures.futures c.reserve.ensures.items c.as_slice.ensures (omega (arith, view, c.requires.room))
     (AreBefore-all (length table) c.args.parents (λ k d le. omega (arith, view, c.requires.before k d le))) c.row_of-past.ensures
     c.push_unrelated.ensures.pairs c.push_unrelated.ensures.indices long c.set_in_futures.ensures.rows in
-    let right = AreRight-push table pasts futures pairs indices c.args.parents past later c.push_unrelated.new.pairs.items row c.self.invariant adds in
-    AreRight-same (table ++ c.args.parents ∷ []) c.push_reserved-4.new.self.items (pasts ++ past ∷ []) c.push_reserved-2.new.self.items (later ++ [] ∷ [])
-    c.push_reserved.new.self.items c.push_unrelated.new.pairs.items c.push_unrelated.new.pairs.items (indices ++ row ∷ []) c.push_reserved-3.new.self.items
-    (c.push_reserved-4.ensures.items ∙ ap (λ (l : List (List ℕ)). l ++ c.args.parents ∷ []) c.make_room.ensures.parents)
-    (c.push_reserved-2.ensures.items ∙ ap (λ (l : List (List ℕ)). l ++ past ∷ []) c.make_room.ensures.pasts)
-    (c.push_reserved.ensures.items ∙ ap (λ (r : List ℕ). later ++ r ∷ []) c.empty.ensures) refl
-    (c.push_reserved-3.ensures.items ∙ ap (λ (l : List (List (Option ℕ))). l ++ c.of.result ∷ []) c.make_room.ensures.indices
-    ∙ ap (λ (r : List (Option ℕ)). indices ++ r ∷ []) c.of.ensures) right
+    let right = AreRight-push table pasts futures pairs indices c.args.parents past later c.push_unrelated.new.pairs.items row c.self.invariant.0 adds in (
+      AreRight-same (table ++ c.args.parents ∷ []) c.push_reserved-5.new.self.items (pasts ++ past ∷ []) c.push_reserved-2.new.self.items (later ++ [] ∷ [])
+          c.push_reserved.new.self.items c.push_unrelated.new.pairs.items c.push_unrelated.new.pairs.items (indices ++ row ∷ []) c.push_reserved-3.new.self.items
+          (c.push_reserved-5.ensures.items ∙ ap (λ (l : List (List ℕ)). l ++ c.args.parents ∷ []) c.make_room.ensures.parents)
+          (c.push_reserved-2.ensures.items ∙ ap (λ (l : List (List ℕ)). l ++ past ∷ []) c.make_room.ensures.pasts)
+          (c.push_reserved.ensures.items ∙ ap (λ (r : List ℕ). later ++ r ∷ []) c.empty.ensures) refl
+          (c.push_reserved-3.ensures.items ∙ ap (λ (l : List (List (Option ℕ))). l ++ c.of.result ∷ []) c.make_room.ensures.indices
+          ∙ ap (λ (r : List (Option ℕ)). indices ++ r ∷ []) c.of.ensures) right,
+      AreStarts-same (table ++ c.args.parents ∷ []) c.push_reserved-5.new.self.items (c.self.inside.starts.items ++ c.len-start.result ∷ []) c.push_reserved-4.new.self.items
+          (c.push_reserved-5.ensures.items ∙ ap (λ (l : List (List ℕ)). l ++ c.args.parents ∷ []) c.make_room.ensures.parents)
+          (c.push_reserved-4.ensures.items ∙ ap (λ (l : List ℕ). l ++ c.len-start.result ∷ []) c.make_room.ensures.starts)
+          (AreStarts-push table c.self.inside.starts.items c.args.parents c.len-start.result c.self.invariant.0.order c.self.invariant.1 start),
+    )

@@ -2,6 +2,7 @@ use Rattle.std.proofs.Common.{◌≡◌, ◌∙◌, ◌≤◌, ap, refl, get_or,
 use Rattle.sp_bits.specs.Places.{members_below}
 use Rattle.sp_dag.proofs.Adds.{AreRight-same}
 use Rattle.sp_dag.proofs.Cuts.{AreRight-take}
+use Rattle.sp_dag.proofs.Starts.{AreStarts-same, AreStarts-take}
 use Rattle.sp_dag.proofs.table.Table.cut.Goals as goal
 
 pub invariant_of-self : goal.invariant_of-self
@@ -17,10 +18,13 @@ invariant_of-self c =
     let within : n ≤ length table = omega (arith, ap length c.self.view_is, c.requires) in
     let kept : length c.truncate-3.new.self.items ≡ length (take n futures) = ap length c.truncate-3.ensures.items in
     let long : length later ≡ length (take n futures) =
-    omega (arith, kept, c.cut_futures.ensures.len, c.cut_futures.new.futures.ok.0, c.truncate-3.new.self.ok.0) in
-    AreRight-same (take n table) c.truncate.new.self.items (take n pasts) c.truncate-2.new.self.items later later (take left pairs) c.truncate-5.new.self.items
-    (take n indices) c.truncate-4.new.self.items c.truncate.ensures.items c.truncate-2.ensures.items refl c.truncate-5.ensures.items c.truncate-4.ensures.items
-    (AreRight-take table pasts futures later pairs c.deref.result.now indices n left c.self.invariant within c.deref.ensures.value c.pairs_below-pairs.ensures.within
-    c.pairs_below-pairs.ensures.last c.pairs_below-pairs.ensures.others long
-    (λ a at. c.cut_futures.ensures.rows a (omega (arith, at, kept, c.truncate-3.new.self.ok.0))
-    ∙ ap (λ (l : List (List ℕ)). members_below (get_or l a []) n) c.truncate-3.ensures.items))
+    omega (arith, kept, c.cut_futures.ensures.len, c.cut_futures.new.futures.ok.0, c.truncate-3.new.self.ok.0) in (
+      AreRight-same (take n table) c.truncate.new.self.items (take n pasts) c.truncate-2.new.self.items later later (take left pairs) c.truncate-6.new.self.items
+          (take n indices) c.truncate-4.new.self.items c.truncate.ensures.items c.truncate-2.ensures.items refl c.truncate-6.ensures.items c.truncate-4.ensures.items
+          (AreRight-take table pasts futures later pairs c.deref.result.now indices n left c.self.invariant.0 within c.deref.ensures.value c.pairs_below-pairs.ensures.within
+          c.pairs_below-pairs.ensures.last c.pairs_below-pairs.ensures.others long
+          (λ a at. c.cut_futures.ensures.rows a (omega (arith, at, kept, c.truncate-3.new.self.ok.0))
+          ∙ ap (λ (l : List (List ℕ)). members_below (get_or l a []) n) c.truncate-3.ensures.items)),
+      AreStarts-same (take n table) c.truncate.new.self.items (take n c.self.inside.starts.items) c.truncate-5.new.self.items c.truncate.ensures.items
+          c.truncate-5.ensures.items (AreStarts-take table c.self.inside.starts.items n c.self.invariant.0.order within c.self.invariant.1),
+    )

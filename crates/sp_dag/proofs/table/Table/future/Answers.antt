@@ -10,7 +10,7 @@ returns c =
     let table = c.self.inside.parents.items in
     let view : length table ≡ length c.args.self.now = ap length c.self.view_is in
     let within : c.args.number < length table = omega (arith, view, c.requires) in
-    let inside : c.args.number < length c.self.inside.futures.items = omega (arith, within, c.self.invariant.futures_long) in
+    let inside : c.args.number < length c.self.inside.futures.items = omega (arith, within, c.self.invariant.0.futures_long) in
     c.index.ensures ∙ get_or_default c.self.inside.futures.items c.args.number c.index.result.now [] inside
-    ∙ c.self.invariant.futures_right c.args.number within ∙ future_row table c.args.number c.self.invariant.small
+    ∙ c.self.invariant.0.futures_right c.args.number within ∙ future_row table c.args.number c.self.invariant.0.small
     ∙ ap (λ (t : List (List ℕ)). future (shape_of t) (keys (shape_of t)) c.args.number) c.self.view_is

@@ -10,7 +10,7 @@ returns c =
     let table = c.self.inside.parents.items in
     let view : length table ≡ length c.args.self.now = ap length c.self.view_is in
     let within : c.args.number < length table = omega (arith, view, c.requires) in
-    let inside : c.args.number < length c.self.inside.pasts.items = omega (arith, within, c.self.invariant.pasts_long) in
+    let inside : c.args.number < length c.self.inside.pasts.items = omega (arith, within, c.self.invariant.0.pasts_long) in
     c.index.ensures ∙ get_or_default c.self.inside.pasts.items c.args.number c.index.result.now [] inside
-    ∙ c.self.invariant.pasts_right c.args.number within ∙ past_row table c.args.number c.self.invariant.order c.self.invariant.small within
+    ∙ c.self.invariant.0.pasts_right c.args.number within ∙ past_row table c.args.number c.self.invariant.0.order c.self.invariant.0.small within
     ∙ ap (λ (t : List (List ℕ)). past (shape_of t) c.args.number) c.self.view_is
