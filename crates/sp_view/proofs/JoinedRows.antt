@@ -1,20 +1,16 @@
 -- A block that joins a set: which loose voters of a pair are asked anew, and which are kept.
-use Rattle.std.proofs.Common.{◌≡◌, ◌≢◌, ℕ, zero, suc, ◌<◌, Bool, true, false, cond, ◌&&◌, List, [], refl, sym, ap, ◌∙◌, eqb, arith}
+use Rattle.std.proofs.Common.{◌≡◌, ◌≢◌, ℕ, zero, suc, ◌<◌, Bool, true, false, cond, ◌&&◌, List, [], refl, sym, ap, ◌∙◌, eqb}
 use Rattle.std.specs.Prelude.{not, ℤ, pos, negsuc, filter}
-use Rattle.std.proofs.lemmas.Int.{ints}
-use Rattle.std.proofs.lemmas.Bool.{false≢true, eqb-true, eq-eqb, and_parts, not-true}
+use Rattle.std.proofs.lemmas.Bool.{false≢true, eqb-true, eq-eqb, and_parts}
 use Rattle.sp_bits.specs.Places.{places_where, difference, IsRow}
 use Rattle.sp_bits.specs.Members.{has-filter}
 use Rattle.sp_bits.proofs.Sets.{places_same}
-use Rattle.sp_model.specs.Graph.{Graph, has, keys, in_past, IsDownset}
-use Rattle.sp_model.specs.Votes.{sgn, vote}
+use Rattle.sp_model.specs.Graph.{Graph, has, in_past}
+use Rattle.sp_model.specs.Votes.{vote}
 use Rattle.sp_model.specs.Loose.{is_loose, is_plus, is_minus}
 use Rattle.sp_model.specs.Joining.{Joins}
-use Rattle.sp_model.proofs.Loose.{frozen_same, vote_sign}
-use Rattle.sp_model.proofs.Joined.{apart_stays, agreeing_stays, tie_stays, loose_joins}
-use Rattle.sp_model.proofs.Pasts.{complete_key}
+use Rattle.sp_model.proofs.Joined.{apart_stays, agreeing_stays, tie_stays}
 use Rattle.sp_model.proofs.Sets.{same_truth}
-use Rattle.sp_frozen.specs.Voters.{AreFrozen}
 use Rattle.sp_view.specs.Settled.{AreKept, AreOpen, AreSides, IsAsked}
 use Rattle.sp_bits.proofs.RowSets.{row_small}
 use Rattle.sp_bits.proofs.RowSets.{has_places, has_difference, filter_row}
@@ -47,13 +43,6 @@ minus_one (negsuc zero) h = refl
 minus_one (negsuc (suc n)) h = absurd (false≢true h)
 minus_one (pos zero) h = absurd (false≢true h)
 minus_one (pos (suc n)) h = absurd (false≢true h)
-
-zero_sign : (v : ℤ) → sgn v ≡ v → is_plus v ≡ false → is_minus v ≡ false → v ≡ pos 0
-zero_sign (negsuc zero) e p m = absurd (false≢true (sym m))
-zero_sign (negsuc (suc n)) e p m = (let s : negsuc 0 ≡ negsuc (suc n) = e in absurd (omega (arith, ints)))
-zero_sign (pos zero) e p m = refl
-zero_sign (pos (suc zero)) e p m = absurd (false≢true (sym p))
-zero_sign (pos (suc (suc n))) e p m = (let s : pos 1 ≡ pos (suc (suc n)) = e in absurd (omega (arith, ints)))
 
 -- ---- an old pair
 
@@ -134,56 +123,25 @@ module _ (g : Graph) (b : ℕ) (s t : List ℕ) (x y : ℕ) (j : Joins g b s t) 
 
 -- ---- what of the pair's rows is known where a block joins
 
-module _ (g : Graph) (b : ℕ) (s t : List ℕ) (x y : ℕ) (frozen_plus frozen_minus ups downs : List ℕ)
-    (whole : IsDownset g (keys g)) (j : Joins g b s t) (other : x ≢ y) (row : IsRow s) (asked : IsAsked g t)
-    (frozen : AreFrozen g t x y frozen_plus frozen_minus) (sides : AreSides g s x y ups downs) where
-  b_key : has (keys g) b ≡ true
-  b_key = complete_key g b (j.more_down.all_complete b j.there)
-
-  -- the vote of the block that joins, by the frozen rows
-  pub frozen_parts : (votes : ℤ → Bool) (side : List ℕ) → ((z : ℕ) → has t z ≡ true → has side z ≡ (not (is_loose g z x y) && votes (vote g (keys g) z x y)))
-      → has side b ≡ true → (is_loose g b x y ≡ false) × (votes (vote g t b x y) ≡ true)
-  frozen_parts votes side is h =
-      let inner : (not (is_loose g b x y) ≡ true) × (votes (vote g (keys g) b x y) ≡ true) = and_parts (not (is_loose g b x y)) (votes (vote g (keys g) b x y)) (sym (is b j.there) ∙ h) in
-      let bound : is_loose g b x y ≡ false = not-true (is_loose g b x y) inner.0 in
-      (bound, ap votes (sym (frozen_same g (keys g) t b x y whole j.more_down b_key j.there bound)) ∙ inner.1)
-
-  pub tie_votes : has frozen_plus b ≡ false → has frozen_minus b ≡ false → vote g t b x y ≡ pos 0
-  tie_votes p m = at (is_loose g b x y) refl
-    where
-      off : (votes : ℤ → Bool) (side : List ℕ) → ((z : ℕ) → has t z ≡ true → has side z ≡ (not (is_loose g z x y) && votes (vote g (keys g) z x y)))
-          → is_loose g b x y ≡ false → has side b ≡ false → votes (vote g t b x y) ≡ false
-      off votes side is bound h =
-          ap votes (sym (frozen_same g (keys g) t b x y whole j.more_down b_key j.there bound))
-          ∙ sym (is b j.there ∙ rw bound refl) ∙ h
-
-      at : (l : Bool) → is_loose g b x y ≡ l → vote g t b x y ≡ pos 0
-      at true e = loose_joins g b s t j x y e
-      at false e = zero_sign (vote g t b x y) (vote_sign g t b x y j.more_down j.there) (off is_plus frozen_plus frozen.plus_is e p) (off is_minus frozen_minus frozen.minus_is e m)
-
+module _ (g : Graph) (b : ℕ) (s t : List ℕ) (x y : ℕ) (ups downs : List ℕ) (j : Joins g b s t) (other : x ≢ y) (row : IsRow s) (asked : IsAsked g t)
+    (sides : AreSides g s x y ups downs) where
   -- the block votes for neither: the rows are those before
-  pub tie_sides : has frozen_plus b ≡ false → has frozen_minus b ≡ false → AreSides g t x y ups downs
-  tie_sides p m = record {
-    plus_is = sides.plus_is ∙ tie_side g b s t x y j other is_plus refl (tie_votes p m) row asked.row;
-    minus_is = sides.minus_is ∙ tie_side g b s t x y j other is_minus refl (tie_votes p m) row asked.row;
+  pub tie_sides : vote g t b x y ≡ pos 0 → AreSides g t x y ups downs
+  tie_sides tie = record {
+    plus_is = sides.plus_is ∙ tie_side g b s t x y j other is_plus refl tie row asked.row;
+    minus_is = sides.minus_is ∙ tie_side g b s t x y j other is_minus refl tie row asked.row;
   }
 
-  -- each voter of a side votes as the block that joins, where that side is the block's
-  pub agreeing_plus : has frozen_plus b ≡ true → (z : ℕ) → has s z ≡ true → has ups z ≡ true → vote g s z x y ≡ vote g t b x y
-  agreeing_plus h z member there =
-      plus_one (vote g s z x y) (and_parts (is_loose g z x y) (is_plus (vote g s z x y)) (and_parts (has s z) (is_loose g z x y && is_plus (vote g s z x y)) (sym (has-filter (λ z. is_loose g z x y && is_plus (vote g s z x y)) s z) ∙ ap (λ (l : List ℕ). has l z) (sym sides.plus_is) ∙ there)).1).1
-      ∙ sym (plus_one (vote g t b x y) (frozen_parts is_plus frozen_plus frozen.plus_is h).1)
+  -- the votes of one side
+  side_votes : (votes : ℤ → Bool) (side : List ℕ) → side ≡ filter (λ z. is_loose g z x y && votes (vote g s z x y)) s → (z : ℕ) → has side z ≡ true → votes (vote g s z x y) ≡ true
+  side_votes votes side is z there =
+      (and_parts (is_loose g z x y) (votes (vote g s z x y))
+      (and_parts (has s z) (is_loose g z x y && votes (vote g s z x y)) (sym (has-filter (λ z. is_loose g z x y && votes (vote g s z x y)) s z) ∙ ap (λ (l : List ℕ). has l z) (sym is) ∙ there)).1).1
 
-  pub agreeing_minus : has frozen_minus b ≡ true → (z : ℕ) → has s z ≡ true → has downs z ≡ true → vote g s z x y ≡ vote g t b x y
-  agreeing_minus h z member there =
-      minus_one (vote g s z x y) (and_parts (is_loose g z x y) (is_minus (vote g s z x y)) (and_parts (has s z) (is_loose g z x y && is_minus (vote g s z x y)) (sym (has-filter (λ z. is_loose g z x y && is_minus (vote g s z x y)) s z) ∙ ap (λ (l : List ℕ). has l z) (sym sides.minus_is) ∙ there)).1).1
-      ∙ sym (minus_one (vote g t b x y) (frozen_parts is_minus frozen_minus frozen.minus_is h).1)
-
-  -- the block is frozen, and each voter of its own side votes as it does
-  pub agreeing_side : (up : Bool) → has frozen_plus b ≡ up → (up ≡ false → has frozen_minus b ≡ true)
-      → (is_loose g b x y ≡ false) × ((z : ℕ) → has s z ≡ true → has (cond up ups downs) z ≡ true → vote g s z x y ≡ vote g t b x y)
-  agreeing_side true h k = ((frozen_parts is_plus frozen_plus frozen.plus_is h).0, agreeing_plus h)
-  agreeing_side false h k = ((frozen_parts is_minus frozen_minus frozen.minus_is (k refl)).0, agreeing_minus (k refl))
+  -- each voter of the side that the block votes for votes as it does
+  pub agreeing_side : (up : Bool) → vote g t b x y ≡ cond up (pos 1) (negsuc 0) → (z : ℕ) → has s z ≡ true → has (cond up ups downs) z ≡ true → vote g s z x y ≡ vote g t b x y
+  agreeing_side true is z member there = plus_one (vote g s z x y) (side_votes is_plus ups sides.plus_is z there) ∙ sym is
+  agreeing_side false is z member there = minus_one (vote g s z x y) (side_votes is_minus downs sides.minus_is z there) ∙ sym is
 
   -- what is kept of both rows, where the voters of `agree` vote as the block that joins
   pub joined_kept : (agree todo : List ℕ) → is_loose g b x y ≡ false
@@ -202,28 +160,6 @@ module _ (g : Graph) (b : ℕ) (s t : List ℕ) (x y : ℕ) (frozen_plus frozen_
       small : (votes : ℤ → Bool) (side : List ℕ) → side ≡ filter (λ z. is_loose g z x y && votes (vote g s z x y)) s → (z : ℕ) → has side z ≡ true → z < 512
       small votes side is z h =
           row_small s z row (and_parts (has s z) (is_loose g z x y && votes (vote g s z x y)) (sym (has-filter (λ z. is_loose g z x y && votes (vote g s z x y)) s z) ∙ ap (λ (l : List ℕ). has l z) (sym is) ∙ h)).0
-
-  -- the block votes for neither: nothing is asked, and what is kept is all
-  pub tie_kept : has frozen_plus b ≡ false → has frozen_minus b ≡ false → AreKept g t x y (has []) (difference ups []) (difference downs [])
-  tie_kept p m =
-      let stay : AreSides g t x y ups downs = tie_sides p m in
-      record {
-        plus_is = λ z. side is_plus ups stay.plus_is z;
-        minus_is = λ z. side is_minus downs stay.minus_is z;
-      }
-    where
-      side : (votes : ℤ → Bool) (row : List ℕ) → row ≡ filter (λ z. is_loose g z x y && votes (vote g t z x y)) t → (z : ℕ)
-          → has (difference row []) z ≡ (has t z && (is_loose g z x y && (not (has [] z) && votes (vote g t z x y))))
-      side votes row is z =
-          has_difference row [] z (λ h. row_small t z asked.row (and_parts (has t z) (is_loose g z x y && votes (vote g t z x y)) (sym (at z) ∙ h)).0)
-          ∙ all (has row z) ∙ at z
-        where
-          all : (a : Bool) → (a && true) ≡ a
-          all true = refl
-          all false = refl
-
-          at : (z : ℕ) → has row z ≡ (has t z && (is_loose g z x y && votes (vote g t z x y)))
-          at z = ap (λ (l : List ℕ). has l z) is ∙ has-filter (λ z. is_loose g z x y && votes (vote g t z x y)) t z
 
 module _ (g : Graph) (s t : List ℕ) (x y : ℕ) (ups downs : List ℕ) (row : IsRow s) (asked : IsAsked g t) (sides : AreSides g s x y ups downs) where
   -- where none is asked anew, the rows are those before

@@ -33,3 +33,8 @@ pub mod Changes
 pub mod Listing
 pub mod JoinedSums
 pub mod KeptSums
+pub mod SoFar
+pub mod JoinedVotes
+pub mod Genesis
+pub mod Turning
+pub mod Idling

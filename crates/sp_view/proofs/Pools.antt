@@ -6,7 +6,7 @@ use Rattle.std.proofs.lemmas.List.{take_at}
 use Rattle.std.specs.Prelude.{replicate, drop}
 use Rattle.sp_bits.specs.Places.{places_where}
 use Rattle.sp_bits.specs.Words.{bit_in}
-use Rattle.sp_rows.specs.Pool.{Pool, Counted, words_of, with_row, without_row, with_count, with_words, taken, given, overwritten, AreRows}
+use Rattle.sp_rows.specs.Pool.{Pool, Counted, words_of, without_row, with_count, with_words, taken, given, overwritten, AreRows}
 use Rattle.sp_rows.specs.Pool as counted
 use Rattle.sp_rows.proofs.LiveRows.{count_of-with_row, words_of-with_row, count_of-without_row, words_of-without_row, length-with_row_new, length-with_row_live, length-without_row}
 use Rattle.sp_view.specs.Stored.{count_of, row_of, live, spare}

@@ -7,5 +7,8 @@ pub mod Changed
 pub mod Moving
 pub mod Sums
 pub mod Summed
+pub mod Gained
+pub mod Idle
 pub mod Ends
 pub mod Adding
+pub mod SoFar

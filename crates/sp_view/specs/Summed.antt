@@ -1,7 +1,6 @@
 -- Sums of votes that are kept beside a view, by the numbers of the pairs.
 use Rattle.std.specs.Prelude.{ℕ, true, ◌≡◌, ◌≢◌, ◌<◌, List, length, ℤ, Option, Some, slice_get, IfSome}
 use Rattle.sp_model.specs.Graph.{Graph}
-use Rattle.sp_model.specs.Loose.{plus, minus}
 use Rattle.sp_model.specs.Votes.{sgn}
 use Rattle.sp_dag.specs.Numbered.{Numbered, graph_of, pairs_of}
 use Rattle.sp_view.specs.Changed.{is_inside}
@@ -23,12 +22,6 @@ AreForAll table set sums = (i x y : ℕ) → slice_get (pairs_of table) i ≡ So
 pub record AreSums (table : Numbered) (set : List ℕ) (sums : List ℤ) : Type 0 where
   pub right : AreRight table set sums
   pub long : AreForAll table set sums
-
--- a pair inside a set has the same loose voters of each side in a larger one
-pub record IsStill (g : Graph) (set more : List ℕ) (x y : ℕ) : Type 0 where
-  pub inside : is_inside set (x, y) ≡ true
-  pub plus_is : plus g set x y ≡ plus g more x y
-  pub minus_is : minus g set x y ≡ minus g more x y
 
 -- there is a sum before and one after, of other signs
 abbrev pub HasTurned : Option ℤ → Option ℤ → Type 0

@@ -1,21 +1,20 @@
 //! Which votes on a pair a block that joins the set asks anew: those of the loose voters in its past
-//! that don't vote as it does. Where it votes for neither, or where there are none, the pair stays as it is.
+//! that don't vote as it does. Where there are none, the pair stays as it is.
 
-ghost use Rattle.std.specs.Prelude.{◌≡◌, ◌<◌, ◌≤◌, ◌&&◌, ◌↔◌, [], ℕ, List, length, IsTrue, if◌then◌else◌, slice_get, Some};
+ghost use Rattle.std.specs.Prelude.{◌≡◌, ◌<◌, ◌≤◌, ◌&&◌, ◌↔◌, [], ℕ, List, length, IsTrue, if◌then◌else◌, slice_get, Some, pos, negsuc};
 ghost use Rattle.sp_bits.specs.Places.{difference, IsRow};
 ghost use Rattle.sp_model.specs.Graph.{has};
 ghost use Rattle.sp_model.specs.Joining.{Joins};
+ghost use Rattle.sp_model.specs.Votes.{vote};
 ghost use Rattle.sp_dag.specs.Numbered.{graph_of, pairs_of};
 ghost use Rattle.sp_view.specs.Stored.{count_of, row_of};
-ghost use Rattle.sp_view.specs.Settled.{AreKept, AreOpen, AreSides};
-ghost use Rattle.sp_view.specs.Voting.{IsVoting};
+ghost use Rattle.sp_view.specs.Settled.{AreKept, AreOpen, AreSides, IsAsked};
 ghost use Rattle.sp_view.specs.Views.{holds, entry_at};
 
 use crate::pair_rows::open_voters;
 use crate::stored::{RowName, row_at};
 use sp_bits::Row;
 use sp_dag::Dag;
-use sp_frozen::Frozen;
 use sp_rows::RowPool;
 
 // The row of a pair's voters of +1, or that of those of -1.
@@ -37,21 +36,21 @@ pub(crate) fn is_none(row: &Row) -> bool
     row.highest().is_none()
 }
 
-// The voters of an old pair whose votes are asked anew when block `b` joins. Where there are none, the
-// pair stays as it is.
+// The voters of an old pair whose votes are asked anew when block `b` joins, which votes +1 on it, or else -1. Where
+// there are none, the pair stays as it is.
 pub(crate) fn asked(
     dag: &Dag,
-    frozen: &Frozen,
     pool: &RowPool,
     members: &Row,
     b: u16,
     pair: u32,
     entry: &(RowName, RowName),
+    up: bool,
 ) -> Row
-    requires voting { IsVoting dag.now frozen.now members.now }
+    requires asked { IsAsked (graph_of dag.now) members.now }
+    requires below { b < length dag.now.parents }
     requires joined { IsTrue (has members.now b) }
     requires listed { pair < length (pairs_of dag.now) }
-    requires inside { pair < length frozen.now.pluses }
     requires live { (r : ℕ) → holds (Some entry.now) r ≤ count_of pool.now r }
     ensures within { (z : ℕ) → IsTrue (has result z) → IsTrue (has members.now z) }
     ensures kept { (before : List ℕ) (x y : ℕ) →
@@ -59,6 +58,7 @@ pub(crate) fn asked(
         Joins (graph_of dag.now) b before members.now → IsRow before →
         AreSides (graph_of dag.now) before x y
         (row_of pool.now entry.now.0) (row_of pool.now entry.now.1) →
+        vote (graph_of dag.now) members.now b x y ≡ (if up then pos 1 else negsuc 0) →
         AreOpen (graph_of dag.now) members.now x y (has result)
         × AreKept (graph_of dag.now) members.now x y (has result)
         (difference (row_of pool.now entry.now.0) result)
@@ -66,10 +66,6 @@ pub(crate) fn asked(
 {
     // Tells the proof that there are at most 512 blocks, in order.
     let _blocks = dag.len();
-    let up = frozen.plus(pair).test(b);
-    if !up && !frozen.minus(pair).test(b) {
-        return Row::empty();
-    }
     let (x, y) = dag.pair(pair);
     let agree = side_of(pool, entry, up);
     open_voters(dag, &agree, x, y, b)

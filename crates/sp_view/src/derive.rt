@@ -1,15 +1,13 @@
-//! The entries of a view of a set, from those of a view within it, in one pass over the pairs. An old
-//! pair of which no vote is asked shares both rows as they stand; none is made anew and compared.
+//! The entry of a pair in a view of a set, from that in a view within it. An old pair of which no vote
+//! is asked shares both rows as they stand; none is made anew and compared.
 
-ghost use Rattle.std.specs.Prelude.{◌≡◌, ◌≢◌, ◌<◌, ◌≤◌, ◌+◌, ◌-◌, ◌^◌, ◌==◌, ℕ, [], length, IfOk, OnOk, OnErr, if◌then◌else◌, slice_get, None, Some, vec_capacity};
+ghost use Rattle.std.specs.Prelude.{◌≡◌, ◌≢◌, ◌<◌, ◌≤◌, ◌+◌, ◌-◌, ◌^◌, ◌==◌, ℕ, length, IfOk, OnErr, if◌then◌else◌, slice_get, None, Some};
 ghost use Rattle.sp_dag.specs.Numbered.{graph_of, pairs_of};
 ghost use Rattle.sp_view.specs.Stored.{count_of, row_of, spare, live};
 ghost use Rattle.sp_view.specs.Voting.{IsGrown, IsVoting};
-ghost use Rattle.sp_view.specs.Views.{holds, held, moved_of, AreEntries, AreKeptIds, IsEntry, IsOnce, KeepIds};
-ghost use Rattle.sp_view.specs.Ends.{NoneFrom};
-ghost use Rattle.sp_view.specs.Moving.{moved_rows};
+ghost use Rattle.sp_view.specs.Views.{holds, moved_of, IsEntry, IsOnce, KeepIds};
 
-use crate::asking::{entry_of, has_both, is_none};
+use crate::asking::{has_both, is_none};
 use crate::entries::{are_same, asked_rows};
 use crate::missing::asked_by_growth;
 use crate::pair_rows::{Sides, new_rows};
@@ -154,7 +152,7 @@ fn brought_entry(
 }
 
 // The entry of a pair in the view of the set, from that in the view of a set within it.
-fn derived_entry(
+pub(crate) fn derived_entry(
     dag: &Dag,
     frozen: &Frozen,
     pool: &mut RowPool,
@@ -192,48 +190,4 @@ fn derived_entry(
         }
         None => brought_entry(dag, frozen, pool, target, pair),
     }
-}
-
-// The entries of the view of a set, from those of the view of a set within it: up to a number from which no
-// pair is inside the set.
-pub(crate) fn derive_entries(
-    dag: &Dag,
-    frozen: &Frozen,
-    pool: &mut RowPool,
-    from: &Row,
-    target: &Row,
-    base: &[Option<(RowName, RowName)>],
-    end: u32,
-    entries: &mut Vec<Option<(RowName, RowName)>>,
-) -> Result<(), Memory>
-    requires grown { IsGrown dag.now frozen.now from.now target.now }
-    requires entry { AreEntries dag.now from.now pool.old base.now }
-    requires live { (r : ℕ) → held base.now r ≤ count_of pool.old r }
-    requires once { (r : ℕ) → held base.now r ≤ 1 }
-    requires few { (r : ℕ) → 0 < held base.now r → count_of pool.old r < 2 ^ 32 - 1 }
-    requires within { end ≤ length (pairs_of dag.now) }
-    requires none { NoneFrom dag.now target.now end }
-    requires empty { entries.old.items ≡ [] }
-    requires capacity { end ≤ vec_capacity entries.old }
-    requires room { live pool.old < 2 ^ 29 }
-    ensures long { OnOk result (length entries.new.items ≡ end) }
-    ensures entry { OnOk result
-        (AreEntries dag.now target.now pool.new entries.new.items) }
-    ensures kept { OnOk result (AreKeptIds dag.now from.now target.now
-        base.now entries.new.items) }
-    ensures counts { (r : ℕ) →
-        count_of pool.new r ≡ count_of pool.old r + held entries.new.items r }
-    ensures others { (r : ℕ) → 0 < count_of pool.old r → row_of pool.new r ≡ row_of pool.old r }
-    ensures once { (r : ℕ) → held entries.new.items r ≤ 1 }
-    ensures live { OnOk result (live pool.new ≤ live pool.old
-        + moved_rows (graph_of dag.now) from.now target.now (pairs_of dag.now)) }
-{
-    // Tells the proof that there are at most 130,816 pairs.
-    let _pairs = dag.pair_count();
-    'pairs: for pair in 0..end {
-        let before = entry_of(base, pair as usize);
-        let entry = derived_entry(dag, frozen, pool, from, target, pair, before)?;
-        entries.push_reserved(entry);
-    }
-    Ok(())
 }

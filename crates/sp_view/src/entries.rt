@@ -5,15 +5,22 @@ ghost use Rattle.sp_dag.specs.Numbered.{graph_of, pairs_of};
 ghost use Rattle.sp_view.specs.Stored.{count_of, row_of, spare, live};
 ghost use Rattle.sp_bits.specs.Places.{difference};
 ghost use Rattle.sp_model.specs.Graph.{has};
+ghost use Rattle.sp_model.specs.Votes.{vote};
 ghost use Rattle.sp_view.specs.Settled.{AreSides, AreOpen, AreKept};
 ghost use Rattle.sp_view.specs.Voting.{IsVoting, IsJoined};
-ghost use Rattle.sp_view.specs.Summed.{AreRight, IsStill};
+ghost use Rattle.sp_view.specs.Changed.{is_inside};
+ghost use Rattle.sp_view.specs.Gained.{IsGain};
+ghost use Rattle.sp_view.specs.Summed.{AreRight, IsSum};
+ghost use Rattle.sp_view.specs.Sums.{IsLone};
 ghost use Rattle.sp_view.specs.Views.{holds, held, entry_at, moved_of, IsEntry, IsFresh, IsOnce, AreFresh, KeepIds, AreEntries, AreKeptIds};
 ghost use Rattle.sp_view.specs.Ends.{NoneFrom};
 ghost use Rattle.sp_view.specs.Moving.{changes_of, moves_of, moved_rows};
 
 use crate::asking::{asked, has_both, is_none};
+use crate::joining::joining_vote;
 use crate::pair_rows::{Sides, joined_rows, new_rows};
+use crate::rooted::{root_turn, rooted_rows};
+use crate::runs::{after, busy_from};
 use crate::stored::{RowName, give, holders, put, row_at, taken};
 use crate::summing::note_sum;
 use crate::sums::Sums;
@@ -22,18 +29,18 @@ use sp_dag::Dag;
 use sp_frozen::Frozen;
 use sp_rows::RowPool;
 
-// The rows of an old pair after a block joined, and whether nobody was asked: then they are as before.
+// The rows of an old pair after a block joined, and what came to the sum of its votes, where that is known.
 #[derive(Clone, Copy)]
 struct Joined {
     rows: (RowName, RowName),
-    same: bool,
+    gain: Option<i32>,
 }
 
 // The same of any pair, which may have no rows.
 #[derive(Clone, Copy)]
 pub(crate) struct Step {
     pub(crate) entry: Option<(RowName, RowName)>,
-    pub(crate) same: bool,
+    pub(crate) gain: Option<i32>,
 }
 
 // Whether two rows have the same places.
@@ -109,6 +116,37 @@ pub(crate) fn asked_rows(
     )
 }
 
+// The same, where the vote of genesis may be known, if it alone is asked.
+fn anew_rows(
+    dag: &Dag,
+    frozen: &Frozen,
+    pool: &RowPool,
+    members: &Row,
+    pair: u32,
+    entry: &(RowName, RowName),
+    todo: &Row,
+    root: Option<i32>,
+) -> Sides
+    requires voting { IsVoting dag.now frozen.now members.now }
+    requires inside { pair < length frozen.now.pluses }
+    requires live { (r : ℕ) → holds (Some entry.now) r ≤ count_of pool.now r }
+    requires within { (z : ℕ) → IsTrue (has todo.now z) → IsTrue (has members.now z) }
+    requires root { IfSome root (λ v. IsLone todo.now 0 × ((x y : ℕ) →
+        slice_get (pairs_of dag.now) pair ≡ Some (x, y) →
+        v ≡ vote (graph_of dag.now) members.now 0 x y)) }
+    ensures { (x y : ℕ) → slice_get (pairs_of dag.now) pair ≡ Some (x, y) →
+        AreOpen (graph_of dag.now) members.now x y (has todo.now)
+        × AreKept (graph_of dag.now) members.now x y (has todo.now)
+        (difference (row_of pool.now entry.now.0) todo.now)
+        (difference (row_of pool.now entry.now.1) todo.now) →
+        AreSides (graph_of dag.now) members.now x y result.plus result.minus }
+{
+    match root {
+        Some(root) => rooted_rows(pool, members, entry, todo, root),
+        None => asked_rows(dag, frozen, pool, members, pair, entry, todo),
+    }
+}
+
 // The rows of a pair that was inside the set before the block joined, where the votes of `todo` are
 // asked anew.
 fn asked_entry(
@@ -121,6 +159,7 @@ fn asked_entry(
     pair: u32,
     entry: (RowName, RowName),
     todo: &Row,
+    root: Option<i32>,
 ) -> (RowName, RowName)
     requires joined { IsJoined dag.now frozen.now b before.now members.now }
     requires listed { pair < length (pairs_of dag.now) }
@@ -137,6 +176,9 @@ fn asked_entry(
         × AreKept (graph_of dag.now) members.now x y (has todo.now)
         (difference (row_of pool.old entry.0) todo.now)
         (difference (row_of pool.old entry.1) todo.now) }
+    requires root { IfSome root (λ v. IsLone todo.now 0 × ((x y : ℕ) →
+        slice_get (pairs_of dag.now) pair ≡ Some (x, y) →
+        v ≡ vote (graph_of dag.now) members.now 0 x y)) }
     ensures rows { (x y : ℕ) → slice_get (pairs_of dag.now) pair ≡ Some (x, y) →
         AreSides (graph_of dag.now) members.now x y
         (row_of pool.new result.0) (row_of pool.new result.1) }
@@ -152,14 +194,15 @@ fn asked_entry(
     ensures spare { spare pool.old ≤ spare pool.new + moved_of (Some entry) (Some result) }
     ensures live { live pool.new ≤ live pool.old + moved_of (Some entry) (Some result) }
 {
-    let new = asked_rows(dag, frozen, pool, members, pair, &entry, todo);
+    let new = anew_rows(dag, frozen, pool, members, pair, &entry, todo, root);
     let plus = written(pool, entry.0, &new.plus);
     let minus = written(pool, entry.1, &new.minus);
     (plus, minus)
 }
 
-// The rows of a pair that was inside the set before the block joined.
-fn joined_entry(
+// The rows of a pair that was inside the set before the block joined, whose own vote is given, where the votes of `todo` are
+// asked anew. By the sum before, where one is kept, the vote of genesis is told, if it alone is asked.
+fn opened_entry(
     dag: &Dag,
     frozen: &Frozen,
     pool: &mut RowPool,
@@ -168,6 +211,9 @@ fn joined_entry(
     b: u16,
     pair: u32,
     entry: (RowName, RowName),
+    todo: &Row,
+    own: i32,
+    sum: Option<i32>,
 ) -> Joined
     requires joined { IsJoined dag.now frozen.now b before.now members.now }
     requires listed { pair < length (pairs_of dag.now) }
@@ -178,13 +224,23 @@ fn joined_entry(
         (row_of pool.old entry.0) (row_of pool.old entry.1) }
     requires room { (x y : ℕ) → slice_get (pairs_of dag.now) pair ≡ Some (x, y) →
         changes_of (graph_of dag.now) before.now members.now x y ≤ spare pool.old }
+    requires before { (x y : ℕ) → slice_get (pairs_of dag.now) pair ≡ Some (x, y) →
+        IsTrue (is_inside before.now (x, y)) }
+    requires sum { (x y : ℕ) → slice_get (pairs_of dag.now) pair ≡ Some (x, y) →
+        IsSum (graph_of dag.now) before.now x y sum }
+    requires own { (x y : ℕ) → slice_get (pairs_of dag.now) pair ≡ Some (x, y) →
+        own ≡ vote (graph_of dag.now) members.now b x y }
+    requires within { (z : ℕ) → IsTrue (has todo.now z) → IsTrue (has members.now z) }
+    requires asked { (x y : ℕ) → slice_get (pairs_of dag.now) pair ≡ Some (x, y) →
+        AreOpen (graph_of dag.now) members.now x y (has todo.now)
+        × AreKept (graph_of dag.now) members.now x y (has todo.now)
+        (difference (row_of pool.old entry.0) todo.now)
+        (difference (row_of pool.old entry.1) todo.now) }
     ensures rows { (x y : ℕ) → slice_get (pairs_of dag.now) pair ≡ Some (x, y) →
         AreSides (graph_of dag.now) members.now x y
         (row_of pool.new result.rows.0) (row_of pool.new result.rows.1) }
-    ensures same { IsTrue result.same → (x y : ℕ) →
-        slice_get (pairs_of dag.now) pair ≡ Some (x, y) →
-        AreSides (graph_of dag.now) members.now x y
-        (row_of pool.old entry.0) (row_of pool.old entry.1) }
+    ensures gain { (x y : ℕ) → slice_get (pairs_of dag.now) pair ≡ Some (x, y) →
+        IfSome result.gain (IsGain (graph_of dag.now) before.now members.now x y) }
     ensures kept { (x y : ℕ) → slice_get (pairs_of dag.now) pair ≡ Some (x, y) →
         KeepIds (graph_of dag.now) before.now members.now x y (Some entry) (Some result.rows) }
     ensures counts { (r : ℕ) → count_of pool.new r + holds (Some entry) r ≡
@@ -197,15 +253,91 @@ fn joined_entry(
     ensures spare { spare pool.old ≤ spare pool.new + moved_of (Some entry) (Some result.rows) }
     ensures live { live pool.new ≤ live pool.old + moved_of (Some entry) (Some result.rows) }
 {
-    let todo = asked(dag, frozen, pool, members, b, pair, &entry);
+    // Tells the proof that there are at most 512 blocks, from genesis on.
+    let _blocks = dag.len();
+    match root_turn(todo, sum, own) {
+        Some(turn) => {
+            if turn.before == turn.after {
+                return Joined {
+                    rows: entry,
+                    gain: Some(own),
+                };
+            }
+            let root = Some(turn.after);
+            let rows = asked_entry(
+                dag, frozen, pool, before, members, b, pair, entry, todo, root,
+            );
+            let gain = Some(turn.after - turn.before + own);
+            Joined { rows, gain }
+        }
+        None => {
+            let rows = asked_entry(
+                dag, frozen, pool, before, members, b, pair, entry, todo, None,
+            );
+            Joined { rows, gain: None }
+        }
+    }
+}
+
+// The rows of a pair that was inside the set before the block joined, by the sum of its votes, where one is kept.
+fn joined_entry(
+    dag: &Dag,
+    frozen: &Frozen,
+    pool: &mut RowPool,
+    before: &Row,
+    members: &Row,
+    b: u16,
+    pair: u32,
+    entry: (RowName, RowName),
+    sum: Option<i32>,
+) -> Joined
+    requires joined { IsJoined dag.now frozen.now b before.now members.now }
+    requires listed { pair < length (pairs_of dag.now) }
+    requires inside { pair < length frozen.now.pluses }
+    requires live { (r : ℕ) → holds (Some entry) r ≤ count_of pool.old r }
+    requires sides { (x y : ℕ) → slice_get (pairs_of dag.now) pair ≡ Some (x, y) →
+        AreSides (graph_of dag.now) before.now x y
+        (row_of pool.old entry.0) (row_of pool.old entry.1) }
+    requires room { (x y : ℕ) → slice_get (pairs_of dag.now) pair ≡ Some (x, y) →
+        changes_of (graph_of dag.now) before.now members.now x y ≤ spare pool.old }
+    requires before { (x y : ℕ) → slice_get (pairs_of dag.now) pair ≡ Some (x, y) →
+        IsTrue (is_inside before.now (x, y)) }
+    requires sum { (x y : ℕ) → slice_get (pairs_of dag.now) pair ≡ Some (x, y) →
+        IsSum (graph_of dag.now) before.now x y sum }
+    ensures rows { (x y : ℕ) → slice_get (pairs_of dag.now) pair ≡ Some (x, y) →
+        AreSides (graph_of dag.now) members.now x y
+        (row_of pool.new result.rows.0) (row_of pool.new result.rows.1) }
+    ensures gain { (x y : ℕ) → slice_get (pairs_of dag.now) pair ≡ Some (x, y) →
+        IfSome result.gain (IsGain (graph_of dag.now) before.now members.now x y) }
+    ensures kept { (x y : ℕ) → slice_get (pairs_of dag.now) pair ≡ Some (x, y) →
+        KeepIds (graph_of dag.now) before.now members.now x y (Some entry) (Some result.rows) }
+    ensures counts { (r : ℕ) → count_of pool.new r + holds (Some entry) r ≡
+        count_of pool.old r + holds (Some result.rows) r }
+    ensures others { (r : ℕ) → holds (Some entry) r < count_of pool.old r →
+        row_of pool.new r ≡ row_of pool.old r }
+    ensures alive { (r : ℕ) → 0 < count_of pool.old r → 0 < count_of pool.new r }
+    ensures once { (r : ℕ) →
+        IsOnce (count_of pool.old r) (holds (Some entry) r) (holds (Some result.rows) r) }
+    ensures spare { spare pool.old ≤ spare pool.new + moved_of (Some entry) (Some result.rows) }
+    ensures live { live pool.new ≤ live pool.old + moved_of (Some entry) (Some result.rows) }
+{
+    let own = joining_vote(dag, frozen, b, pair);
+    if own == 0 {
+        return Joined {
+            rows: entry,
+            gain: Some(0),
+        };
+    }
+    let todo = asked(dag, pool, members, b, pair, &entry, own > 0);
     if is_none(&todo) {
         return Joined {
             rows: entry,
-            same: true,
+            gain: Some(own),
         };
     }
-    let rows = asked_entry(dag, frozen, pool, before, members, b, pair, entry, &todo);
-    Joined { rows, same: false }
+    opened_entry(
+        dag, frozen, pool, before, members, b, pair, entry, &todo, own, sum,
+    )
 }
 
 // The rows of a pair that the block brought into the set.
@@ -238,7 +370,7 @@ fn new_entry(
     (plus, minus)
 }
 
-// The entry of a pair after the block joined.
+// The entry of a pair after the block joined, by the sum of its votes before, where one is kept.
 fn step_entry(
     dag: &Dag,
     frozen: &Frozen,
@@ -248,6 +380,7 @@ fn step_entry(
     b: u16,
     pair: u32,
     entry: Option<(RowName, RowName)>,
+    sum: Option<i32>,
 ) -> Step
     requires joined { IsJoined dag.now frozen.now b before.now members.now }
     requires listed { pair < length (pairs_of dag.now) }
@@ -257,11 +390,12 @@ fn step_entry(
         IsEntry (graph_of dag.now) before.now x y pool.old entry }
     requires room { (x y : ℕ) → slice_get (pairs_of dag.now) pair ≡ Some (x, y) →
         moves_of (graph_of dag.now) before.now members.now x y ≤ spare pool.old }
+    requires sum { (x y : ℕ) → slice_get (pairs_of dag.now) pair ≡ Some (x, y) →
+        IsSum (graph_of dag.now) before.now x y sum }
     ensures entry { (x y : ℕ) → slice_get (pairs_of dag.now) pair ≡ Some (x, y) →
         IsEntry (graph_of dag.now) members.now x y pool.new result.entry }
-    ensures same { IsTrue result.same → (x y : ℕ) →
-        slice_get (pairs_of dag.now) pair ≡ Some (x, y) →
-        IsStill (graph_of dag.now) before.now members.now x y }
+    ensures gain { (x y : ℕ) → slice_get (pairs_of dag.now) pair ≡ Some (x, y) →
+        IfSome result.gain (IsGain (graph_of dag.now) before.now members.now x y) }
     ensures kept { (x y : ℕ) → slice_get (pairs_of dag.now) pair ≡ Some (x, y) →
         KeepIds (graph_of dag.now) before.now members.now x y entry result.entry }
     ensures counts { (r : ℕ) → count_of pool.new r + holds entry r ≡
@@ -280,10 +414,10 @@ fn step_entry(
 {
     match entry {
         Some(rows) => {
-            let joined = joined_entry(dag, frozen, pool, before, members, b, pair, rows);
+            let joined = joined_entry(dag, frozen, pool, before, members, b, pair, rows, sum);
             Step {
                 entry: Some(joined.rows),
-                same: joined.same,
+                gain: joined.gain,
             }
         }
         None => {
@@ -294,12 +428,12 @@ fn step_entry(
                 let rows = new_entry(dag, frozen, pool, members, pair);
                 Step {
                     entry: Some(rows),
-                    same: false,
+                    gain: None,
                 }
             } else {
                 Step {
                     entry: None,
-                    same: false,
+                    gain: None,
                 }
             }
         }
@@ -345,11 +479,15 @@ pub(crate) fn join_entries(
 {
     // Tells the proof that there are at most 130,816 pairs.
     let _pairs = dag.pair_count();
-    'pairs: for i in 0..entries.len() {
-        let pair = i as u32;
-        let entry = entries[i];
-        let step = step_entry(dag, frozen, pool, before, members, b, pair, entry);
-        entries[i] = step.entry;
+    let end = entries.len() as u32;
+    let mut place = busy_from(dag, members, b, 0);
+    'pairs: while place.pair < end {
+        let pair = place.pair;
+        let entry = entries[pair as usize];
+        let sum = sums.get(pair);
+        let step = step_entry(dag, frozen, pool, before, members, b, pair, entry, sum);
+        entries[pair as usize] = step.entry;
         note_sum(dag, frozen, pool, before, members, b, pair, &step, sums);
+        place = after(dag, members, b, place);
     }
 }

@@ -4,13 +4,17 @@
 
 mod asking;
 mod best;
+mod block_runs;
 mod derive;
 mod ends;
 mod entries;
+mod joining;
 pub mod laws;
 mod missing;
 mod pair_rows;
 mod pasts;
+mod rooted;
+mod runs;
 mod seeing;
 mod settle;
 mod sharing;

@@ -1,10 +1,11 @@
-//! The sum of the votes on one pair, when a block joins the set: where the rows of the loose voters stay, the
-//! block's own vote is all that comes to it, and elsewhere four counts tell it.
+//! The sum of the votes on one pair, when a block joins the set: where it is known what comes to it, that is added, and
+//! elsewhere four counts tell it.
 
-ghost use Rattle.std.specs.Prelude.{◌≡◌, ◌≢◌, ◌<◌, ◌≤◌, ℕ, length, IsTrue, IfSome, slice_get, Some};
+ghost use Rattle.std.specs.Prelude.{◌≡◌, ◌≢◌, ◌<◌, ◌≤◌, ℕ, length, IfSome, slice_get, Some};
 ghost use Rattle.sp_dag.specs.Numbered.{graph_of, pairs_of};
 ghost use Rattle.sp_view.specs.Stored.{count_of};
-ghost use Rattle.sp_view.specs.Summed.{IsStill, IsSum};
+ghost use Rattle.sp_view.specs.Gained.{IsGain};
+ghost use Rattle.sp_view.specs.Summed.{IsSum};
 ghost use Rattle.sp_view.specs.Sums.{sum_of};
 ghost use Rattle.sp_view.specs.Voting.{IsJoined};
 ghost use Rattle.sp_view.specs.Views.{holds, IsEntry};
@@ -12,7 +13,7 @@ ghost use Rattle.sp_view.specs.Views.{holds, IsEntry};
 use crate::entries::Step;
 use crate::stored::row_at;
 use crate::sums::Sums;
-use crate::tally::{tally, vote_of};
+use crate::tally::tally;
 use sp_bits::Row;
 use sp_dag::Dag;
 use sp_frozen::Frozen;
@@ -35,9 +36,8 @@ fn sum_after(
     requires live { (r : ℕ) → holds step.now.entry r ≤ count_of pool.now r }
     requires entry { (x y : ℕ) → slice_get (pairs_of dag.now) pair ≡ Some (x, y) →
         IsEntry (graph_of dag.now) members.now x y pool.now step.now.entry }
-    requires same { IsTrue step.now.same → (x y : ℕ) →
-        slice_get (pairs_of dag.now) pair ≡ Some (x, y) →
-        IsStill (graph_of dag.now) before.now members.now x y }
+    requires gain { (x y : ℕ) → slice_get (pairs_of dag.now) pair ≡ Some (x, y) →
+        IfSome step.now.gain (IsGain (graph_of dag.now) before.now members.now x y) }
     requires sum { (x y : ℕ) → slice_get (pairs_of dag.now) pair ≡ Some (x, y) →
         IsSum (graph_of dag.now) before.now x y (Some sum) }
     ensures { (x y : ℕ) → slice_get (pairs_of dag.now) pair ≡ Some (x, y) →
@@ -48,15 +48,13 @@ fn sum_after(
     let Some((plus, minus)) = step.entry else {
         return sum;
     };
-    let ups = frozen.plus(pair);
-    let downs = frozen.minus(pair);
-    if step.same {
-        return sum + vote_of(b, ups, downs);
+    if let Some(gain) = step.gain {
+        return sum + gain;
     }
     tally(
         members,
-        ups,
-        downs,
+        frozen.plus(pair),
+        frozen.minus(pair),
         &row_at(pool, plus),
         &row_at(pool, minus),
     )
@@ -79,9 +77,8 @@ pub(crate) fn note_sum(
     requires live { (r : ℕ) → holds step.now.entry r ≤ count_of pool.now r }
     requires entry { (x y : ℕ) → slice_get (pairs_of dag.now) pair ≡ Some (x, y) →
         IsEntry (graph_of dag.now) members.now x y pool.now step.now.entry }
-    requires same { IsTrue step.now.same → (x y : ℕ) →
-        slice_get (pairs_of dag.now) pair ≡ Some (x, y) →
-        IsStill (graph_of dag.now) before.now members.now x y }
+    requires gain { (x y : ℕ) → slice_get (pairs_of dag.now) pair ≡ Some (x, y) →
+        IfSome step.now.gain (IsGain (graph_of dag.now) before.now members.now x y) }
     requires sum { (x y : ℕ) → slice_get (pairs_of dag.now) pair ≡ Some (x, y) →
         IsSum (graph_of dag.now) before.now x y (slice_get sums.old pair) }
     ensures sum { (x y : ℕ) → slice_get (pairs_of dag.now) pair ≡ Some (x, y) →

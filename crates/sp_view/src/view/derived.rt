@@ -11,7 +11,7 @@ ghost use Rattle.sp_view.specs.Ends.{IsEnd};
 ghost use Rattle.sp_view.specs.Moving.{moved_rows};
 
 use crate::best::start;
-use crate::derive::derive_entries;
+use crate::block_runs::derive_entries;
 use crate::ends::end_of;
 use crate::sharing::give_entries;
 use crate::view::View;
@@ -26,13 +26,13 @@ impl View {
     /// The view of a set, from that one of some views within it that has most members, the first of
     /// equals, or from none. A row that has the same places in both sets is the same one.
     ///
-    /// It goes over the pairs once. For a pair inside that view it takes a few steps over rows, three
-    /// for each block that joins, is frozen on the pair and isn't in the past of another such block,
-    /// and two for each voter that is asked anew; where none is asked, both rows are shared as they
-    /// stand. For another pair inside the set it takes three for each frozen voter that isn't in the past
-    /// of another one of its side, and a few for each loose voter that sees both sides, where not all of
-    /// these see all frozen ones. Its entries end behind the last pair inside the set, and take 12 bytes
-    /// each.
+    /// It goes once over the blocks, and over the pairs whose higher block is in the set. For a pair
+    /// inside that view it takes a few steps over rows, three for each block that joins, is frozen on the
+    /// pair and isn't in the past of another such block, and two for each voter that is asked anew; where
+    /// none is asked, both rows are shared as they stand. For another pair inside the set it takes three
+    /// for each frozen voter that isn't in the past of another one of its side, and a few for each loose
+    /// voter that sees both sides, where not all of these see all frozen ones. Its entries end behind the
+    /// last pair inside the set, and take 12 bytes each.
     ///
     /// # Errors
     ///

@@ -25,7 +25,7 @@ written-plus-requires-clause-room c = λ ne.
     let pair = get_or (pairs_of c.args.dag.now) c.args.pair (0, 0) in
     let at : slice_get (pairs_of c.args.dag.now) c.args.pair ≡ Some (pair.0, pair.1) = some_pair (pairs_of c.args.dag.now) c.args.pair c.requires.listed in
     let sides : AreSides g c.args.before.now pair.0 pair.1 (row_of c.args.pool.now c.args.entry.0) (row_of c.args.pool.now c.args.entry.1) = c.requires.sides pair.0 pair.1 at in
-    let new : AreSides g c.args.members.now pair.0 pair.1 c.asked_rows-new.result.plus c.asked_rows-new.result.minus = c.asked_rows-new.ensures pair.0 pair.1 at (c.requires.asked pair.0 pair.1 at) in
+    let new : AreSides g c.args.members.now pair.0 pair.1 c.anew_rows-new.result.plus c.anew_rows-new.result.minus = c.anew_rows-new.ensures pair.0 pair.1 at (c.requires.asked pair.0 pair.1 at) in
     omega (arith, c.requires.room pair.0 pair.1 at, first_changes g c.args.before.now c.args.members.now pair.0 pair.1 c.requires.joined.row c.requires.joined.voting.asked.row (λ e. ne (new.plus_is ∙ sym e ∙ sym sides.plus_is)))
 
 pub written-minus-requires-clause-room : goal.written-minus-requires-clause-room
@@ -34,7 +34,7 @@ written-minus-requires-clause-room c = λ ne.
     let pair = get_or (pairs_of c.args.dag.now) c.args.pair (0, 0) in
     let at : slice_get (pairs_of c.args.dag.now) c.args.pair ≡ Some (pair.0, pair.1) = some_pair (pairs_of c.args.dag.now) c.args.pair c.requires.listed in
     let sides : AreSides g c.args.before.now pair.0 pair.1 (row_of c.args.pool.now c.args.entry.0) (row_of c.args.pool.now c.args.entry.1) = c.requires.sides pair.0 pair.1 at in
-    let new : AreSides g c.args.members.now pair.0 pair.1 c.asked_rows-new.result.plus c.asked_rows-new.result.minus = c.asked_rows-new.ensures pair.0 pair.1 at (c.requires.asked pair.0 pair.1 at) in
+    let new : AreSides g c.args.members.now pair.0 pair.1 c.anew_rows-new.result.plus c.anew_rows-new.result.minus = c.anew_rows-new.ensures pair.0 pair.1 at (c.requires.asked pair.0 pair.1 at) in
     let second = second_before (count_of c.args.pool.now) (count_of c.written-plus.new.pool) (row_of c.args.pool.now) (row_of c.written-plus.new.pool) (row_of c.written-plus.new.pool) c.args.entry.0 c.args.entry.1 c.written-plus.result
     c.written-plus.ensures.counts c.written-plus.ensures.others (λ r _ _. refl) c.requires.live c.written-plus.ensures.fresh in
     let other : minus g c.args.before.now pair.0 pair.1 ≢ minus g c.args.members.now pair.0 pair.1 = λ e. ne (new.minus_is ∙ sym e ∙ sym sides.minus_is ∙ sym second) in
@@ -58,7 +58,7 @@ written-minus-requires-clause-room c = λ ne.
 
 pub returns-clause-rows : goal.returns-clause-rows
 returns-clause-rows c = λ x y at.
-    let new : AreSides (graph_of c.args.dag.now) c.args.members.now x y c.asked_rows-new.result.plus c.asked_rows-new.result.minus = c.asked_rows-new.ensures x y at (c.requires.asked x y at) in
+    let new : AreSides (graph_of c.args.dag.now) c.args.members.now x y c.anew_rows-new.result.plus c.anew_rows-new.result.minus = c.anew_rows-new.ensures x y at (c.requires.asked x y at) in
     let stays = first_stays (count_of c.args.pool.now) (count_of c.written-plus.new.pool) (row_of c.args.pool.now) (row_of c.written-plus.new.pool) (row_of c.written-minus.new.pool) c.args.entry.0 c.args.entry.1 c.written-plus.result
     c.written-plus.ensures.counts c.written-plus.ensures.others c.written-minus.ensures.others c.requires.live c.written-plus.ensures.fresh in
     record { plus_is = stays ∙ c.written-plus.ensures.row ∙ new.plus_is; minus_is = c.written-minus.ensures.row ∙ new.minus_is }
@@ -66,7 +66,7 @@ returns-clause-rows c = λ x y at.
 pub returns-clause-kept : goal.returns-clause-kept
 returns-clause-kept c = λ x y at.
     let sides : AreSides (graph_of c.args.dag.now) c.args.before.now x y (row_of c.args.pool.now c.args.entry.0) (row_of c.args.pool.now c.args.entry.1) = c.requires.sides x y at in
-    let new : AreSides (graph_of c.args.dag.now) c.args.members.now x y c.asked_rows-new.result.plus c.asked_rows-new.result.minus = c.asked_rows-new.ensures x y at (c.requires.asked x y at) in
+    let new : AreSides (graph_of c.args.dag.now) c.args.members.now x y c.anew_rows-new.result.plus c.anew_rows-new.result.minus = c.anew_rows-new.ensures x y at (c.requires.asked x y at) in
     let second = second_before (count_of c.args.pool.now) (count_of c.written-plus.new.pool) (row_of c.args.pool.now) (row_of c.written-plus.new.pool) (row_of c.written-minus.new.pool) c.args.entry.0 c.args.entry.1 c.written-plus.result
     c.written-plus.ensures.counts c.written-plus.ensures.others c.written-minus.ensures.others c.requires.live c.written-plus.ensures.fresh in
     (λ e. c.written-plus.ensures.kept (new.plus_is ∙ sym e ∙ sym sides.plus_is), λ e. c.written-minus.ensures.kept (new.minus_is ∙ sym e ∙ sym sides.minus_is ∙ sym second))

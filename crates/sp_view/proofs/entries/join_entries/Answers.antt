@@ -1,14 +1,17 @@
 use Rattle.std.proofs.Common.{◌≡◌, ◌≢◌, ◌∙◌, ◌<◌, ◌≤◌, ◌+◌, ℕ, List, Option, Some, None, arith, get_or, length, refl, subst, sym, get_or-set_other}
-use Rattle.std.specs.Prelude.{slice_get, vec_len, IfSome}
+use Rattle.std.specs.Prelude.{ℤ, slice_get, vec_len, IfSome}
 use Rattle.std.proofs.lemmas.Bool.{lt-ltb, le-ltb}
 use Rattle.std.proofs.lemmas.List.{get_or_default}
 use Rattle.sp_dag.specs.Numbered.{Numbered, graph_of, pairs_of}
 use Rattle.sp_model.specs.Graph.{Graph}
+use Rattle.sp_view.specs.Idle.{IsIdle}
 use Rattle.sp_view.specs.Stored.{count_of, row_of}
+use Rattle.sp_view.specs.Summed.{IsSum}
 use Rattle.sp_view.specs.Views.{entry_at, holds, held, IsEntry, IsFresh, IsOnce, KeepIds}
 use Rattle.sp_view.proofs.Behind.{entries_end, sums_end}
 use Rattle.sp_view.proofs.Fresh.{fresh_none, fresh_step}
 use Rattle.sp_view.proofs.Held.{entries_step, held_set, holds_held, if_there, keeps_itself, kept_step, once_step, some_pair}
+use Rattle.sp_view.proofs.Idling.{entries_idle, moved_more, sums_idle}
 use Rattle.sp_view.proofs.KeptSums.{sums_step}
 use Rattle.sp_view.proofs.Moves.{moved_take, moved_take_le}
 use Rattle.sp_view.proofs.TwoRows.{results_of}
@@ -20,27 +23,27 @@ read_at entries i read lt is = is ∙ get_or_default entries i read None lt
 pub step_entry-step-requires-clause-inside : goal.step_entry-step-requires-clause-inside
 step_entry-step-requires-clause-inside c =
     let table : Numbered = c.args.dag.now in
-    let inside : c.pairs.i < length c.pairs.entries.items = omega (arith, c.pairs.entries.ok.0) in
-    let listed : c.pairs.i < length (pairs_of table) = omega (arith, c.requires.long) in
-    let pair = get_or (pairs_of table) c.pairs.i (0, 0) in
-    let at : slice_get (pairs_of table) c.pairs.i ≡ Some (pair.0, pair.1) = some_pair (pairs_of table) c.pairs.i listed in
-    subst (λ (e : Option (ℕ × ℕ)). IfSome e (λ _. c.pairs.i < length c.args.frozen.now.pluses))
-    (sym (c.pairs.invariant.unturned c.pairs.i (omega arith)) ∙ sym (read_at c.pairs.entries.items c.pairs.i c.index-entry.result.now inside c.index-entry.ensures))
-    (if_there (entry_at c.args.entries.now.items c.pairs.i) (pair.1 < c.args.frozen.now.blocks) (c.pairs.i < length c.args.frozen.now.pluses)
-    (c.requires.inside c.pairs.i pair.0 pair.1 at) (λ y_in. c.requires.joined.voting.held.there c.pairs.i pair.0 pair.1 at y_in))
+    let inside : c.pairs.place.pair < length c.pairs.entries.items = omega (arith, c.pairs.entries.ok.0) in
+    let listed : c.pairs.place.pair < length (pairs_of table) = omega (arith, c.requires.long) in
+    let pair = get_or (pairs_of table) c.pairs.place.pair (0, 0) in
+    let at : slice_get (pairs_of table) c.pairs.place.pair ≡ Some (pair.0, pair.1) = some_pair (pairs_of table) c.pairs.place.pair listed in
+    subst (λ (e : Option (ℕ × ℕ)). IfSome e (λ _. c.pairs.place.pair < length c.args.frozen.now.pluses))
+    (sym (c.pairs.invariant.unturned c.pairs.place.pair (omega arith)) ∙ sym (read_at c.pairs.entries.items c.pairs.place.pair c.index-entry.result.now inside c.index-entry.ensures))
+    (if_there (entry_at c.args.entries.now.items c.pairs.place.pair) (pair.1 < c.args.frozen.now.blocks) (c.pairs.place.pair < length c.args.frozen.now.pluses)
+    (c.requires.inside c.pairs.place.pair pair.0 pair.1 at) (λ y_in. c.requires.joined.voting.held.there c.pairs.place.pair pair.0 pair.1 at y_in))
 
 pub step_entry-step-requires-clause-live : goal.step_entry-step-requires-clause-live
 step_entry-step-requires-clause-live c = λ r.
-    let inside : c.pairs.i < length c.pairs.entries.items = omega (arith, c.pairs.entries.ok.0) in
-    subst (λ (e : Option (ℕ × ℕ)). holds e r ≤ count_of c.pairs.pool r) (sym (read_at c.pairs.entries.items c.pairs.i c.index-entry.result.now inside c.index-entry.ensures))
-    (omega (arith, holds_held c.pairs.entries.items c.pairs.i r, c.pairs.invariant.counts r, c.requires.live r))
+    let inside : c.pairs.place.pair < length c.pairs.entries.items = omega (arith, c.pairs.entries.ok.0) in
+    subst (λ (e : Option (ℕ × ℕ)). holds e r ≤ count_of c.pairs.pool r) (sym (read_at c.pairs.entries.items c.pairs.place.pair c.index-entry.result.now inside c.index-entry.ensures))
+    (omega (arith, holds_held c.pairs.entries.items c.pairs.place.pair r, c.pairs.invariant.counts r, c.requires.live r))
 
 pub step_entry-step-requires-clause-entry : goal.step_entry-step-requires-clause-entry
 step_entry-step-requires-clause-entry c = λ x y at.
     let table : Numbered = c.args.dag.now in
-    let inside : c.pairs.i < length c.pairs.entries.items = omega (arith, c.pairs.entries.ok.0) in
-    let now : IsEntry (graph_of table) c.args.before.now x y c.pairs.pool (entry_at c.pairs.entries.items c.pairs.i) = rw (le-ltb c.pairs.i c.pairs.i (omega arith)) at (c.pairs.invariant.entry c.pairs.i x y at) in
-    subst (λ (e : Option (ℕ × ℕ)). IsEntry (graph_of table) c.args.before.now x y c.pairs.pool e) (sym (read_at c.pairs.entries.items c.pairs.i c.index-entry.result.now inside c.index-entry.ensures)) now
+    let inside : c.pairs.place.pair < length c.pairs.entries.items = omega (arith, c.pairs.entries.ok.0) in
+    let now : IsEntry (graph_of table) c.args.before.now x y c.pairs.pool (entry_at c.pairs.entries.items c.pairs.place.pair) = rw (le-ltb c.pairs.place.pair c.pairs.place.pair (omega arith)) at (c.pairs.invariant.entry c.pairs.place.pair x y at) in
+    subst (λ (e : Option (ℕ × ℕ)). IsEntry (graph_of table) c.args.before.now x y c.pairs.pool e) (sym (read_at c.pairs.entries.items c.pairs.place.pair c.index-entry.result.now inside c.index-entry.ensures)) now
 
 pub step_entry-step-requires-clause-room : goal.step_entry-step-requires-clause-room
 step_entry-step-requires-clause-room c = λ x y at.
@@ -50,26 +53,35 @@ step_entry-step-requires-clause-room c = λ x y at.
       arith,
       c.pairs.invariant.room,
       c.requires.room,
-      moved_take g c.args.before.now c.args.members.now pairs c.pairs.i x y at,
-      moved_take_le g c.args.before.now c.args.members.now pairs (c.pairs.i + 1),
+      moved_take g c.args.before.now c.args.members.now pairs c.pairs.place.pair x y at,
+      moved_take_le g c.args.before.now c.args.members.now pairs (c.pairs.place.pair + 1),
     )
+
+pub step_entry-step-requires-clause-sum : goal.step_entry-step-requires-clause-sum
+step_entry-step-requires-clause-sum c = λ x y at.
+    subst (λ (o : Option ℤ). IsSum (graph_of c.args.dag.now) c.args.before.now x y o) (sym c.get-sum.ensures)
+    (rw (le-ltb c.pairs.place.pair c.pairs.place.pair (omega arith)) at (c.pairs.invariant.sums c.pairs.place.pair x y at))
 
 pub note_sum-requires-clause-live : goal.note_sum-requires-clause-live
 note_sum-requires-clause-live c = λ r.
-    let inside : c.pairs.i < length c.pairs.entries.items = omega (arith, c.pairs.entries.ok.0) in
-    let e_is : c.index-entry.result.now ≡ entry_at c.pairs.entries.items c.pairs.i = read_at c.pairs.entries.items c.pairs.i c.index-entry.result.now inside c.index-entry.ensures in
-    let step : count_of c.step_entry-step.new.pool r + holds (entry_at c.pairs.entries.items c.pairs.i) r ≡ count_of c.pairs.pool r + holds c.step_entry-step.result.entry r =
+    let inside : c.pairs.place.pair < length c.pairs.entries.items = omega (arith, c.pairs.entries.ok.0) in
+    let e_is : c.index-entry.result.now ≡ entry_at c.pairs.entries.items c.pairs.place.pair = read_at c.pairs.entries.items c.pairs.place.pair c.index-entry.result.now inside c.index-entry.ensures in
+    let step : count_of c.step_entry-step.new.pool r + holds (entry_at c.pairs.entries.items c.pairs.place.pair) r ≡ count_of c.pairs.pool r + holds c.step_entry-step.result.entry r =
     subst (λ (e : Option (ℕ × ℕ)). count_of c.step_entry-step.new.pool r + holds e r ≡ count_of c.pairs.pool r + holds c.step_entry-step.result.entry r) e_is (c.step_entry-step.ensures.counts r) in
-    omega (arith, step, holds_held c.pairs.entries.items c.pairs.i r, c.pairs.invariant.counts r, c.requires.live r)
+    omega (arith, step, holds_held c.pairs.entries.items c.pairs.place.pair r, c.pairs.invariant.counts r, c.requires.live r)
 
 pub note_sum-requires-clause-sum : goal.note_sum-requires-clause-sum
-note_sum-requires-clause-sum c = λ x y at. rw (le-ltb c.pairs.i c.pairs.i (omega arith)) at (c.pairs.invariant.sums c.pairs.i x y at)
+note_sum-requires-clause-sum c = λ x y at. rw (le-ltb c.pairs.place.pair c.pairs.place.pair (omega arith)) at (c.pairs.invariant.sums c.pairs.place.pair x y at)
 
 pub pairs-init : goal.pairs-init
 pairs-init c = record {
+  at = c.busy_from-place.ensures.place;
   long = refl;
   unturned = λ j _. refl;
-  entry = λ k x y at. rw (le-ltb k 0 (omega arith)) (c.requires.entry k x y at);
+  entry =
+      entries_idle c.args.dag.now c.args.b c.args.before.now c.args.members.now c.requires.joined.joins 0 c.busy_from-place.result.pair (omega arith)
+      (λ k x y at _ less. c.busy_from-place.ensures.idle c.args.before.now k x y at c.requires.joined.joins (omega arith) less)
+      c.args.pool.now c.args.entries.now.items c.requires.joined.row c.requires.joined.voting.asked (λ k x y at. rw (le-ltb k 0 (omega arith)) (c.requires.entry k x y at));
   kept = λ k x y at. keeps_itself (graph_of c.args.dag.now) c.args.before.now c.args.members.now x y (entry_at c.args.entries.now.items k);
   counts = λ r. refl;
   others = λ r _. refl;
@@ -79,7 +91,10 @@ pairs-init c = record {
   live = omega arith;
   room = omega arith;
   as_long = refl;
-  sums = λ j x y at. rw (le-ltb j 0 (omega arith)) (c.requires.sums j x y at);
+  sums =
+      sums_idle c.args.dag.now c.args.b c.args.before.now c.args.members.now c.requires.joined.joins 0 c.busy_from-place.result.pair (omega arith)
+      (λ k x y at _ less. c.busy_from-place.ensures.idle c.args.before.now k x y at c.requires.joined.joins (omega arith) less)
+      c.args.sums.now (λ j x y at. rw (le-ltb j 0 (omega arith)) (c.requires.sums j x y at));
 }
 
 pub pairs-preserved : goal.pairs-preserved
@@ -88,49 +103,55 @@ pairs-preserved c =
     let g : Graph = graph_of table in
     let before : List ℕ = c.args.before.now in
     let members : List ℕ = c.args.members.now in
-    let inside : c.pairs.i < length c.pairs.entries.items = omega (arith, c.pairs.entries.ok.0) in
-    let pair = get_or (pairs_of table) c.pairs.i (0, 0) in
-    let at_i : slice_get (pairs_of table) c.pairs.i ≡ Some (pair.0, pair.1) = some_pair (pairs_of table) c.pairs.i (omega (arith, c.requires.long)) in
-    let e_is : c.index-entry.result.now ≡ entry_at c.pairs.entries.items c.pairs.i = read_at c.pairs.entries.items c.pairs.i c.index-entry.result.now inside c.index-entry.ensures in
+    let inside : c.pairs.place.pair < length c.pairs.entries.items = omega (arith, c.pairs.entries.ok.0) in
+    let pair = get_or (pairs_of table) c.pairs.place.pair (0, 0) in
+    let at_i : slice_get (pairs_of table) c.pairs.place.pair ≡ Some (pair.0, pair.1) = some_pair (pairs_of table) c.pairs.place.pair (omega (arith, c.requires.long)) in
+    let e_is : c.index-entry.result.now ≡ entry_at c.pairs.entries.items c.pairs.place.pair = read_at c.pairs.entries.items c.pairs.place.pair c.index-entry.result.now inside c.index-entry.ensures in
     let enough : (r : ℕ) → held c.pairs.entries.items r ≤ count_of c.pairs.pool r = λ r. omega (arith, c.pairs.invariant.counts r, c.requires.live r) in
-    let others : (r : ℕ) → holds (entry_at c.pairs.entries.items c.pairs.i) r < count_of c.pairs.pool r → row_of c.step_entry-step.new.pool r ≡ row_of c.pairs.pool r =
+    let others : (r : ℕ) → holds (entry_at c.pairs.entries.items c.pairs.place.pair) r < count_of c.pairs.pool r → row_of c.step_entry-step.new.pool r ≡ row_of c.pairs.pool r =
     λ r. subst (λ (e : Option (ℕ × ℕ)). holds e r < count_of c.pairs.pool r → row_of c.step_entry-step.new.pool r ≡ row_of c.pairs.pool r) e_is (c.step_entry-step.ensures.others r) in
-    let once : (r : ℕ) → IsOnce (count_of c.pairs.pool r) (holds (entry_at c.pairs.entries.items c.pairs.i) r) (holds c.step_entry-step.result.entry r) =
+    let once : (r : ℕ) → IsOnce (count_of c.pairs.pool r) (holds (entry_at c.pairs.entries.items c.pairs.place.pair) r) (holds c.step_entry-step.result.entry r) =
     λ r. subst (λ (e : Option (ℕ × ℕ)). IsOnce (count_of c.pairs.pool r) (holds e r) (holds c.step_entry-step.result.entry r)) e_is (c.step_entry-step.ensures.once r) in
+    let next : ℕ = c.after-place.result.pair in
+    let later : c.pairs.place.pair + 1 ≤ next = (let less : c.pairs.place.pair < next = c.after-place.ensures.later in omega arith) in
+    let idle : (k x y : ℕ) → slice_get (pairs_of table) k ≡ Some (x, y) → c.pairs.place.pair + 1 ≤ k → k < next → IsIdle g c.args.b before members x y =
+    λ k x y at more less. c.after-place.ensures.idle before k x y at c.requires.joined.joins (omega arith) less in
     record {
+      at = c.after-place.ensures.place;
       long = c.pairs.invariant.long;
       unturned = λ j le.
-          let other : j ≢ c.pairs.i = λ e. omega arith in
-          get_or-set_other c.pairs.entries.items c.pairs.i j c.step_entry-step.result.entry None other ∙ c.pairs.invariant.unturned j (omega arith);
+          let other : j ≢ c.pairs.place.pair = λ e. omega arith in
+          get_or-set_other c.pairs.entries.items c.pairs.place.pair j c.step_entry-step.result.entry None other ∙ c.pairs.invariant.unturned j (omega arith);
       entry =
-          entries_step table before members c.pairs.i c.pairs.pool c.step_entry-step.new.pool c.pairs.entries.items c.step_entry-step.result.entry inside enough others
-          (λ x y at is. c.step_entry-step.ensures.entry x y at) c.pairs.invariant.entry;
+          entries_idle table c.args.b before members c.requires.joined.joins (c.pairs.place.pair + 1) next later idle c.step_entry-step.new.pool _ c.requires.joined.row c.requires.joined.voting.asked
+          (entries_step table before members c.pairs.place.pair c.pairs.pool c.step_entry-step.new.pool c.pairs.entries.items c.step_entry-step.result.entry inside enough others
+          (λ x y at is. c.step_entry-step.ensures.entry x y at) c.pairs.invariant.entry);
       kept =
-          kept_step table before members c.pairs.i c.args.entries.now.items c.pairs.entries.items c.step_entry-step.result.entry inside
+          kept_step table before members c.pairs.place.pair c.args.entries.now.items c.pairs.entries.items c.step_entry-step.result.entry inside
           (λ x y at.
           subst (λ (e : Option (ℕ × ℕ)). KeepIds g before members x y e c.step_entry-step.result.entry)
-          (e_is ∙ c.pairs.invariant.unturned c.pairs.i (omega arith)) (c.step_entry-step.ensures.kept x y at))
+          (e_is ∙ c.pairs.invariant.unturned c.pairs.place.pair (omega arith)) (c.step_entry-step.ensures.kept x y at))
           c.pairs.invariant.kept;
       counts = λ r.
-          let step : count_of c.step_entry-step.new.pool r + holds (entry_at c.pairs.entries.items c.pairs.i) r ≡ count_of c.pairs.pool r + holds c.step_entry-step.result.entry r =
+          let step : count_of c.step_entry-step.new.pool r + holds (entry_at c.pairs.entries.items c.pairs.place.pair) r ≡ count_of c.pairs.pool r + holds c.step_entry-step.result.entry r =
           subst (λ (e : Option (ℕ × ℕ)). count_of c.step_entry-step.new.pool r + holds e r ≡ count_of c.pairs.pool r + holds c.step_entry-step.result.entry r) e_is (c.step_entry-step.ensures.counts r) in
-          omega (arith, step, c.pairs.invariant.counts r, held_set c.pairs.entries.items c.pairs.i c.step_entry-step.result.entry r inside);
+          omega (arith, step, c.pairs.invariant.counts r, held_set c.pairs.entries.items c.pairs.place.pair c.step_entry-step.result.entry r inside);
       others = λ r h.
-          let some : holds (entry_at c.pairs.entries.items c.pairs.i) r < count_of c.pairs.pool r = omega (arith, holds_held c.pairs.entries.items c.pairs.i r, c.pairs.invariant.counts r) in
+          let some : holds (entry_at c.pairs.entries.items c.pairs.place.pair) r < count_of c.pairs.pool r = omega (arith, holds_held c.pairs.entries.items c.pairs.place.pair r, c.pairs.invariant.counts r) in
           others r some ∙ c.pairs.invariant.others r h;
       alive = λ r h. c.step_entry-step.ensures.alive r (c.pairs.invariant.alive r h);
-      once = λ r. once_step c.pairs.entries.items c.pairs.i c.step_entry-step.result.entry (count_of c.pairs.pool r) r inside (enough r) (c.pairs.invariant.once r) (once r);
-      fresh = fresh_step c.args.entries.now.items c.pairs.entries.items c.pairs.i c.step_entry-step.result.entry c.args.pool.now c.pairs.pool c.step_entry-step.new.pool inside
-          (c.pairs.invariant.unturned c.pairs.i (omega arith)) enough c.pairs.invariant.alive
+      once = λ r. once_step c.pairs.entries.items c.pairs.place.pair c.step_entry-step.result.entry (count_of c.pairs.pool r) r inside (enough r) (c.pairs.invariant.once r) (once r);
+      fresh = fresh_step c.args.entries.now.items c.pairs.entries.items c.pairs.place.pair c.step_entry-step.result.entry c.args.pool.now c.pairs.pool c.step_entry-step.new.pool inside
+          (c.pairs.invariant.unturned c.pairs.place.pair (omega arith)) enough c.pairs.invariant.alive
           (subst (λ (e : Option (ℕ × ℕ)). (r : ℕ) → count_of c.step_entry-step.new.pool r + holds e r ≡ count_of c.pairs.pool r + holds c.step_entry-step.result.entry r) e_is c.step_entry-step.ensures.counts)
-          (λ r some. results_of (count_of c.pairs.pool r) (holds (entry_at c.pairs.entries.items c.pairs.i) r) (holds c.step_entry-step.result.entry r) (once r) some)
+          (λ r some. results_of (count_of c.pairs.pool r) (holds (entry_at c.pairs.entries.items c.pairs.place.pair) r) (holds c.step_entry-step.result.entry r) (once r) some)
           (subst (λ (e : Option (ℕ × ℕ)). e ≡ None → IfSome c.step_entry-step.result.entry (IsFresh c.pairs.pool c.step_entry-step.new.pool)) e_is c.step_entry-step.ensures.fresh)
           c.pairs.invariant.fresh;
-      live = omega (arith, c.step_entry-step.ensures.live pair.0 pair.1 at_i, c.pairs.invariant.live, moved_take g before members (pairs_of table) c.pairs.i pair.0 pair.1 at_i);
+      live = omega (arith, c.step_entry-step.ensures.live pair.0 pair.1 at_i, c.pairs.invariant.live, moved_take g before members (pairs_of table) c.pairs.place.pair pair.0 pair.1 at_i, moved_more g before members (pairs_of table) (c.pairs.place.pair + 1) next later);
       as_long = c.note_sum.ensures.as_long ∙ c.pairs.invariant.as_long;
-      sums = sums_step table before members c.pairs.i c.pairs.sums c.note_sum.new.sums c.note_sum.ensures.others
-          (λ x y at. c.note_sum.ensures.sum x y at) c.pairs.invariant.sums;
-      room = omega (arith, c.step_entry-step.ensures.spare pair.0 pair.1 at_i, c.pairs.invariant.room, moved_take g before members (pairs_of table) c.pairs.i pair.0 pair.1 at_i);
+      sums = sums_idle table c.args.b before members c.requires.joined.joins (c.pairs.place.pair + 1) next later idle c.note_sum.new.sums (sums_step table before members c.pairs.place.pair c.pairs.sums c.note_sum.new.sums c.note_sum.ensures.others
+          (λ x y at. c.note_sum.ensures.sum x y at) c.pairs.invariant.sums);
+      room = omega (arith, c.step_entry-step.ensures.spare pair.0 pair.1 at_i, c.pairs.invariant.room, moved_take g before members (pairs_of table) c.pairs.place.pair pair.0 pair.1 at_i, moved_more g before members (pairs_of table) (c.pairs.place.pair + 1) next later);
     }
 
 pub returns : goal.returns
@@ -139,13 +160,13 @@ returns c =
     record {
       long = c.pairs.invariant.long;
       entry = entries_end c.args.dag.now c.args.members.now n c.requires.none c.pairs.pool c.pairs.entries.items (omega (arith, c.pairs.entries.ok.0, c.pairs.invariant.long))
-          (λ j x y less at. rw (lt-ltb j c.pairs.i (omega (arith, less))) at (c.pairs.invariant.entry j x y at));
+          (λ j x y less at. rw (lt-ltb j c.pairs.place.pair (omega (arith, less))) at (c.pairs.invariant.entry j x y at));
       kept = c.pairs.invariant.kept;
       counts = c.pairs.invariant.counts;
       others = c.pairs.invariant.others;
       once = c.pairs.invariant.once;
       fresh = c.pairs.invariant.fresh;
-      sums = sums_end c.args.dag.now c.args.members.now n c.requires.none c.args.before.now c.pairs.i c.pairs.sums (omega arith) c.pairs.invariant.sums;
+      sums = sums_end c.args.dag.now c.args.members.now n c.requires.none c.args.before.now c.pairs.place.pair c.pairs.sums (omega arith) c.pairs.invariant.sums;
       as_long = c.pairs.invariant.as_long;
-      live = omega (arith, c.pairs.invariant.live, moved_take_le (graph_of c.args.dag.now) c.args.before.now c.args.members.now (pairs_of c.args.dag.now) c.pairs.i);
+      live = omega (arith, c.pairs.invariant.live, moved_take_le (graph_of c.args.dag.now) c.args.before.now c.args.members.now (pairs_of c.args.dag.now) c.pairs.place.pair);
     }

@@ -1,6 +1,7 @@
-use Rattle.std.proofs.Common.{◌≡◌, ◌<◌, ◌≤◌, ◌+◌, ℕ, length, take}
+use Rattle.std.proofs.Common.{◌≡◌, ◌<◌, ◌≤◌, ◌+◌, ◌-◌, ℕ, length, take}
 use Rattle.std.specs.Prelude.{vec_len}
 use Rattle.sp_dag.specs.Numbered.{graph_of, pairs_of}
+use Rattle.sp_view.specs.Idle.{IsPlace}
 use Rattle.sp_view.specs.Stored.{count_of, row_of, spare, live}
 use Rattle.sp_view.specs.Moving.{moved_rows}
 use Rattle.sp_view.specs.Views.{entry_at, held, AreFresh, AreKeptIds}
@@ -10,9 +11,10 @@ use Rattle.sp_view.proofs.entries.join_entries.Given as goal
 
 abbrev pub invariant-pairs : goal.invariant-pairs
 invariant-pairs l = record {
+  at : IsPlace l.dag l.place.pair l.place.second l.place.end;
   long : vec_len l.entries ≡ vec_len l.fn.entries;
-  unturned : (j : ℕ) → l.i ≤ j → entry_at l.entries.items j ≡ entry_at l.fn.entries.items j;
-  entry : AreEntriesTo l.dag l.before l.members l.i l.pool l.entries.items;
+  unturned : (j : ℕ) → l.place.pair ≤ j → entry_at l.entries.items j ≡ entry_at l.fn.entries.items j;
+  entry : AreEntriesTo l.dag l.before l.members l.place.pair l.pool l.entries.items;
   kept : AreKeptIds l.dag l.before l.members l.fn.entries.items l.entries.items;
   counts : (r : ℕ) → count_of l.pool r + held l.fn.entries.items r ≡ count_of l.fn.pool r + held l.entries.items r;
   others : (r : ℕ) → held l.fn.entries.items r < count_of l.fn.pool r → row_of l.pool r ≡ row_of l.fn.pool r;
@@ -20,7 +22,10 @@ invariant-pairs l = record {
   once : (r : ℕ) → held l.entries.items r ≤ 1;
   fresh : AreFresh l.fn.entries.items l.entries.items l.fn.pool l.pool;
   as_long : length l.sums ≡ length l.fn.sums;
-  sums : AreSumsTo l.dag l.before l.members l.i l.sums;
-  live : live l.pool ≤ live l.fn.pool + moved_rows (graph_of l.dag) l.before l.members (take l.i (pairs_of l.dag));
-  room : spare l.fn.pool ≤ spare l.pool + moved_rows (graph_of l.dag) l.before l.members (take l.i (pairs_of l.dag));
+  sums : AreSumsTo l.dag l.before l.members l.place.pair l.sums;
+  live : live l.pool ≤ live l.fn.pool + moved_rows (graph_of l.dag) l.before l.members (take l.place.pair (pairs_of l.dag));
+  room : spare l.fn.pool ≤ spare l.pool + moved_rows (graph_of l.dag) l.before l.members (take l.place.pair (pairs_of l.dag));
 }
+
+abbrev pub decreases-pairs : goal.decreases-pairs
+decreases-pairs l = l.end - l.place.pair

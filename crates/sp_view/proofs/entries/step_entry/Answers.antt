@@ -1,8 +1,6 @@
-use Rattle.std.proofs.Common.{◌∙◌, ℕ, Option, Some, arith, subst, sym}
+use Rattle.std.proofs.Common.{ℕ, Option, Some, arith, subst}
 use Rattle.sp_dag.specs.Numbered.{graph_of}
 use Rattle.sp_model.specs.Graph.{Graph}
-use Rattle.sp_view.specs.Settled.{AreSides}
-use Rattle.sp_view.specs.Stored.{row_of}
 use Rattle.sp_view.specs.Views.{IsEntry}
 use Rattle.sp_view.proofs.Moves.{moved_changes, moves_old}
 use Rattle.sp_view.proofs.entries.step_entry.Goals as goal
@@ -31,10 +29,9 @@ returns-in-Some-clause-live c = λ x y at.
       moved_changes g c.args.before.now c.args.members.now x y c.requires.joined.row c.requires.joined.voting.asked.row c.in-Some.rows c.joined_entry-joined.result.rows (c.joined_entry-joined.ensures.kept x y at),
     )
 
-pub returns-in-Some-clause-same : goal.returns-in-Some-clause-same
-returns-in-Some-clause-same c = λ same x y at.
+pub joined_entry-joined-requires-clause-before : goal.joined_entry-joined-requires-clause-before
+joined_entry-joined-requires-clause-before c = λ x y at.
     let g : Graph = graph_of c.args.dag.now in
     let entry : IsEntry g c.args.before.now x y c.args.pool.now (Some c.in-Some.rows) =
     subst (λ (e : Option (ℕ × ℕ)). IsEntry g c.args.before.now x y c.args.pool.now e) c.in-Some.is (c.requires.entry x y at) in
-    let still : AreSides g c.args.members.now x y (row_of c.args.pool.now c.in-Some.rows.0) (row_of c.args.pool.now c.in-Some.rows.1) = c.joined_entry-joined.ensures.same same x y at in
-    record { inside = entry.0; plus_is = sym entry.1.plus_is ∙ still.plus_is; minus_is = sym entry.1.minus_is ∙ still.minus_is }
+    entry.0
