@@ -20,3 +20,5 @@ pub mod Updated
 pub mod Outcome
 pub mod Rowwise
 pub mod Accepting
+pub mod Spent
+pub mod Listed

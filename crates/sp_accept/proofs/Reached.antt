@@ -1,48 +1,17 @@
 -- The transactions of the carriers that turned, and their flags.
 use Rattle.std.proofs.Common.{◌≡◌, ◌<◌, ◌+◌, ◌∙◌, ℕ, Bool, true, List, [], ◌∷◌, ◌++◌, take, arith, refl, sym, ap, length, get_or, eqb}
 use Rattle.std.specs.Prelude.{All, filter, slice_set}
-use Rattle.std.specs.List.{list_any, range_with_len}
-use Rattle.std.specs.BTreeMap.{is_at}
-use Rattle.std.specs.BTreeSet.{IsOrdered}
-use Rattle.std.specs.Ordering.{is_eq, nat_cmp}
-use Rattle.std.proofs.lemmas.Bool.{eq-eqb, eqb-true}
-use Rattle.std.proofs.lemmas.Cmp.{nat_cmp_total}
+use Rattle.std.specs.List.{list_any}
+use Rattle.std.proofs.lemmas.Bool.{eqb-true}
 use Rattle.std.proofs.lemmas.List.{take_more}
 use Rattle.std.proofs.lemmas.List.Elements.{All-from_get_or}
-use Rattle.std.proofs.lemmas.List.Kept.{IsStrictlySortedBy-filter}
-use Rattle.std.proofs.lemmas.Map.Lookups.{btree_set_from_contains}
 use Rattle.sp_carry.specs.declared.carrier.Flip.{Flip}
 use Rattle.sp_carry.specs.Carried.{Carried, IsCarried}
-use Rattle.sp_carry.specs.Rivals.{has_number, Set}
-use Rattle.sp_carry.proofs.Members.{IsIn, any_of_member, bool_same, in_filter, in_filter_from, member_meets, member_of_any}
-use Rattle.sp_carry.proofs.Noting.{is_eq-nat_cmp}
-use Rattle.sp_carry.proofs.Rivalry.{equal_is_same, range_sorted}
+use Rattle.sp_carry.proofs.Members.{IsIn, in_filter, member_meets, member_of_any}
 use Rattle.sp_carry.specs.Flags.{with_flips}
 use Rattle.sp_accept.specs.Rows.{row_at}
-use Rattle.sp_accept.proofs.Ranges.{in_range_from}
 use Rattle.sp_accept.proofs.Carriers.{rows_are}
 use Rattle.sp_accept.proofs.Places.{in_place}
-
--- the numbers of a set, by a test
-pub keys_listed : (set : Set) (test : ℕ → Bool) (n : ℕ) → IsOrdered nat_cmp set → ((d : ℕ) → has_number set d ≡ test d) → ((d : ℕ) → test d ≡ true → d < n)
-    → set.keys ≡ filter test (range_with_len 0 n)
-keys_listed set test n ordered has below =
-    btree_set_from_contains nat_cmp_total set (record { keys = filter test (range_with_len 0 n) }) ordered
-    (IsStrictlySortedBy-filter nat_cmp test (range_with_len 0 n) (range_sorted 0 n)) (λ d. has d ∙ sym (listed d)) equal_is_same
-  where
-    listed : (d : ℕ) → list_any (is_at (nat_cmp d)) (filter test (range_with_len 0 n)) ≡ test d
-    listed d = bool_same (list_any (is_at (nat_cmp d)) (filter test (range_with_len 0 n))) (test d) into back
-      where
-        into : list_any (is_at (nat_cmp d)) (filter test (range_with_len 0 n)) ≡ true → test d ≡ true
-        into h =
-            let m : (e : ℕ) × IsIn (filter test (range_with_len 0 n)) e × (is_eq (nat_cmp d e) ≡ true) = member_of_any (is_at (nat_cmp d)) (filter test (range_with_len 0 n)) h in
-            ap test (eqb-true d m.0 (sym (is_eq-nat_cmp d m.0) ∙ m.2)) ∙ (in_filter test (range_with_len 0 n) m.0 m.1).1
-
-        back : test d ≡ true → list_any (is_at (nat_cmp d)) (filter test (range_with_len 0 n)) ≡ true
-        back h =
-            any_of_member (is_at (nat_cmp d)) (filter test (range_with_len 0 n)) d
-            (in_filter_from test (range_with_len 0 n) d (in_range_from 0 n d (omega arith) (let lt : d < n = below d h in omega (arith, lt))) h)
-            (is_eq-nat_cmp d d ∙ eq-eqb d d refl)
 
 -- a transaction of a carrier is one of all
 pub tx_known : (k : Carried) → IsCarried k → (turned : List ℕ) → All (λ c. c < length k.rows) turned → (tx : ℕ)

@@ -63,9 +63,9 @@ impl Accepted {
     /// whose acceptance differs from before, ascending, each with its new state. The order has to
     /// speak of the graph whose blocks were added.
     ///
-    /// It goes over the carriers once, in their order. For each it looks up the transactions that it
-    /// spends and the other spenders of what it spends, with their carriers, and stops at the first
-    /// that decides; it makes no list of them. It takes memory for one flag of each carrier, one of
+    /// It goes over the carriers once, in their order. For each it looks at the transactions that it
+    /// spends and looks up the other spenders of what it spends, with their carriers, and stops at the
+    /// first that decides; it makes no list of them. It takes memory for one flag of each carrier, one of
     /// each transaction, and the answer.
     ///
     /// # Errors
@@ -102,14 +102,15 @@ impl Accepted {
     /// It looks again at the carriers of whole blocks, block by block and ascending, at each once: of the
     /// new blocks with a sound carrier, of the older blocks that don't come before a new one with a sound
     /// carrier that has rivals, of both blocks of each pair, and of each block above one in which a carrier
-    /// turned. Each carrier takes two tests of rows, and a look-up of each transaction that it spends, with
-    /// the carriers of that one. Where some of its rivals stand in the past of its block, it takes a look-up
-    /// of each outpoint that it spends, too, and a test of a row for each other spender of it: such a row is
-    /// filled from the carriers of its transaction when it is first asked for, and when one of these turned.
-    /// The order is asked of each older block beside each such new one, for each block that is decided on
-    /// again of the blocks in which its carriers have rivals, and of each block above one in which a carrier
-    /// turned. Memory is taken for the flags, for the rows that were asked for, for what turned, and for the
-    /// answer.
+    /// turned. Each carrier takes two tests of rows, and a look at the carriers of each transaction that it
+    /// spends, which is known by its number, or looked up where this one's came first. Where some of its
+    /// rivals stand in the past of its block, it takes a look-up of each outpoint that it spends, too, and
+    /// a test of a row for each other spender of it: such a row is filled from the carriers of its
+    /// transaction when it is first asked for, and when one of these turned. The order is asked of each
+    /// older block beside each such new one, for each block that is decided on again of the blocks in which
+    /// its carriers have rivals, and of each block above one in which a carrier turned. Memory is taken for
+    /// the flags, for a mark of each transaction, for the rows that were asked for, for what turned, and
+    /// for the answer.
     ///
     /// # Errors
     ///

@@ -8,7 +8,7 @@ ghost use Rattle.sp_model.specs.Graph.{has};
 ghost use Rattle.sp_carry.specs.RivalBlocks.{rival_blocks};
 ghost use Rattle.sp_accept.specs.AcceptedRows.{is_spent_outside, AreAccepted};
 ghost use Rattle.sp_accept.specs.Around.{IsAround};
-ghost use Rattle.sp_accept.specs.Pass.{is_next};
+ghost use Rattle.sp_accept.specs.Pass.{inputs_at, is_next};
 ghost use Rattle.sp_accept.specs.Rows.{row_at, AreOf};
 
 use crate::accepted_rows::AcceptedRows;
@@ -18,7 +18,6 @@ use crate::order::Order;
 use crate::outside::is_any_outside;
 use crate::sources::are_sources_accepted;
 use sp_carry::Carriers;
-use sp_tx::Input;
 use std::alloc::AllocError;
 
 /// Whether a rival of the transaction stands in the way from beside.
@@ -36,17 +35,18 @@ fn is_outdone_below(
     rows: &mut AcceptedRows,
     around: &Around,
     tx: u32,
-    inputs: &[Input],
 ) -> Result<bool, AllocError>
     requires tx { tx < length carriers.now.txs }
     requires kept { AreAccepted carriers.now flags.now rows.old.places.items rows.old.rows.items }
     ensures kept { AreAccepted carriers.now flags.now rows.new.places.items rows.new.rows.items }
     ensures outdone { IfOk result (λ outdone. outdone ≡ (not (list_all (has around.now.safe) (rival_blocks carriers.now tx))
-        && list_any (is_spent_outside carriers.now flags.now around.now.safe tx) inputs.now)) }
+        && list_any (is_spent_outside carriers.now flags.now around.now.safe tx) (inputs_at carriers.now tx))) }
 {
     if carriers.rival_blocks(tx).within(&around.safe) {
         return Ok(false);
     }
+    let spender = carriers.tx(tx);
+    let inputs = spender.inputs.as_slice();
     let any = is_any_outside(carriers, flags, rows, &around.safe, tx, inputs)?;
     Ok(any)
 }
@@ -71,17 +71,15 @@ pub(crate) fn is_next_by_rows<O: Order>(
     // Tells the proof what carriers are.
     let _blocks = carriers.block_count();
     let row = carrier_at(carriers, c);
-    let tx = carriers.tx(row.tx);
-    let inputs = tx.inputs.as_slice();
     if !row.sound {
         return Ok(false);
     }
     if is_beaten_beside(carriers, around, row.tx) {
         return Ok(false);
     }
-    if !are_sources_accepted(order, carriers, flags, row.block, inputs) {
+    if !are_sources_accepted(order, carriers, flags, row.block, row.tx) {
         return Ok(false);
     }
-    let outdone = is_outdone_below(carriers, flags, rows, around, row.tx, inputs)?;
+    let outdone = is_outdone_below(carriers, flags, rows, around, row.tx)?;
     Ok(!outdone)
 }

@@ -3,6 +3,7 @@
 ghost use Rattle.std.specs.Prelude.{◌≡◌, ◌<◌, ◌≤◌, ℕ, length, All};
 ghost use Rattle.sp_carry.specs.Carried.{carriers_in};
 ghost use Rattle.sp_carry.specs.Lookups.{spenders_in};
+ghost use Rattle.sp_carry.specs.Sources.{sources_in};
 ghost use Rattle.sp_accept.specs.Rows.{row_at};
 
 use sp_carry::{Carrier, Carriers};
@@ -57,4 +58,13 @@ pub(crate) fn spenders_of<'a>(carriers: &'a Carriers, from: &Outpoint) -> &'a [u
     ensures within { All (λ tx. tx < length carriers.now.txs) result.now }
 {
     carriers.spenders_of(from)
+}
+
+/// The numbers of the transactions that this one spends.
+pub(crate) fn sources_of(carriers: &Carriers, tx: u32) -> &[u32]
+    requires { tx < length carriers.now.txs }
+    ensures value { result.now ≡ sources_in carriers.now.txs tx }
+    ensures within { All (λ source. source < length carriers.now.txs) result.now }
+{
+    carriers.sources_of(tx)
 }

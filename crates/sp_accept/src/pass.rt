@@ -24,7 +24,7 @@ fn is_next<O: Order>(order: &O, carriers: &Carriers, flags: &[bool], c: u32) -> 
     let tx = carriers.tx(row.tx);
     let inputs = tx.inputs.as_slice();
     row.sound
-        && are_sources_accepted(order, carriers, flags, row.block, inputs)
+        && are_sources_accepted(order, carriers, flags, row.block, row.tx)
         && !is_outdone(order, carriers, flags, row, inputs)
 }
 

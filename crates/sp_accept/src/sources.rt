@@ -1,10 +1,10 @@
 //! Whether what a carrier spends is accepted in the past of its block.
 
-ghost use Rattle.std.specs.Prelude.{◌≡◌, ◌<◌, length, IsTrue, Some};
+ghost use Rattle.std.specs.Prelude.{◌≡◌, ◌<◌, All, length, IsTrue, Some};
 ghost use Rattle.std.specs.List.{list_all};
-ghost use Rattle.sp_accept.specs.Pass.{has_source, is_accepted_below, is_paid};
+ghost use Rattle.sp_accept.specs.Pass.{has_source, inputs_at, is_accepted_below, is_paid};
 
-use crate::lookups::{carrier_at, carriers_of};
+use crate::lookups::{carrier_at, carriers_of, sources_of};
 use crate::order::Order;
 use sp_carry::{Carriers, is_set};
 use sp_ids::TxId;
@@ -72,7 +72,7 @@ fn is_last(last: &Option<TxId>, tx: &TxId) -> bool
 
 /// Whether each input's transaction has an accepted carrier in the past of the block. One that several
 /// inputs name is looked at once: inputs are sorted, so they stand side by side.
-pub(crate) fn are_sources_accepted<O: Order>(
+fn are_named_accepted<O: Order>(
     order: &O,
     carriers: &Carriers,
     flags: &[bool],
@@ -94,4 +94,63 @@ pub(crate) fn are_sources_accepted<O: Order>(
         last = Some(input.from.tx);
     }
     true
+}
+
+/// Whether this is the number that was looked at last.
+fn is_last_number(last: Option<u32>, tx: u32) -> bool
+    ensures { IsTrue result → last ≡ Some tx }
+{
+    match last {
+        Some(one) => one == tx,
+        None => false,
+    }
+}
+
+/// Whether each of these transactions has an accepted carrier in the past of the block. Those that are one
+/// and stand side by side are looked at once.
+fn are_all_paid<O: Order>(
+    order: &O,
+    carriers: &Carriers,
+    flags: &[bool],
+    block: u16,
+    list: &[u32],
+) -> bool
+    requires blocks { length (O.table order.now).parents ≡ carriers.now.blocks }
+    requires block { block < carriers.now.blocks }
+    requires list { All (λ tx. tx < length carriers.now.txs) list.now }
+    ensures { result ≡ list_all (is_paid (O.table order.now) carriers.now flags.now block) list.now }
+{
+    let mut last = None;
+    'sources: for tx in list {
+        if is_last_number(last, *tx) {
+            continue;
+        }
+        if !is_paid(order, carriers, flags, block, *tx) {
+            return false;
+        }
+        last = Some(*tx);
+    }
+    true
+}
+
+/// Whether each transaction that this one spends has an accepted carrier in the past of the block. They are
+/// known by their numbers, or else looked up by their ids, as where this one came before them.
+pub(crate) fn are_sources_accepted<O: Order>(
+    order: &O,
+    carriers: &Carriers,
+    flags: &[bool],
+    block: u16,
+    tx: u32,
+) -> bool
+    requires blocks { length (O.table order.now).parents ≡ carriers.now.blocks }
+    requires block { block < carriers.now.blocks }
+    requires tx { tx < length carriers.now.txs }
+    ensures { result ≡ list_all (has_source (O.table order.now) carriers.now flags.now block) (inputs_at carriers.now tx) }
+{
+    let list = sources_of(carriers, tx);
+    if list.is_empty() {
+        let named = carriers.tx(tx);
+        return are_named_accepted(order, carriers, flags, block, named.inputs.as_slice());
+    }
+    are_all_paid(order, carriers, flags, block, list)
 }

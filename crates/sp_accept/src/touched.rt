@@ -1,8 +1,8 @@
-//! Which transactions turn where some carriers did, and their new flags.
+//! Which transactions turn where some carriers did, and their new flags. They are marked and then gone
+//! over in their order, so that none is put into a set for each of its carriers that turned.
 
-ghost use Rattle.std.specs.Prelude.{◌≡◌, ◌<◌, ◌≤◌, ◌==◌, ◌||◌, ℕ, All, length, vec_capacity, IfOk, IsFalse, IsTrue, OnOk, filter};
+ghost use Rattle.std.specs.Prelude.{◌≡◌, ◌<◌, ◌≤◌, ◌==◌, ◌||◌, ◌++◌, ◌∷◌, [], ℕ, All, length, vec_capacity, cond, false, IfOk, OnOk, filter};
 ghost use Rattle.std.specs.List.{list_any, range_with_len};
-ghost use Rattle.sp_carry.specs.Rivals.{has_number};
 ghost use Rattle.sp_carry.specs.declared.carrier.Flip.{Flip};
 ghost use Rattle.sp_carry.specs.Flags as meant;
 ghost use Rattle.sp_carry.specs.Flags.{with_flips};
@@ -15,56 +15,61 @@ use crate::flags::grow;
 use crate::flips::note;
 use crate::lookups::carrier_at;
 use crate::pass::is_any_accepted;
-use sp_carry::{Carriers, Flip, ascending, is_set};
+use sp_carry::{Carriers, Flip, is_set};
 use std::alloc::{AllocError, Global};
-use std::collections::BTreeSet;
 
-/// A flag that isn't set for each of so many transactions, where more carriers turned, and else none.
-fn no_flags(alloc: Global, turned: usize, txs: usize) -> Result<Vec<bool>, AllocError>
-    ensures { IfOk result (λ flags. (n : ℕ) → IsFalse (meant.is_set flags.items n)) }
+/// A flag that isn't set for each of so many transactions.
+fn no_flags(alloc: Global, txs: usize) -> Result<Vec<bool>, AllocError>
+    ensures none { IfOk result (λ flags. (n : ℕ) → meant.is_set flags.items n ≡ false) }
+    ensures long { IfOk result (λ flags. length flags.items ≡ txs) }
 {
-    let mut flags = Vec::new(alloc);
-    if txs < turned {
-        flags.reserve(txs)?;
-        grow(&mut flags, txs);
-    }
+    let mut flags = Vec::with_capacity(alloc, txs)?;
+    grow(&mut flags, txs);
     Ok(flags)
 }
 
-/// Notes a number. Where it has a flag, it is noted once.
-fn note_once(
-    numbers: &mut BTreeSet<u32>,
-    noted: &mut Vec<bool>,
-    number: u32,
-) -> Result<(), AllocError>
-    requires noted { (n : ℕ) → IsTrue (meant.is_set noted.old.items n) → IsTrue (has_number numbers.old n) }
-    ensures numbers { OnOk result ((n : ℕ) → has_number numbers.new n ≡ (has_number numbers.old n || (number == n))) }
-    ensures noted { OnOk result ((n : ℕ) → IsTrue (meant.is_set noted.new.items n) → IsTrue (has_number numbers.new n)) }
+/// Sets the flag of a number.
+fn mark(noted: &mut Vec<bool>, number: u32)
+    requires { number < length noted.old.items }
+    ensures noted { (n : ℕ) → meant.is_set noted.new.items n ≡ (meant.is_set noted.old.items n || (number == n)) }
+    ensures long { length noted.new.items ≡ length noted.old.items }
+{
+    noted[number as usize] = true;
+}
+
+/// A flag for each transaction, set for those of some carriers.
+fn noted_of(alloc: Global, carriers: &Carriers, turned: &[u32]) -> Result<Vec<bool>, AllocError>
+    requires { All (λ c. c < length carriers.now.rows) turned.now }
+    ensures { IfOk result (λ noted. (tx : ℕ) → meant.is_set noted.items tx
+        ≡ list_any (λ c. (row_at carriers.now.rows c).tx == tx) turned.now) }
+{
+    let mut noted = no_flags(alloc, carriers.tx_count() as usize)?;
+    'turned: for c in turned {
+        mark(&mut noted, carrier_at(carriers, *c).tx);
+    }
+    Ok(noted)
+}
+
+/// Notes a number, where its flag is set.
+fn note_number(list: &mut Vec<u32>, noted: &[bool], number: u32) -> Result<(), AllocError>
+    ensures { OnOk result (list.new.items
+        ≡ list.old.items ++ cond (meant.is_set noted.now number) (number ∷ []) []) }
 {
     if is_set(noted, number) {
-        return Ok(());
-    }
-    numbers.insert(number)?;
-    let place = number as usize;
-    if place < noted.len() {
-        noted[place] = true;
+        list.push(number)?;
     }
     Ok(())
 }
 
-/// The transactions of some carriers. Where more carriers turned than there are transactions, these have
-/// flags, so that each is put into the set once.
-fn txs_of(alloc: Global, carriers: &Carriers, turned: &[u32]) -> Result<BTreeSet<u32>, AllocError>
-    requires { All (λ c. c < length carriers.now.rows) turned.now }
-    ensures { IfOk result (λ txs. (tx : ℕ) → has_number txs tx
-        ≡ list_any (λ c. (row_at carriers.now.rows c).tx == tx) turned.now) }
+/// The numbers below one whose flags are set, ascending.
+fn numbers_of(alloc: Global, noted: &[bool], count: u32) -> Result<Vec<u32>, AllocError>
+    ensures { IfOk result (λ list. list.items ≡ filter (meant.is_set noted.now) (range_with_len 0 count)) }
 {
-    let mut txs = BTreeSet::new(alloc);
-    let mut noted = no_flags(alloc, turned.len(), carriers.tx_count() as usize)?;
-    'turned: for c in turned {
-        note_once(&mut txs, &mut noted, carrier_at(carriers, *c).tx)?;
+    let mut list = Vec::new(alloc);
+    'numbers: for number in 0..count {
+        note_number(&mut list, noted, number)?;
     }
-    Ok(txs)
+    Ok(list)
 }
 
 /// Each of these transactions whose flag differs, in their order, with its new one.
@@ -108,8 +113,8 @@ pub(crate) fn turned_txs(
 {
     // Tells the proof what carriers are.
     let _blocks = carriers.block_count();
-    let txs = txs_of(alloc, carriers, turned)?;
-    let list = ascending(alloc, &txs)?;
+    let noted = noted_of(alloc, carriers, turned)?;
+    let list = numbers_of(alloc, &noted, carriers.tx_count())?;
     let flips = flips_of(alloc, carriers, &list, flags, old)?;
     Ok(flips)
 }

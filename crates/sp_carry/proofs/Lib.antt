@@ -27,3 +27,4 @@ pub mod Flipping
 pub mod Marked
 pub mod RivalRows
 pub mod Rowed
+pub mod Sourced

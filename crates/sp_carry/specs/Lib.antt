@@ -10,3 +10,4 @@ pub mod Worth
 pub mod Growth
 pub mod Rivals
 pub mod RivalBlocks
+pub mod Sources

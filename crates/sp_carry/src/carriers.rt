@@ -6,11 +6,14 @@ ghost use Rattle.sp_carry.specs.Lookups.{spenders_in};
 ghost use Rattle.sp_carry.specs.Carried.{carriers_in, cut_to, nothing, number_of, rows_of_first, tx_at, with_block, IsCarried};
 ghost use Rattle.sp_carry.specs.Rivals.{rivals_of};
 ghost use Rattle.sp_carry.specs.RivalBlocks.{rival_blocks};
+ghost use Rattle.sp_carry.specs.Sources.{sources_in};
 
 use crate::beside::{add_rows, cut_rows};
 use crate::carrier::Carrier;
 use crate::carry::carry_with_room;
+use crate::few::Few;
 use crate::rivals::rivals;
+use crate::sources::push_sources;
 use crate::table::Table;
 use sp_bits::Row;
 use sp_dag::Dag;
@@ -29,6 +32,7 @@ pub struct Carriers {
     alloc: Global,
     table: Table,
     rivals: Vec<Row>,
+    sources: Vec<Few>,
 }
 
 // Written out, so that where carriers are let go there is one call.
@@ -38,6 +42,7 @@ impl Drop for Carriers {
             alloc: _,
             table: _,
             rivals: _,
+            sources: _,
         } = self;
     }
 }
@@ -47,6 +52,7 @@ impl Model for Carriers {
     ghost use Rattle.sp_carry.specs.Growth.{IsBlockwise};
     ghost use Rattle.sp_carry.specs.Kept.{carried_of, IsKept};
     ghost use Rattle.sp_carry.specs.RivalBlocks.{HasRivals};
+    ghost use Rattle.sp_carry.specs.Sources.{HasSources};
 
     ghost Value = { Carried };
 
@@ -54,7 +60,8 @@ impl Model for Carriers {
 
     ghost invariant = { λ carriers.
         IsKept carriers.table × IsCarried (carried_of carriers.table) × IsBlockwise (carried_of carriers.table)
-        × HasRivals (carried_of carriers.table) carriers.rivals.items };
+        × HasRivals (carried_of carriers.table) carriers.rivals.items
+        × HasSources carriers.table.txs.items carriers.sources.items };
 }
 
 // How many of the carriers, from the first, stand in the first blocks.
@@ -79,6 +86,7 @@ impl Carriers {
             alloc,
             table: Table::new(alloc),
             rivals: Vec::new(alloc),
+            sources: Vec::new(alloc),
         }
     }
 
@@ -86,7 +94,7 @@ impl Carriers {
     /// sound as the definition says, over the blocks in its past; a transaction whose id is known
     /// is the one that is known.
     ///
-    /// The time is that of a look-up for each transaction and each of its inputs, of one step for each
+    /// The time is that of a look-up for each transaction and two for each of its inputs, of one step for each
     /// carrier of a transaction that an input names, and of one for each other transaction that spends
     /// what an input does, or, where the transaction is new, for each carrier of that one.
     ///
@@ -106,12 +114,14 @@ impl Carriers {
         match carry_with_room(
             &mut self.table,
             &mut self.rivals,
+            &mut self.sources,
             self.alloc,
             dag,
             txs.as_slice(),
         ) {
             Ok(()) => {
                 add_rows(&self.table, &mut self.rivals, first);
+                push_sources(&self.table, &mut self.sources);
                 self.table.blocks = number + 1;
                 Ok(())
             }
@@ -130,7 +140,9 @@ impl Carriers {
     {
         let left = rows_below(&self.table.rows, blocks);
         self.table.take_back(left);
-        cut_rows(&mut self.rivals, self.table.txs.len(), blocks);
+        let count = self.table.txs.len();
+        cut_rows(&mut self.rivals, count, blocks);
+        self.sources.truncate(count);
         self.table.blocks = blocks;
     }
 
@@ -216,6 +228,16 @@ impl Carriers {
         // Tells the proof what a row is.
         let _there = row.test(0);
         row
+    }
+
+    /// The numbers of the transactions that the inputs of this one name, in their order, at once. There
+    /// are none where one of them has no number that is lower than its own, as where a transaction
+    /// came before what it spends.
+    pub fn sources_of(&self, tx: u32) -> &[u32]
+        requires { tx < length self.now.txs }
+        ensures { result.now ≡ sources_in self.now.txs tx }
+    {
+        self.sources[tx as usize].as_slice()
     }
 
     /// The numbers of the sound carriers that conflict with a carrier, in whatever block they

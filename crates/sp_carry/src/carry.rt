@@ -7,13 +7,14 @@ ghost use Rattle.sp_carry.specs.Growth.{front, AreInTurn, HasRoom};
 ghost use Rattle.sp_carry.specs.Kept.{carried_of, IsKept, Keeps};
 
 use crate::carrier::Carrier;
+use crate::few::Few;
 use crate::table::Table;
 use crate::worth::is_sound;
 use sp_bits::Row;
 use sp_dag::Dag;
 use sp_ids::Memory;
 use sp_tx::Tx;
-use std::alloc::Global;
+use std::alloc::{AllocError, Global};
 
 impl Table {
     // One more carrier in the next block. After `Memory` all is as before.
@@ -95,11 +96,23 @@ impl Table {
     }
 }
 
-// The next block's carriers, and room for a row of each transaction. After `Memory` some of the
-// carriers are there.
+// Takes memory for a row and a list of each of so many transactions.
+fn make_room(rows: &mut Vec<Row>, sources: &mut Vec<Few>, count: usize) -> Result<(), AllocError>
+    ensures room { OnOk result (count ≤ vec_capacity rows.new) }
+    ensures same { rows.new.items ≡ rows.old.items }
+    ensures room_sources { OnOk result (count ≤ vec_capacity sources.new) }
+    ensures same_sources { sources.new.items ≡ sources.old.items }
+{
+    rows.reserve(count.saturating_sub(rows.len()))?;
+    sources.reserve(count.saturating_sub(sources.len()))
+}
+
+// The next block's carriers, and room for a row and a list of each transaction. After `Memory` some of
+// the carriers are there.
 pub(crate) fn carry_with_room(
     table: &mut Table,
     rows: &mut Vec<Row>,
+    sources: &mut Vec<Few>,
     alloc: Global,
     dag: &Dag,
     txs: &[Tx],
@@ -110,11 +123,12 @@ pub(crate) fn carry_with_room(
     ensures ok { OnOk result (Keeps table.new (with_carriers dag.now (carried_of table.old) txs.now)) }
     ensures room { OnOk result (length table.new.txs.items ≤ vec_capacity rows.new) }
     ensures same { rows.new.items ≡ rows.old.items }
+    ensures room_sources { OnOk result (length table.new.txs.items ≤ vec_capacity sources.new) }
+    ensures same_sources { sources.new.items ≡ sources.old.items }
     ensures err { OnErr result ((count : ℕ) × Keeps table.new (with_carriers dag.now (carried_of table.old) (take count txs.now))) }
 {
     table.carry_all(alloc, dag, txs)?;
-    let count = table.txs.len();
-    match rows.reserve(count.saturating_sub(rows.len())) {
+    match make_room(rows, sources, table.txs.len()) {
         Ok(()) => Ok(()),
         Err(_) => Err(Memory),
     }

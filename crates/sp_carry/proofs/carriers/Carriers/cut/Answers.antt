@@ -5,6 +5,7 @@ use Rattle.sp_carry.specs.Kept.{carried_of, Keeps}
 use Rattle.sp_carry.proofs.Cutting.{AreOfFirst, IsBlockwise-cut, IsCarried-cut, Keeps-cut, value}
 use Rattle.sp_carry.proofs.Linked.{kept_is}
 use Rattle.sp_carry.proofs.Rowed.{rivals_cut}
+use Rattle.sp_carry.proofs.Sourced.{sources_cut}
 use Rattle.sp_carry.proofs.carriers.Carriers.cut.Goals as goal
 
 of_first : (c : goal.After-self-1) → AreOfFirst (carried_of c.self.inside.table) c.args.blocks c.rows_below-left.result
@@ -42,8 +43,10 @@ invariant_of-self c =
       v.0,
       v.1,
       v.2,
-      rivals_cut k c.args.blocks c.rows_below-left.result c.len.result c.take_back.new.self (left c) c.self.inside.rivals.items c.cut_rows.new.rows.items c.self.invariant.1.linked (of_first c)
-          c.take_back.ensures (omega (arith, c.len.ensures)) (keeps c) c.self.invariant.3 c.cut_rows.ensures,
+      rivals_cut k c.args.blocks c.rows_below-left.result c.len-count.result c.take_back.new.self (left c) c.self.inside.rivals.items c.cut_rows.new.rows.items c.self.invariant.1.linked (of_first c)
+          c.take_back.ensures (omega (arith, c.len-count.ensures)) (keeps c) c.self.invariant.3 c.cut_rows.ensures,
+      sources_cut k c.args.blocks c.rows_below-left.result c.len-count.result c.take_back.new.self (left c) c.self.inside.sources.items _ c.self.invariant.1.linked (of_first c)
+          c.take_back.ensures (omega (arith, c.len-count.ensures)) (keeps c) c.self.invariant.4 c.truncate.ensures.items,
     )
 
 pub returns : goal.returns

@@ -2,7 +2,7 @@ use Rattle.std.proofs.Common.{◌≡◌, Some, true, take}
 use Rattle.std.specs.List.{list_all}
 use Rattle.sp_tx.specs.declared.parts.Input.{Input}
 use Rattle.sp_accept.specs.Pass.{has_source}
-use Rattle.sp_accept.proofs.sources.are_sources_accepted.Given as goal
+use Rattle.sp_accept.proofs.sources.are_named_accepted.Given as goal
 
 abbrev pub invariant-inputs : goal.invariant-inputs
 invariant-inputs g l = record {
