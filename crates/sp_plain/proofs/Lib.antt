@@ -2,3 +2,4 @@ pub mod Downsets
 pub mod Ranges
 pub mod Cases
 pub mod Entries
+pub mod Stays

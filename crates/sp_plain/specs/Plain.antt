@@ -4,6 +4,7 @@ use Rattle.std.specs.Prelude.{ℕ, ◌<◌, ◌≤◌, ◌≡◌, true, List, ma
 use Rattle.std.specs.List.{range_with_len}
 use Rattle.sp_model.specs.Graph.{Graph, has, in_past}
 use Rattle.sp_model.specs.Votes.{vote}
+use Rattle.sp_dag.specs.Numbered.{Numbered, graph_of}
 use Rattle.sp_plain.specs.Virts.{past_virts, Virts}
 
 -- each member is below n, and the set holds the past of each
@@ -19,3 +20,8 @@ AreVotesFrom graph set n x y from votes =
 -- the matrices of the pasts of the first blocks
 abbrev pub ArePasts : Graph → List Virts → Type 0
 ArePasts graph matrices = matrices ≡ map (past_virts graph) (range_with_len 0 (length matrices))
+
+-- the same of a numbered graph, of so many of its blocks at most
+pub record HoldsPasts (table : Numbered) (matrices : List Virts) : Type 0 where
+  pub are : ArePasts (graph_of table) matrices
+  pub few : length matrices ≤ length table.parents

@@ -2,12 +2,15 @@
 //! the past of each block: the five cases of a vote in the procedure CalcVotes of the SPECTRE paper,
 //! written down as they are read.
 //!
-//! It is the slow reference, clear before fast. The engine takes its votes from here for now.
+//! It is the slow reference, clear before fast: tests compare other votes with it. `plain_votes` begins anew each
+//! time, and a `Plain` keeps the matrices of pasts as its graph grows.
 #![tactic(auto)]
 
 mod ballots;
+mod grown;
 mod matrix;
 mod plain;
 
+pub use grown::Plain;
 pub use matrix::Matrix;
 pub use plain::plain_votes;

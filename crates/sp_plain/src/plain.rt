@@ -42,7 +42,7 @@ fn push_virts(
 
 /// The virtual votes of the members on each two blocks below the width. It takes time in
 /// proportion to the fourth power of the width.
-fn virts_of(
+pub(crate) fn virts_of(
     alloc: Global,
     dag: &Dag,
     pasts: &[Matrix],
@@ -63,17 +63,21 @@ fn virts_of(
     Ok(Matrix::of(width, votes))
 }
 
-/// The matrices of the pasts of all blocks, each made with those before it.
-fn pasts_of(alloc: Global, dag: &Dag) -> Result<Vec<Matrix>, Memory>
-    ensures pasts { IfOk result (λ pasts. ArePasts (graph_of dag.now) pasts.items) }
-    ensures long { IfOk result (λ pasts. length pasts.items ≡ length dag.now.parents) }
+/// Adds the matrices of the pasts of the blocks that have none yet, each made with those before it.
+pub(crate) fn add_pasts(alloc: Global, dag: &Dag, pasts: &mut Vec<Matrix>) -> Result<(), Memory>
+    requires pasts { ArePasts (graph_of dag.now) pasts.old.items }
+    requires few { length pasts.old.items ≤ length dag.now.parents }
+    ensures pasts { ArePasts (graph_of dag.now) pasts.new.items }
+    ensures few { length pasts.new.items ≤ length dag.now.parents }
+    ensures long { OnOk result (length pasts.new.items ≡ length dag.now.parents) }
 {
-    let mut pasts = Vec::new(alloc);
-    for z in 0..dag.len() {
-        let matrix = virts_of(alloc, dag, &pasts, dag.past(z), z)?;
+    let end = dag.len();
+    let first = pasts.len() as u16;
+    for z in first..end {
+        let matrix = virts_of(alloc, dag, pasts, dag.past(z), z)?;
         pasts.push(matrix)?;
     }
-    Ok(pasts)
+    Ok(())
 }
 
 /// The virtual votes of the members on each two of the graph's blocks. Of n blocks it makes a matrix
@@ -87,7 +91,8 @@ pub fn plain_votes(alloc: Global, dag: &Dag, members: &Row) -> Result<Matrix, Me
     requires { IsClosed (graph_of dag.now) (length dag.now.parents) members.now }
     ensures { IfOk result (HasVirts (graph_of dag.now) members.now (length dag.now.parents)) }
 {
-    let pasts = pasts_of(alloc, dag)?;
+    let mut pasts = Vec::new(alloc);
+    add_pasts(alloc, dag, &mut pasts)?;
     let matrix = virts_of(alloc, dag, &pasts, members, dag.len())?;
     Ok(matrix)
 }

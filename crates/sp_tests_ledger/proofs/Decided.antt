@@ -1,5 +1,5 @@
 -- What a test's ledger holds stays so as blocks come, are carried and are decided on.
-use Rattle.std.proofs.Common.{◌≡◌, ℕ, ◌<◌, List, [], ◌∷◌, ◌++◌, length, sym, subst, arith, length-append}
+use Rattle.std.proofs.Common.{◌≡◌, ℕ, ◌<◌, List, [], ◌∷◌, length, sym, subst, arith, length-append}
 use Rattle.sp_tx.specs.Parts.{Transaction}
 use Rattle.sp_dag.specs.Numbered.{AreInOrder, IsNumbered, Numbered, with_next}
 use Rattle.sp_carry.specs.Carried.{Carried, IsCarried, with_block, with_carriers}

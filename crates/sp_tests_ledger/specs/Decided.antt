@@ -1,5 +1,5 @@
 -- What a test's ledger holds at all times.
-use Rattle.std.specs.Prelude.{ℕ, ◌≡◌, ◌≤◌, List, length}
+use Rattle.std.specs.Prelude.{ℕ, ◌≡◌, ◌≤◌, length}
 use Rattle.sp_dag.specs.Numbered.{AreInOrder, Numbered}
 use Rattle.sp_carry.specs.Carried.{AreSound, Carried, IsCarried}
 use Rattle.sp_accept.specs.Acceptance.{Acceptance, IsRight}

@@ -74,7 +74,7 @@ fn is_left(alloc: Global, engine: &Engine, purse: &Purse) -> Result<bool, Fail> 
 }
 
 /// What is wrong with what an engine says, beside a ledger of its present blocks.
-fn wrong(alloc: Global, engine: &Engine, ledger: &Ledger) -> Result<&'static str, Fail> {
+fn wrong(alloc: Global, engine: &Engine, ledger: &mut Ledger) -> Result<&'static str, Fail> {
     let anew = ledger.anew()?;
     let (_, count) = counts(engine)?;
     if !ledger.is_same(&anew.accepted) {

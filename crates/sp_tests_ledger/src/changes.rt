@@ -10,9 +10,8 @@ ghost use Rattle.sp_engine.specs.Engine.{numbers};
 
 use crate::plain::votes_of_first;
 use sp_carry::Carriers;
-use sp_dag::Dag;
 use sp_ids::Memory;
-use sp_plain::Matrix;
+use sp_plain::{Matrix, Plain};
 use std::alloc::Global;
 
 /// Adds the pairs of a block and a lower one on which two matrices differ.
@@ -60,17 +59,18 @@ fn differing(
 /// Some pairs, and then those of the first blocks on which their votes aren't those of all blocks.
 pub fn changed(
     alloc: Global,
-    dag: &Dag,
+    plain: &mut Plain,
     votes: &Matrix,
     count: u16,
     others: &[(u16, u16)],
 ) -> Result<Vec<(u16, u16)>, Memory>
-    requires few { count ≤ length dag.now.parents }
-    requires votes { HasVirts (graph_of dag.now) (numbers dag.now)
-        (length dag.now.parents) votes.now }
-    ensures { IfOk result (λ pairs. TellsChanges dag.now count pairs.items) }
+    requires few { count ≤ length plain.old.parents }
+    requires votes { HasVirts (graph_of plain.old) (numbers plain.old)
+        (length plain.old.parents) votes.now }
+    ensures same { plain.new ≡ plain.old }
+    ensures told { IfOk result (λ pairs. TellsChanges plain.old count pairs.items) }
 {
-    let before = votes_of_first(alloc, dag, count)?;
+    let before = votes_of_first(plain, count)?;
     let pairs = differing(alloc, &before, votes, count, others)?;
     Ok(pairs)
 }

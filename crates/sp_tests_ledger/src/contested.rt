@@ -1,5 +1,5 @@
 //! Payments of strangers who mean harm, in the shapes on which acceptance took longest: after each of
-//! 30 blocks, what changed decides as one decision on all carriers does.
+//! 60 blocks, what changed decides as one decision on all carriers does.
 
 use crate::ledger::Ledger;
 use crate::payments::{ALICE, Paid, grant, outputs};
@@ -11,7 +11,7 @@ use std::alloc::Global;
 use std::test::Fail;
 
 /// How many blocks stand on genesis.
-const COUNT: u8 = 30;
+const COUNT: u8 = 60;
 
 /// What genesis grants: coins, of which each block spends all, or what comes of them.
 #[rattlefmt::skip]
@@ -27,7 +27,7 @@ enum Graph {
     Turns,
     /// These, where each eighth block stands on both.
     Braid,
-    /// Each on the one 15 before it.
+    /// Each on the one as many before it as half of them.
     Broad,
     /// Half of them in a chain, and the others on genesis.
     Star,
@@ -79,7 +79,7 @@ fn parent(graph: Graph, number: u8) -> u8 {
                 number.saturating_sub(1)
             }
         }
-        Graph::Broad => number.saturating_sub(15),
+        Graph::Broad => number.saturating_sub(COUNT / 2),
         Graph::Star => {
             if number > COUNT / 2 {
                 0

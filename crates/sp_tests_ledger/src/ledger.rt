@@ -7,7 +7,7 @@ ghost use Rattle.sp_model.specs.Graph.{has};
 ghost use Rattle.sp_dag.specs.Numbered.{AreInOrder, IsNumbered, with_next};
 
 use crate::changes::{carriers_below, changed};
-use crate::plain::votes_of_all;
+use crate::plain::votes_of_first;
 use crate::voted::VotedOrder;
 use sp_accept::Accepted;
 use sp_carry::{Carriers, Flip};
@@ -15,6 +15,7 @@ use sp_dag::Dag;
 use sp_ids::{BlockId, TxId};
 use sp_model::Profile;
 use sp_money::Purse;
+use sp_plain::Plain;
 use sp_tx::Txs;
 use std::alloc::Global;
 use std::marker::Model;
@@ -27,22 +28,23 @@ fn are_in(dag: &Dag, ids: &[BlockId]) -> bool
 }
 
 /// Adds a block on others that are there.
-fn stand(dag: &mut Dag, new: BlockId, parents: &[BlockId]) -> Result<(), Fail>
+fn stand(plain: &mut Plain, new: BlockId, parents: &[BlockId]) -> Result<(), Fail>
     ensures grown { OnOk result
-        ((row : List ℕ) × (dag.new ≡ with_next dag.old new 0 row)) }
-    ensures numbered { OnOk result (IsNumbered dag.old) }
-    ensures order { OnOk result (AreInOrder dag.new.parents) }
-    ensures err { OnErr result (dag.new ≡ dag.old) }
+        ((row : List ℕ) × (plain.new ≡ with_next plain.old new 0 row)) }
+    ensures numbered { OnOk result (IsNumbered plain.old) }
+    ensures order { OnOk result (AreInOrder plain.new.parents) }
+    ensures err { OnErr result (plain.new ≡ plain.old) }
 {
+    let dag = plain.dag();
     if dag.number(&new).is_some() || !are_in(dag, parents) {
         return Err("known, or on an unknown parent".into());
     }
     if dag.len() >= 512 || parents.is_empty() {
         return Err("too many blocks, or no parent".into());
     }
-    dag.add(new, 0, parents)?;
+    plain.add(new, 0, parents)?;
     // Tells the proof that the blocks stand in order.
-    let _blocks = dag.len();
+    let _blocks = plain.dag().len();
     Ok(())
 }
 
@@ -65,7 +67,7 @@ impl Drop for Anew {
 /// then there were so many blocks. Contracts see how many blocks there are.
 pub struct Ledger {
     alloc: Global,
-    dag: Dag,
+    plain: Plain,
     carriers: Carriers,
     accepted: Accepted,
     decided: u16,
@@ -77,21 +79,21 @@ impl Model for Ledger {
 
     ghost Value = { ℕ };
 
-    ghost view = { λ l. length l.dag.parents };
+    ghost view = { λ l. length l.plain.parents };
 
-    ghost invariant = { λ l. IsDecided l.dag l.carriers l.accepted l.decided };
+    ghost invariant = { λ l. IsDecided l.plain l.carriers l.accepted l.decided };
 }
 
 impl Drop for Ledger {
     fn drop(self) {
         let Ledger {
             alloc: _,
-            dag,
+            plain,
             carriers,
             accepted,
             decided: _,
         } = self;
-        drop(dag);
+        drop(plain);
         drop(carriers);
         drop(accepted);
     }
@@ -100,14 +102,14 @@ impl Drop for Ledger {
 impl Ledger {
     /// Genesis alone, of this id, without its carriers.
     pub fn of(alloc: Global, genesis: BlockId) -> Result<Ledger, Fail> {
-        let dag = Dag::new(alloc, genesis, 0, Profile::One)?;
+        let plain = Plain::new(alloc, genesis, 0, Profile::One)?;
         let carriers = Carriers::new(alloc);
         // These tell the proof what always holds of a graph and of carriers.
-        let _present = dag.len();
+        let _present = plain.dag().len();
         let _added = carriers.block_count();
         Ok(Ledger {
             alloc,
-            dag,
+            plain,
             carriers,
             accepted: Accepted::new(alloc),
             decided: 0,
@@ -116,7 +118,7 @@ impl Ledger {
 
     /// How many blocks there are.
     pub fn blocks(&self) -> u16 {
-        self.dag.len()
+        self.plain.dag().len()
     }
 
     /// Of how many of them the carriers were added.
@@ -125,17 +127,17 @@ impl Ledger {
     }
 
     fn stand(&mut self, new: BlockId, parents: &[BlockId]) -> Result<(), Fail> {
-        stand(&mut self.dag, new, parents)?;
+        stand(&mut self.plain, new, parents)?;
         Ok(())
     }
 
     /// The next block carries these.
     pub fn carry(&mut self, txs: &Txs) -> Result<(), Fail> {
         let number = self.carriers.block_count();
-        if number >= self.dag.len() || txs.as_slice().len() > 256 {
+        if number >= self.plain.dag().len() || txs.as_slice().len() > 256 {
             return Err("no such block, or too many transactions".into());
         }
-        self.carriers.add(&self.dag, number, txs)?;
+        self.carriers.add(self.plain.dag(), number, txs)?;
         // Tells the proof what always holds of carriers.
         let _added = self.carriers.block_count();
         Ok(())
@@ -150,12 +152,12 @@ impl Ledger {
     /// Decides on all carriers anew, and answers what turned.
     pub fn rebuild(&mut self) -> Result<Vec<Flip>, Fail> {
         let count = self.carriers.block_count();
-        if count != self.dag.len() {
+        if count != self.plain.dag().len() {
             return Err("a block without its carriers".into());
         }
-        let votes = votes_of_all(self.alloc, &self.dag)?;
+        let votes = votes_of_first(&mut self.plain, count)?;
         let order = VotedOrder {
-            dag: &self.dag,
+            dag: self.plain.dag(),
             votes: &votes,
         };
         let flips = self.accepted.rebuild(&order, &self.carriers)?;
@@ -167,14 +169,14 @@ impl Ledger {
     /// first, and then those on which the votes turned.
     pub fn update(&mut self, others: &[(u16, u16)]) -> Result<Vec<Flip>, Fail> {
         let count = self.carriers.block_count();
-        if count != self.dag.len() {
+        if count != self.plain.dag().len() {
             return Err("a block without its carriers".into());
         }
-        let votes = votes_of_all(self.alloc, &self.dag)?;
-        let changed = changed(self.alloc, &self.dag, &votes, self.decided, others)?;
+        let votes = votes_of_first(&mut self.plain, count)?;
+        let changed = changed(self.alloc, &mut self.plain, &votes, self.decided, others)?;
         let from = carriers_below(&self.carriers, self.decided);
         let order = VotedOrder {
-            dag: &self.dag,
+            dag: self.plain.dag(),
             votes: &votes,
         };
         let flips = self
@@ -185,13 +187,14 @@ impl Ledger {
     }
 
     /// Decides on all carriers by a new acceptance, and pays by a new purse.
-    pub fn anew(&self) -> Result<Anew, Fail> {
-        if self.carriers.block_count() != self.dag.len() {
+    pub fn anew(&mut self) -> Result<Anew, Fail> {
+        let count = self.carriers.block_count();
+        if count != self.plain.dag().len() {
             return Err("a block without its carriers".into());
         }
-        let votes = votes_of_all(self.alloc, &self.dag)?;
+        let votes = votes_of_first(&mut self.plain, count)?;
         let order = VotedOrder {
-            dag: &self.dag,
+            dag: self.plain.dag(),
             votes: &votes,
         };
         let mut accepted = Accepted::new(self.alloc);

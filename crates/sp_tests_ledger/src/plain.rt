@@ -11,7 +11,7 @@ use sp_dag::Dag;
 use sp_engine::Engine;
 use sp_ids::Memory;
 use sp_model::Word;
-use sp_plain::{Matrix, plain_votes};
+use sp_plain::{Matrix, Plain, plain_votes};
 use std::alloc::Global;
 use std::test::Fail;
 
@@ -28,15 +28,16 @@ fn row_below(count: u16) -> Row
 }
 
 /// The virtual votes of the first blocks, as many as the count, on each two of all.
-pub fn votes_of_first(alloc: Global, dag: &Dag, count: u16) -> Result<Matrix, Memory>
-    requires { count ≤ length dag.now.parents }
-    ensures { IfOk result
-        (HasVirts (graph_of dag.now) (range_with_len 0 count) (length dag.now.parents)) }
+pub fn votes_of_first(plain: &mut Plain, count: u16) -> Result<Matrix, Memory>
+    requires { count ≤ length plain.old.parents }
+    ensures same { plain.new ≡ plain.old }
+    ensures votes { IfOk result (HasVirts (graph_of plain.old) (range_with_len 0 count)
+        (length plain.old.parents)) }
 {
     // Tells the proof that the blocks stand in order.
-    let _blocks = dag.len();
+    let _blocks = plain.dag().len();
     let members = row_below(count);
-    plain_votes(alloc, dag, &members)
+    plain.votes(&members)
 }
 
 /// The virtual votes of all blocks on each two of them.
@@ -44,7 +45,8 @@ pub fn votes_of_all(alloc: Global, dag: &Dag) -> Result<Matrix, Memory>
     ensures { IfOk result
         (HasVirts (graph_of dag.now) (numbers dag.now) (length dag.now.parents)) }
 {
-    votes_of_first(alloc, dag, dag.len())
+    let members = row_below(dag.len());
+    plain_votes(alloc, dag, &members)
 }
 
 fn word_of(vote: i8) -> Word {

@@ -1,8 +1,7 @@
-//! Shapes of 50 and 60 blocks that are hard on an engine's votes, since each has many pairs, many tips or many
-//! parents: the view of all is compared with the plain votes after each arrival up to 30 blocks, and in the end.
-//! The plain votes of many blocks take long, by the fifth power of how many.
+//! Shapes of 60 blocks that are hard on an engine's votes, since each has many pairs, many tips or many parents:
+//! the view of all is compared with the plain votes of all blocks after each arrival.
 
-use crate::drawn::all_is_right;
+use crate::beside::{beside, follow, votes_so};
 use crate::engines::{come, engine_of};
 use crate::graphs::{blocks_of, ordered};
 use crate::rows::right;
@@ -10,6 +9,7 @@ use sp_bits::Row;
 use sp_engine::Engine;
 use sp_fixtures::Numbered;
 use sp_model::Profile;
+use sp_plain::Plain;
 use std::alloc::Global;
 use std::process::Abort;
 use std::test::Fail;
@@ -67,28 +67,43 @@ fn shaped(alloc: Global, kind: Kind, blocks: u64) -> Result<Vec<Row>, Fail> {
 /// numbers, 1 has the highest that can come first, so that one chain comes after another, and 2 is drawn.
 const SHAPES: &[(Kind, u64, u8)] = &[
     (Kind::Layers(60), 60, 0),
-    (Kind::Layers(20), 50, 2),
-    (Kind::Layers(7), 50, 0),
-    (Kind::Chains(2), 50, 0),
-    (Kind::Chains(2), 50, 1),
-    (Kind::Crowd(30, 20), 50, 0),
+    (Kind::Layers(20), 60, 2),
+    (Kind::Layers(7), 60, 0),
+    (Kind::Chains(2), 60, 0),
+    (Kind::Chains(2), 60, 1),
+    (Kind::Crowd(30, 20), 60, 0),
 ];
 
-/// Whether the view of all is right as the blocks come in an order.
+/// Whether the view of all is right after each block, as these come in an order.
 fn is_right(
     alloc: Global,
     engine: &mut Engine,
+    plain: &mut Plain,
     blocks: &Numbered,
     order: &[u8],
 ) -> Result<bool, Fail> {
     for number in order {
         come(engine, blocks, *number as usize)?;
-        let asked = engine.present() <= 30;
-        if asked && !all_is_right(alloc, engine)? {
+        follow(plain, engine, blocks.id(*number as usize))?;
+        if !votes_so(alloc, engine, plain)? {
             return Ok(false);
         }
     }
-    all_is_right(alloc, engine)
+    Ok(engine.present() as usize == blocks.ids.len())
+}
+
+/// Whether it is, from genesis on.
+fn is_right_from(
+    alloc: Global,
+    engine: &mut Engine,
+    blocks: &Numbered,
+    order: &[u8],
+    profile: Profile,
+) -> Result<bool, Fail> {
+    let mut plain = beside(alloc, engine, profile)?;
+    let right = is_right(alloc, engine, &mut plain, blocks, order);
+    drop(plain);
+    right
 }
 
 /// What is wrong with a shape in a profile; nothing where all is right.
@@ -105,9 +120,9 @@ fn wrong_of(
         return Ok("the order");
     }
     let mut engine = engine_of(alloc, &named, profile)?;
-    let right = is_right(alloc, &mut engine, &named, &numbers)?;
+    let right = is_right_from(alloc, &mut engine, &named, &numbers, profile);
     drop(engine);
-    Ok(if right { "" } else { "the view of all" })
+    Ok(if right? { "" } else { "the view of all" })
 }
 
 /// Judges each shape in a profile.

@@ -3,19 +3,21 @@
 //!
 //! Larger graphs come to an engine, whose views and frozen votes are looked at here: `graphs` draws
 //! them, and the orders in which their blocks come, and `engines` makes the engine. `signs` compares a
-//! view with the plain votes of its members, `voters` each voter of a pair, and `counts` how often each
+//! view with the plain votes of its members, `beside` has a graph of plain votes that grows with an engine's, `voters` each voter of a pair, and `counts` how often each
 //! row is counted. What two views share is tested apart from an engine: `based` grows a graph with its
 //! frozen votes, and `two` has two views over one pool. `places` has rows by their places, and `rows`
 //! judges a table's row.
 //!
 //! The tests: `small` has graphs worked out by hand, `drawn` graphs that are drawn, `ties` the voters in
-//! these that settle ties, `hostile` shapes of about 60 blocks, `orders` what is said in the end in several
+//! these that settle ties, `hostile` shapes of 60 blocks, `orders` what is said in the end in several
 //! orders of arrival, `layer` a block on 64 others, `summed` sums that grow with a view, `shared` two views of
 //! a small graph that share rows, and `refused` what is left where memory is refused.
 #![tactic(auto)]
 
 #[cfg(test)]
 mod based;
+#[cfg(test)]
+mod beside;
 #[cfg(test)]
 mod counts;
 #[cfg(test)]

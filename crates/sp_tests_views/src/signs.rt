@@ -2,7 +2,7 @@
 //! the view was grown.
 
 ghost use Rattle.sp_plain.specs.Plain.{IsClosed};
-ghost use Rattle.std.specs.Prelude.{length};
+ghost use Rattle.std.specs.Prelude.{◌≡◌, length};
 ghost use Rattle.sp_dag.specs.Numbered.{graph_of};
 ghost use Rattle.sp_tests_views.specs.Voting.{CanVote};
 
@@ -10,7 +10,7 @@ use sp_bits::Row;
 use sp_dag::Dag;
 use sp_frozen::{Frozen, PastVotes};
 use sp_ids::Memory;
-use sp_plain::plain_votes;
+use sp_plain::{Matrix, plain_votes};
 use sp_rows::RowPool;
 use sp_view::View;
 use std::alloc::Global;
@@ -18,13 +18,17 @@ use std::alloc::Global;
 /// The virtual vote on each pair by its number; there is none on a pair that isn't inside the set.
 pub(crate) type Votes = Vec<Option<i8>>;
 
-/// The plain votes of a set on each pair.
-pub(crate) fn plain_signs(alloc: Global, dag: &Dag, members: &Row) -> Result<Votes, Memory>
-    requires { IsClosed (graph_of dag.now) (length dag.now.parents) members.now }
+/// The votes that a matrix has on each pair inside a set.
+pub(crate) fn signs_of(
+    alloc: Global,
+    dag: &Dag,
+    members: &Row,
+    plain: &Matrix,
+) -> Result<Votes, Memory>
+    requires { plain.now.width ≡ length dag.now.parents }
 {
     // Tells the proof that there are at most 512 blocks.
     let _blocks = dag.len();
-    let plain = plain_votes(alloc, dag, members)?;
     let mut votes = Vec::new(alloc);
     for pair in 0..dag.pair_count() {
         let (x, y) = dag.pair(pair);
@@ -32,6 +36,14 @@ pub(crate) fn plain_signs(alloc: Global, dag: &Dag, members: &Row) -> Result<Vot
         votes.push(if inside { Some(plain.vote(x, y)) } else { None })?;
     }
     Ok(votes)
+}
+
+/// The plain votes of a set on each pair.
+pub(crate) fn plain_signs(alloc: Global, dag: &Dag, members: &Row) -> Result<Votes, Memory>
+    requires { IsClosed (graph_of dag.now) (length dag.now.parents) members.now }
+{
+    let plain = plain_votes(alloc, dag, members)?;
+    signs_of(alloc, dag, members, &plain)
 }
 
 /// The plain votes of the members of a view.

@@ -5,18 +5,18 @@ use Rattle.sp_plain.specs.Plain.{ArePasts}
 use Rattle.sp_plain.specs.Virts.{past_virts, virts_in}
 use Rattle.sp_plain.proofs.Downsets.{past_below, past_closed}
 use Rattle.sp_plain.proofs.Entries.{pasts_more}
-use Rattle.sp_plain.proofs.plain.pasts_of.Goals as goal
+use Rattle.sp_plain.proofs.plain.add_pasts.Goals as goal
 
 pub virts_of-requires-clause-reach : goal.virts_of-requires-clause-reach
 virts_of-requires-clause-reach c = λ w h.
-    let lower = past_below c.args.dag.now c.loop-z.z w c.len-z-end.ensures.numbered.order (omega arith) (rw c.past.ensures at h) in
+    let lower = past_below c.args.dag.now c.loop-z.z w c.len-end.ensures.numbered.order (omega arith) (rw c.past.ensures at h) in
     omega (arith, lower, ap length c.deref.ensures.value, c.loop-z.invariant.long)
 
 pub virts_of-requires-clause-below : goal.virts_of-requires-clause-below
-virts_of-requires-clause-below c = λ w h. past_below c.args.dag.now c.loop-z.z w c.len-z-end.ensures.numbered.order (omega arith) (rw c.past.ensures at h)
+virts_of-requires-clause-below c = λ w h. past_below c.args.dag.now c.loop-z.z w c.len-end.ensures.numbered.order (omega arith) (rw c.past.ensures at h)
 
 pub virts_of-requires-clause-whole : goal.virts_of-requires-clause-whole
-virts_of-requires-clause-whole c = rw c.past.ensures (past_closed c.args.dag.now c.loop-z.z c.len-z-end.ensures.numbered.order (omega arith))
+virts_of-requires-clause-whole c = rw c.past.ensures (past_closed c.args.dag.now c.loop-z.z c.len-end.ensures.numbered.order (omega arith))
 
 pub loop-z-preserved : goal.loop-z-preserved
 loop-z-preserved c =
