@@ -1,5 +1,5 @@
 -- Events are taken one after another up to the first that has a fault.
-use Rattle.std.proofs.Common.{◌≡◌, ℕ, ◌+◌, ◌<◌, ◌≤◌, List, [], ◌∷◌, length, drop, get_or, Option, Some, None, refl, sym, ap, ◌∙◌}
+use Rattle.std.proofs.Common.{◌≡◌, ℕ, ◌+◌, ◌<◌, ◌≤◌, List, length, drop, get_or, Option, Some, None, sym, ap, ◌∙◌}
 use Rattle.std.proofs.Math.ListN.{drop_of_length-le}
 use Rattle.sp_gossip.specs.Network.{fault_of, Network, network_after}
 use Rattle.sp_gossip.specs.Refusing.{first_fault, first_or, left_by, stopped_by}

@@ -1,5 +1,5 @@
 -- The blocks of a feed come to an engine, call by call.
-use Rattle.std.proofs.Common.{◌≡◌, ℕ, ◌≤◌, List, [], ◌∷◌, ◌++◌, Option, Some, None, Result, Ok, Err, true, refl, ap, sym, subst, ◌∙◌}
+use Rattle.std.proofs.Common.{◌≡◌, ℕ, ◌≤◌, List, [], ◌∷◌, ◌++◌, Option, Some, None, Ok, Err, true, refl, ap, sym, subst, ◌∙◌}
 use Rattle.std.specs.List.{flat_map}
 use Rattle.std.proofs.lemmas.List.{append-nil}
 use Rattle.std.proofs.lemmas.Grind.{flat_map-append}
@@ -17,10 +17,9 @@ use Rattle.sp_feed.specs.declared.fault.FeedFault.{FeedFault}
 use Rattle.sp_feed.specs.declared.fault.HeadFault.{HeadFault}
 use Rattle.sp_feed.specs.declared.fault.HeadFault.TheVariants as heads
 use Rattle.sp_feed.proofs.WholeFeeds.{all_end, all_fault, all_head, all_memory, all_refused, so_far_head, so_far_more}
-use Rattle.sp_model.specs.declared.profile.Profile.{Profile}
 use Rattle.sp_node.specs.Answers.{arrivals_of, kept_then}
 use Rattle.sp_node.proofs.AnswerLists.{kept_then_by_all}
-use Rattle.spectre.specs.Bringing.{Bringing, Brought, SaysBrought}
+use Rattle.spectre.specs.Bringing.{Bringing, Brought}
 use Rattle.spectre.specs.Replay.{feed_limit}
 
 -- the head was read

@@ -1,22 +1,20 @@
 -- What is exported of a journal is read again.
-use Rattle.std.proofs.Common.{◌≡◌, ◌≤◌, ◌+◌, ◌*◌, ℕ, true, List, [], ◌∷◌, ◌++◌, length, map, Some, refl, sym, ap, ◌∙◌, arith, length-append}
+use Rattle.std.proofs.Common.{◌≡◌, ◌≤◌, ◌+◌, ◌*◌, ℕ, true, List, [], ◌∷◌, ◌++◌, length, map, refl, sym, ap, ◌∙◌, arith, length-append}
 use Rattle.std.specs.Int.{w32, to_le_bytes}
 use Rattle.std.proofs.lemmas.List.{append-nil}
-use Rattle.sp_form.specs.Bytes.{IsBytes}
 use Rattle.sp_form.specs.Turns.{InTurn}
 use Rattle.sp_model.specs.declared.profile.Profile.{Profile}
 use Rattle.sp_model.specs.declared.profile.Profile.TheVariants.{One, Two}
-use Rattle.sp_block.specs.Judged.{is_block}
 use Rattle.sp_block.proofs.Judged.{block_spelled}
 use Rattle.sp_feed.specs.declared.kind.Kind.TheVariants.{Block}
-use Rattle.sp_feed.specs.Format.{Head, head_of}
-use Rattle.sp_feed.specs.Kinds.{Said, SaysBlock}
+use Rattle.sp_feed.specs.Format.{head_of}
+use Rattle.sp_feed.specs.Kinds.{SaysBlock}
 use Rattle.sp_feed.specs.Spelling.{AllFit, framed, frames_of, written}
 use Rattle.sp_feed.specs.Versions.{name}
 use Rattle.sp_feed.proofs.WrittenFeeds.{written_is_read}
-use Rattle.sp_journal.specs.Journal.{Contents, first_ids}
+use Rattle.sp_journal.specs.Journal.{first_ids}
 use Rattle.sp_journal.specs.Judged.{IsRecord, with_id}
-use Rattle.sp_journal.specs.Records.{Found, records}
+use Rattle.sp_journal.specs.Records.{records}
 use Rattle.sp_journal.proofs.RecordLaws.{front_found, short_record}
 use Rattle.spectre.specs.Exports.{exported, ExportIsRead}
 use Rattle.spectre.specs.Replay.{fed, feed_limit}

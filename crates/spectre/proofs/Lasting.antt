@@ -1,6 +1,5 @@
 -- Once a crash can leave nothing but a journal, it leaves one at each later moment of the answering of a feed.
-use Rattle.std.proofs.Common.{ℕ, List, inl, inr, Option, Some, IfSome, Result, Ok, Err, sym, subst}
-use Rattle.std.specs.Prelude.{IsSome, refl}
+use Rattle.std.proofs.Common.{ℕ, List, inl, inr, Option, IfSome, Result, Ok, Err}
 use Rattle.sp_disk.specs.Moments.{IsMoment, Lasts, Looks, Moment as DiskMoment}
 use Rattle.sp_disk.proofs.Lasting.{looks_last}
 use Rattle.sp_feed.specs.Reads.{Moment}

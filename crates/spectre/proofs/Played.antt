@@ -6,7 +6,6 @@ use Rattle.std.proofs.lemmas.List.{append-nil, take_all, take_more, take-append-
 use Rattle.std.proofs.lemmas.Option.{get_or_from_slice_get, slice_get_cases}
 use Rattle.std.proofs.lemmas.Grind.{flat_map-append}
 use Rattle.sp_block.specs.Block.{ReadBlock}
-use Rattle.sp_model.specs.declared.profile.Profile.TheVariants.{One}
 use Rattle.sp_engine.specs.Arrivals.{kept_by_all}
 use Rattle.sp_feed.specs.Kinds.{Said}
 use Rattle.sp_io.specs.Whole.{AppendsFront, Wrote}

@@ -8,7 +8,7 @@ use Rattle.sp_block.specs.Block.{ReadBlock}
 use Rattle.sp_engine.specs.Arrivals.{kept_by_all}
 use Rattle.sp_engine.specs.Blocks.{block_in}
 use Rattle.sp_journal.specs.Opening.{contents_in, Opening}
-use Rattle.sp_journal.specs.Records.{Found as found, Records, records}
+use Rattle.sp_journal.specs.Records.{Records, records}
 use Rattle.sp_journal.specs.Recovery.{bytes_in}
 use Rattle.sp_names.specs.Labels.{no_labels}
 use Rattle.sp_report.specs.Texts.{report_text}

@@ -1,10 +1,8 @@
 -- What a spend comes to, by the input of a source that tells its bytes: nothing is due before the feed's end.
-use Rattle.std.proofs.Common.{◌≡◌, ◌≢◌, ◌⊎◌, ◌≤◌, ℕ, List, [], ◌++◌, length, Option, Some, None, IfSome, inl, inr, Result, Ok, Err, true, refl, ap, sym, subst, ◌∙◌, arith}
+use Rattle.std.proofs.Common.{◌≡◌, ◌≢◌, ◌⊎◌, ℕ, List, [], ◌++◌, Option, Some, IfSome, inl, inr, Result, Ok, Err, refl, ap, sym, subst, ◌∙◌, arith}
 use Rattle.std.specs.Io.KnownBytes.{Appends}
-use Rattle.std.specs.List.{flat_map}
 use Rattle.sp_block.specs.Block.{ReadBlock}
 use Rattle.sp_block.specs.declared.fault.BlockFault.{BlockFault}
-use Rattle.sp_engine.specs.Arrivals.{kept_by_all}
 use Rattle.sp_engine.specs.Engine.{Ledger}
 use Rattle.sp_feed.specs.Calls.{SaysFault}
 use Rattle.sp_feed.specs.Feed.{End, Feed as FeedOf, feed, Malformed, TooLong, Truncated, Whole}
@@ -17,7 +15,6 @@ use Rattle.sp_feed.specs.declared.fault.HeadFault.{HeadFault}
 use Rattle.sp_feed.specs.declared.fault.HeadFault.TheVariants as heads
 use Rattle.sp_io.specs.Whole.{AppendsFront}
 use Rattle.sp_io.proofs.Writing.{at_least, front_of_all, wrote_none}
-use Rattle.sp_node.specs.Answers.{arrivals_of}
 use Rattle.spectre.specs.Bringing.{Brought, HasAll}
 use Rattle.spectre.specs.Faults.{EndsWhole, feed_fault_text, rest_behind, status_of}
 use Rattle.spectre.specs.JobEnds.{WritesBy}
@@ -29,7 +26,6 @@ use Rattle.spectre.specs.Spends.{large_text, poor_text, IsLargeBy, IsPoorBy, IsS
 use Rattle.spectre.specs.Taken.{TakesFeedFor}
 use Rattle.spectre.specs.declared.job.Job.{Job}
 use Rattle.spectre.specs.declared.job.Job.TheVariants as jobs
-use Rattle.spectre.specs.declared.replay.ReplayFault.{ReplayFault}
 use Rattle.spectre.specs.declared.replay.ReplayFault.TheVariants.{Feed, Memory}
 use Rattle.spectre.specs.declared.status.Status.{Status}
 use Rattle.spectre.specs.declared.status.Status.TheVariants as status

@@ -2,14 +2,13 @@
 use Rattle.std.proofs.Common.{◌≡◌, ◌≤◌, ◌+◌, ℕ, List, [], ◌∷◌, ◌++◌, length, Option, Some, None, Result, Ok, Err, true, inl, inr, refl, ap, sym, subst, ◌∙◌, append_assoc, length-append, arith}
 use Rattle.std.specs.Io.KnownBytes.{Appends}
 use Rattle.std.specs.List.{flat_map}
-use Rattle.std.specs.Prelude.{OnErr, OnOk}
 use Rattle.std.proofs.lemmas.List.{append-nil}
 use Rattle.std.proofs.lemmas.Grind.{flat_map-append}
 use Rattle.sp_block.specs.Block.{ReadBlock}
 use Rattle.sp_block.specs.declared.fault.BlockFault.{BlockFault}
 use Rattle.sp_engine.specs.Arrivals.{kept_by_all}
 use Rattle.sp_engine.specs.Blocks.{block_in}
-use Rattle.sp_feed.specs.Calls.{GivesHead, GivesNext, onto, SaysFault, SoFar}
+use Rattle.sp_feed.specs.Calls.{GivesHead, GivesNext, onto, SaysFault}
 use Rattle.sp_feed.specs.Feed.{End, Feed as FeedOf, feed, Malformed, no_more, rest_of, TooLong, Truncated, Whole}
 use Rattle.sp_feed.specs.Format.{Head, head_of}
 use Rattle.sp_feed.specs.Genesis.{ReadHead}
@@ -34,10 +33,10 @@ use Rattle.sp_watch.specs.declared.item.Item.{Item}
 use Rattle.spectre.specs.Heads.{as_replay, of_stop}
 use Rattle.spectre.specs.Replay.{end_text, fed, feed_limit}
 use Rattle.spectre.specs.Ends.{HasStopCause}
-use Rattle.spectre.specs.Replaying.{HasWriteCause, RepliesFor, SaysDue}
+use Rattle.spectre.specs.Replaying.{HasWriteCause, SaysDue}
 use Rattle.spectre.specs.Taken.{AreNeeded, AreTold}
 use Rattle.spectre.specs.Watches.{held_by, held_under, turned_text, watch_end, watch_lines_by, watch_lines_under, watch_replied, watch_replies, watch_reply, watched}
-use Rattle.spectre.specs.Watching.{answer_then, Following, Follows, FollowsFor, HasSeen, none_due, SaysWatch, watch_then, Watches}
+use Rattle.spectre.specs.Watching.{answer_then, Following, Follows, HasSeen, none_due, SaysWatch, watch_then, Watches}
 use Rattle.spectre.specs.declared.ending.Stop.{Stop}
 use Rattle.spectre.specs.declared.ending.Stop.TheVariants as stops
 use Rattle.spectre.specs.declared.replay.ReplayFault.{ReplayFault}

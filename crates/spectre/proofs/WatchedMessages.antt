@@ -1,19 +1,17 @@
 -- A watch over the messages of a feed: what is written for one message more, and what the watch has seen then.
-use Rattle.std.proofs.Common.{◌≡◌, ℕ, suc, ◌+◌, ◌≤◌, ◌<◌, List, [], ◌∷◌, ◌++◌, length, take, Option, Some, refl, ap, sym, subst, ◌∙◌, append_assoc, length-append, get_or, arith}
+use Rattle.std.proofs.Common.{◌≡◌, ℕ, suc, ◌+◌, ◌≤◌, ◌<◌, List, [], ◌∷◌, ◌++◌, length, refl, ap, sym, subst, ◌∙◌, append_assoc, length-append, arith}
 use Rattle.std.specs.List.{flat_map}
 use Rattle.std.proofs.lemmas.List.{append-nil, take-append-le, take_all}
-use Rattle.std.proofs.lemmas.Grind.{flat_map-append}
 use Rattle.sp_block.specs.Block.{ReadBlock}
 use Rattle.sp_engine.specs.Arrivals.{kept_after, kept_by_all}
 use Rattle.sp_feed.specs.Kinds.{Said, SaysBlock, SaysVote, SaysTx, SaysBalance, SaysPairs, SaysReport}
 use Rattle.sp_model.specs.declared.profile.Profile.{Profile}
-use Rattle.sp_names.specs.Labels.{no_labels}
-use Rattle.sp_node.specs.Answers.{arrivals_of, kept_then, reply}
+use Rattle.sp_node.specs.Answers.{arrivals_of, kept_then}
 use Rattle.sp_node.specs.Terms.{Terms}
 use Rattle.sp_node.proofs.AnswerLists.{kept_by_all-push}
-use Rattle.sp_watch.specs.Arrivals.{changes_text, held_texts, history_of}
+use Rattle.sp_watch.specs.Arrivals.{history_of}
 use Rattle.sp_watch.specs.Lines.{change_at, held_of}
-use Rattle.sp_watch.specs.Watching.{changes_in, seen_all, turned_from, watch_of, Watched, watched_after}
+use Rattle.sp_watch.specs.Watching.{changes_in, seen_all, watch_of, Watched, watched_after}
 use Rattle.sp_watch.specs.declared.item.Item.{Item}
 use Rattle.sp_watch.proofs.Notes.{arrival_noted, changes_told, start_noted}
 use Rattle.sp_watch.proofs.Told.{all_held, all_written}

@@ -1,8 +1,7 @@
-use Rattle.std.proofs.Common.{◌≡◌, ◌∙◌, None, Some, Ok, Err, IfSome, Option, ap, sym, subst}
+use Rattle.std.proofs.Common.{◌≡◌, ◌∙◌, None, Some, IfSome, Option, ap, sym, subst}
 use Rattle.std.proofs.lemmas.Result.{err_from_is_err_and}
 use Rattle.sp_feed.specs.Kinds.{Said}
 use Rattle.sp_feed.specs.Reader.{last_of}
-use Rattle.sp_feed.specs.Reads.{moment}
 use Rattle.sp_feed.proofs.WholeFeeds.{behind_open, from_limit, tells}
 use Rattle.sp_node.specs.Answers.{kept_then}
 use Rattle.spectre.proofs.BroughtBlocks.{at_end, at_fault, one_more, refused}

@@ -1,4 +1,4 @@
-use Rattle.std.proofs.Common.{[], ◌+◌, ◌++◌, ◌∙◌, List, ℕ, map, subst, arith}
+use Rattle.std.proofs.Common.{[], ◌+◌, ◌∙◌, List, ℕ, map, subst, arith}
 use Rattle.sp_feed.specs.declared.kind.Kind.TheVariants.{Block, End}
 use Rattle.sp_feed.specs.Spelling.{framed, frames_of}
 use Rattle.sp_io.specs.Whole.{Wrote}

@@ -1,4 +1,4 @@
-use Rattle.std.proofs.Common.{Err, ap, ◌≡◌, ◌<◌, ℕ, Option, IfSome, IsSome, length, refl, sym, subst, ◌∙◌, arith}
+use Rattle.std.proofs.Common.{Err, ap, ◌≡◌, ◌<◌, Option, IfSome, IsSome, length, refl, sym, subst, ◌∙◌, arith}
 use Rattle.std.specs.Io.KnownBytes.{Appends}
 use Rattle.sp_feed.specs.Kinds.{Said}
 use Rattle.sp_feed.specs.Messages.{said_by}

@@ -1,4 +1,4 @@
-use Rattle.std.proofs.Common.{◌++◌, List, length, refl, ap, arith, ℕ}
+use Rattle.std.proofs.Common.{◌++◌, List, length, ap, arith, ℕ}
 use Rattle.std.specs.Prelude.{string_bytes}
 use Rattle.std.proofs.lemmas.List.{length-map}
 use Rattle.spectre.specs.Words.{texts}

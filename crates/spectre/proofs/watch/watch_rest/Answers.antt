@@ -1,10 +1,9 @@
-use Rattle.std.proofs.Common.{◌≡◌, ◌∙◌, ◌<◌, None, Some, Ok, Err, IfSome, Option, ℕ, ap, sym, subst, arith}
+use Rattle.std.proofs.Common.{◌≡◌, ◌∙◌, None, Some, Err, IfSome, Option, ap, sym, subst}
 use Rattle.std.specs.Io.KnownBytes.{Appends}
 use Rattle.std.proofs.lemmas.Result.{err_from_is_err_and}
 use Rattle.sp_io.specs.Whole.{AppendsFront}
 use Rattle.sp_feed.specs.Kinds.{Said}
 use Rattle.sp_feed.specs.Reader.{last_of}
-use Rattle.sp_feed.specs.Reads.{moment}
 use Rattle.sp_feed.proofs.WholeFeeds.{behind_open, from_limit, tells}
 use Rattle.sp_node.specs.Answers.{kept_then}
 use Rattle.spectre.specs.Watching.{answer_then, watch_then}

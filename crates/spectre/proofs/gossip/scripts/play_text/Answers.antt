@@ -1,5 +1,4 @@
-use Rattle.std.proofs.Common.{◌≡◌, ◌∙◌, ◌++◌, [], List, ℕ, IfOk, None, Option, OnErr, OnOk, Some, ap, sym, subst, refl}
-use Rattle.std.specs.Io.KnownBytes.{Appends}
+use Rattle.std.proofs.Common.{◌∙◌, OnErr, Some, ap, sym, subst}
 use Rattle.std.specs.Option.{option_copied}
 use Rattle.sp_io.specs.Whole.{AppendsFront}
 use Rattle.sp_io.proofs.Stops.{stops_at_start}

@@ -1,4 +1,4 @@
-use Rattle.std.proofs.Common.{◌≡◌, ◌++◌, IsNone, IsSome, Ok, Option, OnErr, OnOk, subst}
+use Rattle.std.proofs.Common.{◌≡◌, IsNone, IsSome, Ok, Option, OnErr, OnOk, subst}
 use Rattle.std.specs.Io.KnownBytes.{Appends}
 use Rattle.std.specs.Option.{option_copied}
 use Rattle.sp_io.specs.Whole.{AppendsFront}

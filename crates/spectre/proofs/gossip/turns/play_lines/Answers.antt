@@ -1,4 +1,4 @@
-use Rattle.std.proofs.Common.{◌<◌, ◌≤◌, ◌+◌, ◌∙◌, length, List, ℕ, sym, ap, subst, arith}
+use Rattle.std.proofs.Common.{◌<◌, ◌≤◌, ◌+◌, ◌∙◌, length, sym, ap, subst, arith}
 use Rattle.sp_gossip.specs.Network.{Network}
 use Rattle.sp_io.specs.Whole.{Wrote}
 use Rattle.sp_io.proofs.Stops.{on_err}
