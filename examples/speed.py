@@ -105,6 +105,14 @@ RUNS = [
         for count in (255, 511)
     ),
     payments(
+        "two chains in turns, 511 blocks with 102 payments of 16 coins, of three kinds in turns in each chain",
+        lambda: feeds.contested(graphs.in_turns(511), graphs.turn_and_third, 102, 16),
+    ),
+    payments(
+        "two chains in turns, 511 blocks, each with rivals of all others' 102 payments of 16 coins",
+        lambda: feeds.contested(graphs.in_turns(511), lambda block: block, 102, 16),
+    ),
+    payments(
         "two chains in turns, 511 blocks that hand on 256 coins each, with rivals in the first ones",
         lambda: feeds.handed_on(graphs.in_turns(511), graphs.turn, 256),
     ),

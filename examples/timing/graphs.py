@@ -46,6 +46,12 @@ def turn(block):
     return block // 2 % 2
 
 
+def turn_and_third(block):
+    """The same, and which of three its place in its chain is, where these take turns: a number from 0 to 5."""
+    place = block // 4 * 2 + block % 2
+    return turn(block) * 3 + place % 3
+
+
 def chain_and_star(count):
     """The first half a chain, and each of the others on genesis."""
     return [[], *([block - 1 if block <= count // 2 else 0] for block in range(1, count + 1))]
