@@ -19,6 +19,7 @@ pub mod Reached
 pub mod Updated
 pub mod Outcome
 pub mod Rowwise
+pub mod Witnesses
 pub mod Accepting
 pub mod Spent
-pub mod Listed
+pub mod Spanned

@@ -8,3 +8,4 @@ pub mod States
 pub mod Todo
 pub mod Around
 pub mod AcceptedRows
+pub mod Witness

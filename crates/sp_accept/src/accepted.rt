@@ -108,9 +108,11 @@ impl Accepted {
     /// a test of a row for each other spender of it: such a row is filled from the carriers of its
     /// transaction when it is first asked for, and when one of these turned. The order is asked of each
     /// older block beside each such new one, for each block that is decided on again of the blocks in which
-    /// its carriers have rivals, and of each block above one in which a carrier turned. Memory is taken for
-    /// the flags, for a mark of each transaction, for the rows that were asked for, for what turned, and
-    /// for the answer.
+    /// its carriers have rivals, and of each block above one in which a carrier turned. Where the rivals in
+    /// one of the lowest blocks stand in the way of a block's first carrier, all that have rivals there need
+    /// no more than that, and the order is asked for the others alone. Memory is taken for
+    /// the flags, for a mark of each transaction from the lowest of which a carrier turned to the highest,
+    /// for the rows that were asked for, for what turned, and for the answer.
     ///
     /// # Errors
     ///

@@ -1,12 +1,14 @@
 //! The blocks around a block, as rows, by what a sound rival in them does to its carriers. They are
-//! found once a block, so that each of its carriers is tested against all blocks of its rivals at once.
+//! found once a block, so that each of its carriers is tested against all blocks of its rivals at once. Of
+//! carriers that have rivals in a block in which these are known to stand in the way, none is asked.
 
-ghost use Rattle.std.specs.Prelude.{◌≡◌, ◌<◌, ◌≤◌, ◌==◌, ◌&&◌, ◌||◌, not, ℕ, IsFalse, IsTrue, length};
+ghost use Rattle.std.specs.Prelude.{◌≡◌, ◌<◌, ◌≤◌, ◌==◌, ◌&&◌, ◌||◌, not, ℕ, IfSome, IsFalse, IsTrue, length};
 ghost use Rattle.sp_model.specs.Graph.{has};
 ghost use Rattle.sp_carry.specs.RivalBlocks.{rival_blocks};
 ghost use Rattle.sp_accept.specs.Around.{is_unbeaten, IsAround};
 ghost use Rattle.sp_accept.specs.Rows.{row_at};
 ghost use Rattle.sp_accept.specs.Standing.{is_below};
+ghost use Rattle.sp_accept.specs.Witness.{holds};
 
 use crate::lookups::carrier_at;
 use crate::order::Order;
@@ -25,7 +27,7 @@ pub(crate) struct Around {
 
 /// Whether the other block, which isn't in the past of this one, is unrelated, and the votes don't put
 /// this one before it.
-fn is_unbeaten<O: Order>(order: &O, block: u16, other: u16) -> bool
+pub(crate) fn is_unbeaten<O: Order>(order: &O, block: u16, other: u16) -> bool
     requires block { block < length (O.table order.now).parents }
     requires other { other < length (O.table order.now).parents }
     requires above { IsFalse (is_below (O.table order.now) other block) }
@@ -80,19 +82,54 @@ fn join(row: &mut Row, other: &Row)
     row.or_with(other);
 }
 
+/// Whether the row has the block, where there is one.
+fn holds(witness: Option<u16>, row: &Row) -> bool
+    requires { IfSome witness (λ w. w < 512) }
+    ensures { result ≡ holds witness row.now }
+{
+    match witness {
+        Some(block) => row.test(block),
+        None => false,
+    }
+}
+
+/// Adds the blocks of another row, unless it has the witness.
+fn join_unless(row: &mut Row, other: &Row, witness: Option<u16>)
+    requires { IfSome witness (λ w. w < 512) }
+    ensures kept { (w : ℕ) → IsTrue (has row.old w) → IsTrue (has row.new w) }
+    ensures there { IsFalse (holds witness other.now) → (w : ℕ) → IsTrue (has other.now w) → IsTrue (has row.new w) }
+{
+    if !holds(witness, other) {
+        join(row, other);
+    }
+}
+
+/// Behind which place a row has none of those below a number.
+pub(crate) fn end_of(row: &Row, count: u16) -> u16
+    ensures within { result ≤ count }
+    ensures all { (w : ℕ) → w < count → IsTrue (has row.now w) → w < result }
+{
+    match row.highest() {
+        Some(top) => count.min(top + 1),
+        None => 0,
+    }
+}
+
 /// The blocks around a block, of those in which some carriers have rivals. The order is asked at most
 /// three times of each of these.
 pub(crate) fn around_of<O: Order>(order: &O, block: u16, rivals: &Row, count: u16) -> Around
     requires count { count ≡ length (O.table order.now).parents }
     requires few { length (O.table order.now).parents ≤ 512 }
     requires block { block < count }
-    ensures { IsAround (O.table order.now) block rivals.now result.beaten result.safe }
+    ensures around { IsAround (O.table order.now) block rivals.now result.beaten result.safe }
+    ensures out { (w : ℕ) → IsTrue (is_unbeaten (O.table order.now) block w) → IsFalse (has result.beaten w) }
 {
     let mut around = Around {
         beaten: Row::empty(),
         safe: Row::empty(),
     };
-    'others: for other in 0..count {
+    let end = end_of(rivals, count);
+    'others: for other in 0..end {
         if rivals.test(other) {
             put_one(&mut around, order, block, other);
         }
@@ -100,17 +137,19 @@ pub(crate) fn around_of<O: Order>(order: &O, block: u16, rivals: &Row, count: u1
     around
 }
 
-/// The blocks in which some carriers have rivals.
-pub(crate) fn rivals_of(carriers: &Carriers, from: u32, end: u32) -> Row
-    requires { end ≤ length carriers.now.rows }
-    ensures { (c w : ℕ) → from ≤ c → c < end →
+/// The blocks in which some carriers have rivals, of those that have none in the witness.
+pub(crate) fn rivals_of(carriers: &Carriers, from: u32, end: u32, witness: Option<u16>) -> Row
+    requires end { end ≤ length carriers.now.rows }
+    requires witness { IfSome witness (λ w. w < 512) }
+    ensures { (c w : ℕ) → from ≤ c → c < end → IsFalse (holds witness (rival_blocks carriers.now (row_at carriers.now.rows c).tx)) →
         IsTrue (has (rival_blocks carriers.now (row_at carriers.now.rows c).tx) w) → IsTrue (has result w) }
 {
     let mut rivals = Row::empty();
     'carriers: for c in from..end {
-        join(
+        join_unless(
             &mut rivals,
             carriers.rival_blocks(carrier_at(carriers, c).tx),
+            witness,
         );
     }
     rivals

@@ -7,9 +7,9 @@ ghost use Rattle.std.specs.List.{list_all, list_any};
 ghost use Rattle.sp_model.specs.Graph.{has};
 ghost use Rattle.sp_carry.specs.RivalBlocks.{rival_blocks};
 ghost use Rattle.sp_accept.specs.AcceptedRows.{is_spent_outside, AreAccepted};
-ghost use Rattle.sp_accept.specs.Around.{IsAround};
 ghost use Rattle.sp_accept.specs.Pass.{inputs_at, is_next};
 ghost use Rattle.sp_accept.specs.Rows.{row_at, AreOf};
+ghost use Rattle.sp_accept.specs.Witness.{Decide};
 
 use crate::accepted_rows::AcceptedRows;
 use crate::around::Around;
@@ -62,7 +62,7 @@ pub(crate) fn is_next_by_rows<O: Order>(
 ) -> Result<bool, AllocError>
     requires of { AreOf (O.table order.now) carriers.now }
     requires c { c < length carriers.now.rows }
-    requires around { IsAround (O.table order.now) (row_at carriers.now.rows c).block
+    requires around { Decide (O.table order.now) (row_at carriers.now.rows c).block
         (rival_blocks carriers.now (row_at carriers.now.rows c).tx) around.now.beaten around.now.safe }
     requires kept { AreAccepted carriers.now flags.now rows.old.places.items rows.old.rows.items }
     ensures kept { AreAccepted carriers.now flags.now rows.new.places.items rows.new.rows.items }

@@ -21,6 +21,7 @@ mod sources;
 mod todo;
 mod touched;
 mod update;
+mod witness;
 
 pub use accepted::Accepted;
 pub use order::Order;

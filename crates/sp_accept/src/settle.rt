@@ -8,11 +8,11 @@ ghost use Rattle.sp_dag.specs.Numbered.{AreInOrder};
 ghost use Rattle.sp_carry.specs.Flags.{is_set};
 ghost use Rattle.sp_carry.specs.RivalBlocks.{rival_blocks};
 ghost use Rattle.sp_accept.specs.AcceptedRows.{AreAccepted};
-ghost use Rattle.sp_accept.specs.Around.{IsAround};
 ghost use Rattle.sp_accept.specs.Pass.{is_next};
 ghost use Rattle.sp_accept.specs.Rows.{row_at, AreOf};
 ghost use Rattle.sp_accept.specs.Standing.{is_below};
 ghost use Rattle.sp_accept.specs.Todo.{all_turned, AreSettledBut, AreTurned, is_due, turned_at};
+ghost use Rattle.sp_accept.specs.Witness.{Decide};
 
 use crate::accepted_rows::AcceptedRows;
 use crate::around::{Around, around_of, rivals_of};
@@ -21,6 +21,7 @@ use crate::flags::differ;
 use crate::lookups::{carrier_at, first_from};
 use crate::order::Order;
 use crate::todo::note;
+use crate::witness::witness_of;
 use sp_bits::Row;
 use sp_carry::{Carriers, is_set};
 use std::alloc::AllocError;
@@ -50,7 +51,7 @@ fn settle_one<O: Order>(
 ) -> Result<bool, AllocError>
     requires of { AreOf (O.table order.now) carriers.now }
     requires within { c < length carriers.now.rows }
-    requires around { IsAround (O.table order.now) (row_at carriers.now.rows c).block
+    requires around { Decide (O.table order.now) (row_at carriers.now.rows c).block
         (rival_blocks carriers.now (row_at carriers.now.rows c).tx) around.now.beaten around.now.safe }
     requires long { length flags.old.items ≡ length carriers.now.rows }
     requires kept { AreAccepted carriers.now flags.old.items rows.old.places.items rows.old.rows.items }
@@ -99,7 +100,8 @@ fn settle_block<O: Order>(
     let count = carriers.block_count();
     let first = first_from(carriers, block);
     let end = first_from(carriers, block + 1);
-    let rivals = rivals_of(carriers, first, end);
+    let witness = witness_of(order, carriers, block, first, end);
+    let rivals = rivals_of(carriers, first, end, witness);
     let around = around_of(order, block, &rivals, count);
     let mut any = false;
     'carriers: for c in first..end {

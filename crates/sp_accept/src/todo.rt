@@ -72,7 +72,8 @@ fn is_contested(carriers: &Carriers, tx: u32) -> bool
     is_any_shared(carriers, carriers.tx(tx).inputs.as_slice())
 }
 
-/// The blocks of those of the sound carriers from a number on whose transactions are contested.
+/// The blocks of those of the sound carriers from a number on whose transactions are contested. Of a block
+/// that has one no other is looked at.
 fn contested_blocks(carriers: &Carriers, from: u32) -> Row
     ensures { (c : ℕ) → from ≤ c → c < length carriers.now.rows →
         IsTrue (row_at carriers.now.rows c).sound → IsTrue (is_contested carriers.now (row_at carriers.now.rows c).tx) →
@@ -83,7 +84,7 @@ fn contested_blocks(carriers: &Carriers, from: u32) -> Row
     let mut blocks = Row::empty();
     'carriers: for c in from..carriers.carrier_count() {
         let row = carrier_at(carriers, c);
-        if row.sound && is_contested(carriers, row.tx) {
+        if row.sound && !blocks.test(row.block) && is_contested(carriers, row.tx) {
             note(&mut blocks, row.block);
         }
     }

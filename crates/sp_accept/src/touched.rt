@@ -1,7 +1,8 @@
 //! Which transactions turn where some carriers did, and their new flags. They are marked and then gone
-//! over in their order, so that none is put into a set for each of its carriers that turned.
+//! over in their order, so that none is put into a set for each of its carriers that turned. Marks are
+//! made from the lowest of them to the highest alone: mostly these are those of a new block.
 
-ghost use Rattle.std.specs.Prelude.{◌≡◌, ◌<◌, ◌≤◌, ◌==◌, ◌||◌, ◌++◌, ◌∷◌, [], ℕ, All, length, vec_capacity, cond, false, IfOk, OnOk, filter};
+ghost use Rattle.std.specs.Prelude.{◌≡◌, ◌<◌, ◌≤◌, ◌-◌, ◌==◌, ◌||◌, ◌++◌, ◌∷◌, [], ℕ, All, length, vec_capacity, cond, false, IfOk, OnOk, filter};
 ghost use Rattle.std.specs.List.{list_any, range_with_len};
 ghost use Rattle.sp_carry.specs.declared.carrier.Flip.{Flip};
 ghost use Rattle.sp_carry.specs.Flags as meant;
@@ -37,37 +38,80 @@ fn mark(noted: &mut Vec<bool>, number: u32)
     noted[number as usize] = true;
 }
 
-/// A flag for each transaction, set for those of some carriers.
-fn noted_of(alloc: Global, carriers: &Carriers, turned: &[u32]) -> Result<Vec<bool>, AllocError>
+/// A number that none of the transactions of some carriers is below, the highest such one where there are any.
+fn lowest_of(carriers: &Carriers, turned: &[u32]) -> u32
     requires { All (λ c. c < length carriers.now.rows) turned.now }
-    ensures { IfOk result (λ noted. (tx : ℕ) → meant.is_set noted.items tx
-        ≡ list_any (λ c. (row_at carriers.now.rows c).tx == tx) turned.now) }
+    ensures { All (λ c. result ≤ (row_at carriers.now.rows c).tx) turned.now }
 {
-    let mut noted = no_flags(alloc, carriers.tx_count() as usize)?;
+    let mut first = u32::MAX;
     'turned: for c in turned {
-        mark(&mut noted, carrier_at(carriers, *c).tx);
+        first = first.min(carrier_at(carriers, *c).tx);
+    }
+    first
+}
+
+/// A number that all transactions of some carriers are below, the lowest such one.
+fn bound_of(carriers: &Carriers, turned: &[u32]) -> u32
+    requires { All (λ c. c < length carriers.now.rows) turned.now }
+    ensures within { result ≤ length carriers.now.txs }
+    ensures all { All (λ c. (row_at carriers.now.rows c).tx < result) turned.now }
+{
+    // Tells the proof that there are few transactions.
+    let _count = carriers.tx_count();
+    let mut end = 0;
+    'turned: for c in turned {
+        end = end.max(carrier_at(carriers, *c).tx + 1);
+    }
+    end
+}
+
+/// A flag for each transaction of a span, set for those of some carriers.
+fn noted_of(
+    alloc: Global,
+    carriers: &Carriers,
+    turned: &[u32],
+    first: u32,
+    end: u32,
+) -> Result<Vec<bool>, AllocError>
+    requires known { All (λ c. c < length carriers.now.rows) turned.now }
+    requires order { first ≤ end }
+    requires low { All (λ c. first ≤ (row_at carriers.now.rows c).tx) turned.now }
+    requires high { All (λ c. (row_at carriers.now.rows c).tx < end) turned.now }
+    ensures { IfOk result (λ noted. (n : ℕ) → meant.is_set noted.items n
+        ≡ list_any (λ c. (row_at carriers.now.rows c).tx - first == n) turned.now) }
+{
+    let mut noted = no_flags(alloc, (end - first) as usize)?;
+    'turned: for c in turned {
+        mark(&mut noted, carrier_at(carriers, *c).tx - first);
     }
     Ok(noted)
 }
 
-/// Notes a number, where its flag is set.
-fn note_number(list: &mut Vec<u32>, noted: &[bool], number: u32) -> Result<(), AllocError>
+/// Notes a number, where the flag at its place is set.
+fn note_number(
+    list: &mut Vec<u32>,
+    noted: &[bool],
+    place: u32,
+    number: u32,
+) -> Result<(), AllocError>
     ensures { OnOk result (list.new.items
-        ≡ list.old.items ++ cond (meant.is_set noted.now number) (number ∷ []) []) }
+        ≡ list.old.items ++ cond (meant.is_set noted.now place) (number ∷ []) []) }
 {
-    if is_set(noted, number) {
+    if is_set(noted, place) {
         list.push(number)?;
     }
     Ok(())
 }
 
-/// The numbers below one whose flags are set, ascending.
-fn numbers_of(alloc: Global, noted: &[bool], count: u32) -> Result<Vec<u32>, AllocError>
-    ensures { IfOk result (λ list. list.items ≡ filter (meant.is_set noted.now) (range_with_len 0 count)) }
+/// The numbers of a span whose flags are set, ascending.
+fn numbers_of(alloc: Global, noted: &[bool], first: u32, end: u32) -> Result<Vec<u32>, AllocError>
+    requires { first ≤ end }
+    ensures { IfOk result (λ list. list.items
+        ≡ filter (λ tx. meant.is_set noted.now (tx - first)) (range_with_len first (end - first))) }
 {
     let mut list = Vec::new(alloc);
-    'numbers: for number in 0..count {
-        note_number(&mut list, noted, number)?;
+    'numbers: for number in first..end {
+        note_number(&mut list, noted, number - first, number)?;
     }
     Ok(list)
 }
@@ -113,8 +157,10 @@ pub(crate) fn turned_txs(
 {
     // Tells the proof what carriers are.
     let _blocks = carriers.block_count();
-    let noted = noted_of(alloc, carriers, turned)?;
-    let list = numbers_of(alloc, &noted, carriers.tx_count())?;
+    let end = bound_of(carriers, turned);
+    let first = lowest_of(carriers, turned).min(end);
+    let noted = noted_of(alloc, carriers, turned, first, end)?;
+    let list = numbers_of(alloc, &noted, first, end)?;
     let flips = flips_of(alloc, carriers, &list, flags, old)?;
     Ok(flips)
 }

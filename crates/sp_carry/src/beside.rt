@@ -23,11 +23,9 @@ fn mark(rows: &mut Vec<Row>, tx: u32, block: u16)
     requires block { block < 512 }
     ensures { AreMarkedBy (λ t z. (t == tx) && (z == block)) rows.old.items rows.new.items }
 {
-    let mut row = rows[tx as usize];
     // Tells the proof what a row is.
-    let _there = row.test(block);
-    row.set(block);
-    rows[tx as usize] = row;
+    let _there = rows[tx as usize].test(block);
+    rows[tx as usize].set(block);
 }
 
 // Marks a block in the row of another transaction than this one.

@@ -1,11 +1,10 @@
 use Rattle.std.proofs.Common.{◌≡◌, ◌<◌, ◌≤◌, ◌||◌, ◌∙◌, ◌+◌, ℕ, Bool, ap, sym, subst, arith}
 use Rattle.sp_carry.specs.RivalBlocks.{rival_blocks}
-use Rattle.sp_accept.specs.Around.{IsAround}
 use Rattle.sp_accept.specs.Rows.{row_at}
 use Rattle.sp_accept.specs.Todo.{AreSettledBut}
 use Rattle.sp_accept.proofs.Due.{block_goes_on, left_from}
-use Rattle.sp_accept.proofs.Rowwise.{around_fewer}
 use Rattle.sp_accept.proofs.Toggled.{turned_on}
+use Rattle.sp_accept.proofs.Witnesses.{rows_decide}
 use Rattle.sp_accept.proofs.settle.settle_block.Goals as goal
 use Rattle.sp_accept.proofs.settle.settle_block.Goals.{then-branch, else-branch}
 
@@ -22,9 +21,9 @@ settle_one-requires-clause-around g c =
     let low : c.args.block ≤ (row_at k.rows c.carriers.c).block = c.first_from-first.ensures.from c.carriers.c c.carriers.auto.c (omega (arith, c.carriers-test.true, c.first_from-end.ensures.within)) in
     let high : (row_at k.rows c.carriers.c).block < c.args.block + 1 = c.first_from-end.ensures.below c.carriers.c c.carriers-test.true in
     let here : c.args.block ≡ (row_at k.rows c.carriers.c).block = omega (arith, low, high) in
-    subst (λ (z : ℕ). IsAround table z (rival_blocks k tx) c.around_of-around.result.beaten c.around_of-around.result.safe) here
-    (around_fewer table c.args.block c.rivals_of-rivals.result (rival_blocks k tx) c.around_of-around.result.beaten c.around_of-around.result.safe
-    (λ w there. c.rivals_of-rivals.ensures c.carriers.c w c.carriers.auto.c c.carriers-test.true there) c.around_of-around.ensures)
+    rows_decide table c.args.block (row_at k.rows c.carriers.c).block c.witness_of-witness.result (rival_blocks k tx) c.rivals_of-rivals.result c.around_of-around.result.beaten
+    c.around_of-around.result.safe here c.witness_of-witness.ensures.unbeaten
+    (λ off w there. c.rivals_of-rivals.ensures c.carriers.c w c.carriers.auto.c c.carriers-test.true off there) c.around_of-around.ensures.around c.around_of-around.ensures.out
 
 pub carriers-preserved : goal.carriers-preserved
 carriers-preserved g c =

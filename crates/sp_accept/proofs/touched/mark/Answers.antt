@@ -1,4 +1,4 @@
-use Rattle.sp_accept.proofs.Listed.{marked}
+use Rattle.sp_accept.proofs.Spanned.{marked}
 use Rattle.sp_accept.proofs.touched.mark.Goals as goal
 
 pub returns-clause-noted : goal.returns-clause-noted
