@@ -178,7 +178,7 @@ voted_as_before table old new same voted = subst (λ (f : FrozenRows). AreVoted 
       holds = record {
         frozen = voted.holds.frozen;
         views = views_move table old.rows old.frozen.blocks new.rows old.views (λ r. omega (arith, same.rows.counts r, voted.holds.shared.counts r)) (λ r some. same.rows.places r (omega (arith, some, voted.holds.shared.counts r))) voted.holds.views;
-        shared = record { few = omega arith; sound = tt; counts = λ r. omega (arith, same.rows.counts r, voted.holds.shared.counts r) };
+        shared = record { few = omega arith; once = λ r. omega arith; counts = λ r. omega (arith, same.rows.counts r, voted.holds.shared.counts r) };
         tips = voted.holds.tips;
       };
       every = voted.every;

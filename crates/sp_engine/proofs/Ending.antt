@@ -1,5 +1,5 @@
 -- The view of all blocks, as the last of the views: it takes a new block, and the new tip's view comes before it.
-use Rattle.std.proofs.Common.{◌≡◌, ℕ, ◌+◌, ◌-◌, ◌<◌, true, false, ◌||◌, List, [], ◌∷◌, ◌++◌, length, get_or, set, take, drop, refl, sym, ap, subst, ◌∙◌, eqb, inl, inr, arith, length-append}
+use Rattle.std.proofs.Common.{◌≡◌, ℕ, ◌+◌, ◌-◌, ◌<◌, ◌≤◌, true, false, ◌||◌, List, [], ◌∷◌, ◌++◌, length, get_or, set, take, drop, Option, refl, sym, ap, subst, ◌∙◌, eqb, inl, inr, arith, length-append}
 use Rattle.std.specs.List.{range_with_len}
 use Rattle.std.proofs.lemmas.Bool.{cases_lt, false≢true}
 use Rattle.sp_bits.specs.Places.{places_where}
@@ -7,6 +7,8 @@ use Rattle.sp_dag.specs.Numbered.{Numbered, graph_of, AreInOrder}
 use Rattle.sp_dag.proofs.Ranked.{ancestors_lower}
 use Rattle.sp_model.specs.Graph.{has, in_past}
 use Rattle.sp_rows.specs.Pool.{Pool}
+use Rattle.sp_view.specs.Saved.{AreCountedWith, IsSaving, patched}
+use Rattle.sp_view.proofs.Patched.{held_saved, length_patched}
 use Rattle.sp_view.specs.Stored.{count_of, row_of}
 use Rattle.sp_view.specs.Views.{AreKeptIds, Viewed, held, IsView}
 use Rattle.sp_engine.specs.Votes.{held_by, AreShared, AreViews, IsLast, IsPut}
@@ -90,15 +92,12 @@ module _ (table : Numbered) (pool : Pool) (b n : ℕ) (views : List Viewed) (vie
   parts_held : (r : ℕ) → held_by (tip ∷ views) r ≡ held tip.entries r + (held_by ends.front r + held view.entries r)
   parts_held r = (let e : held_by views r ≡ held_by ends.front r + held_by (view ∷ []) r = ap (λ (l : List Viewed). held_by l r) ends.is ∙ held_more ends.front (view ∷ []) r in omega (arith, e))
 
-  module _ (pool' : Pool) (new : Viewed) (beside : List Viewed) (shared : AreShared table pool n (tip ∷ views) beside)
-      (grown : (r : ℕ) → count_of pool' r + held view.entries r ≡ count_of pool r + held new.entries r) (others : (r : ℕ) → held view.entries r < count_of pool r → row_of pool' r ≡ row_of pool r) where
-    pub shared_put : AreShared table pool' n (ends.front ++ tip ∷ new ∷ []) beside
-    shared_put = record {
-      few = shared.few;
-      sound = views_move table pool n pool' beside
-          (λ r. omega (arith, shared.counts r, grown r, parts_held r))
-          (λ r some. others r (omega (arith, some, shared.counts r, parts_held r)))
-          shared.sound;
+  module _ (pool' : Pool) (new : Viewed) (saved saved' : List (Option (ℕ × ℕ))) (shared : AreShared table pool (tip ∷ views) saved)
+      (grown : AreCountedWith pool pool' view.entries saved new.entries saved') (others : (r : ℕ) → held view.entries r < count_of pool r → row_of pool' r ≡ row_of pool r) where
+    pub shared_put : patched saved' new.entries ≡ patched saved view.entries → ((r : ℕ) → held (patched saved view.entries) r ≤ 1) → AreShared table pool' (ends.front ++ tip ∷ new ∷ []) saved'
+    shared_put same once = record {
+      few = omega (arith, shared.few, length_patched saved view.entries, length_patched saved' new.entries, ap length same);
+      once = λ r. omega (arith, held_saved saved' new.entries r, ap (λ (l : List (Option (ℕ × ℕ))). held l r) same, once r);
       counts = λ r. omega (arith, shared.counts r, grown r, parts_held r, held_more ends.front (tip ∷ new ∷ []) r);
     }
 
@@ -120,6 +119,16 @@ module _ (table : Numbered) (pool : Pool) (b n : ℕ) (views : List Viewed) (vie
     | inr more ↦ absurd (false≢true (sym (past_range 0 (b + 1) z (omega (arith, more, at))) ∙ ap (λ (l : List ℕ). has l z) (sym is) ∙ h))
   ]
 
-  pub is_put : (items : List Viewed) (new : Viewed) → items ≡ ends.front ++ tip ∷ new ∷ [] → new.members ≡ range_with_len 0 (b + 1)
-      → AreKeptIds table view.members new.members view.entries new.entries → IsPut table b views tip items
-  is_put items new is members kept = record { front = ends.front; all = view; more = new; old_is = ends.is; new_is = is; members = members; kept = kept }
+  pub is_put : (items : List Viewed) (new : Viewed) (saved saved' : List (Option (ℕ × ℕ))) → items ≡ ends.front ++ tip ∷ new ∷ [] → new.members ≡ range_with_len 0 (b + 1)
+      → AreKeptIds table view.members new.members view.entries new.entries → IsSaving saved' new.entries → patched saved' new.entries ≡ patched saved view.entries → IsPut table b views tip items saved saved'
+  is_put items new saved saved' is members kept saving same = record {
+    front = ends.front;
+    all = view;
+    more = new;
+    old_is = ends.is;
+    new_is = is;
+    members = members;
+    kept = kept;
+    saving = saving;
+    patched_is = same;
+  }

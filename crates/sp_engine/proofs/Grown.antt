@@ -1,5 +1,5 @@
 -- One block has joined the votes, and the views of its parents are let go: the votes grew by it.
-use Rattle.std.proofs.Common.{◌≡◌, ℕ, ◌+◌, ◌-◌, ◌<◌, ◌≤◌, Bool, true, false, cond, List, [], ◌∷◌, ◌++◌, length, map, take, get_or, Some, sym, ap, subst, ◌∙◌, inl, inr, arith, length-append}
+use Rattle.std.proofs.Common.{◌≡◌, ℕ, ◌+◌, ◌-◌, ◌<◌, ◌≤◌, Bool, true, false, cond, List, [], ◌∷◌, ◌++◌, length, map, take, get_or, Option, Some, sym, ap, subst, ◌∙◌, inl, inr, arith, length-append}
 use Rattle.std.specs.Prelude.{filter, not, slice_get}
 use Rattle.std.specs.List.{list_any, range_with_len}
 use Rattle.std.proofs.lemmas.Bool.{cases_lt, false≢true, false_from_ne_true}
@@ -32,12 +32,15 @@ first_of : (x y : List ℕ) → x ∷ [] ≡ y ∷ [] → x ≡ y
 first_of x y e = cc
 
 module _ (table : Numbered) (order : AreInOrder table.parents) (small : length table.parents ≤ 512) (n : ℕ) (last : n + 1 ≡ length table.parents)
-    (old v new : Tallied) (was : Viewed) (h : HaveJoined table n old v was) (rest : new.views ≡ filter (is_uncovered table) v.views) where
-  joined : (tip : Viewed) × (h.joining.joined ≡ tip ∷ []) × JoinedAlone table n old.views was tip h.joining.all
+    (old v new : Tallied) (saved : List (Option (ℕ × ℕ))) (h : HaveJoined table n old v saved) (rest : new.views ≡ filter (is_uncovered table) v.views) where
+  joined : (tip : Viewed) × (h.joining.joined ≡ tip ∷ []) × JoinedAlone table n old.views h.joining.was tip h.joining.all
   joined = h.one (omega (arith, h.every, last))
 
   abbrev tip : Viewed
   tip = joined.0
+
+  abbrev was : Viewed
+  was = h.joining.was
 
   abbrev olds : List Viewed
   olds = h.joining.olds

@@ -10,7 +10,6 @@ pub mod Onward
 pub mod Ending
 pub mod Covering
 pub mod Voted
-pub mod Forked
 pub mod TurnedPairs
 pub mod Asked
 pub mod SpelledBlocks
@@ -32,6 +31,8 @@ pub mod Grown
 pub mod TakenBack
 pub mod Arriving
 pub mod Joined
+pub mod JoinedStays
+pub mod JoiningMoves
 pub mod Judged
 pub mod Alone
 pub mod Judgements

@@ -1,5 +1,5 @@
 -- The votes stay where a block is added to the graph, before its own votes join.
-use Rattle.std.proofs.Common.{◌≡◌, ◌≤◌, ◌<◌, ◌+◌, ℕ, zero, suc, List, [], ◌∷◌, ◌++◌, length, map, take, Some, refl, sym, ap, subst, ◌∙◌, arith}
+use Rattle.std.proofs.Common.{◌≡◌, ◌≤◌, ◌<◌, ◌+◌, ℕ, zero, suc, List, [], ◌∷◌, ◌++◌, length, map, take, Option, Some, refl, sym, ap, subst, ◌∙◌, arith}
 use Rattle.std.specs.Prelude.{slice_get}
 use Rattle.sp_dag.specs.Numbered.{AreInOrder, graph_of, IsNumbered, Numbered, with_next}
 use Rattle.sp_frozen.proofs.Growth.{frozen_stays}
@@ -26,14 +26,14 @@ tips_stay table id salt ps n v order le are = record {
   members = are.members;
 }
 
-pub votes_stay : (table more : Numbered) (id salt : ℕ) (ps : List ℕ) (v : Tallied) (beside : List Viewed) → more ≡ with_next table id salt ps → IsNumbered table → AreInOrder more.parents
-    → v.frozen.blocks ≤ length table.parents → HoldsVotes table v beside → HoldsVotes more v beside
-votes_stay table more id salt ps v beside is numbered order' le h =
+pub votes_stay : (table more : Numbered) (id salt : ℕ) (ps : List ℕ) (v : Tallied) (saved : List (Option (ℕ × ℕ))) → more ≡ with_next table id salt ps → IsNumbered table → AreInOrder more.parents
+    → v.frozen.blocks ≤ length table.parents → HoldsVotes table v saved → HoldsVotes more v saved
+votes_stay table more id salt ps v saved is numbered order' le h =
     let after : AreInOrder (table.parents ++ ps ∷ []) = subst (λ (t : Numbered). AreInOrder t.parents) is order' in
-    subst (λ (t : Numbered). HoldsVotes t v beside) (sym is) (record {
+    subst (λ (t : Numbered). HoldsVotes t v saved) (sym is) (record {
       frozen = frozen_stays table id salt ps numbered after v.frozen h.frozen;
       views = views_stay table v.rows v.frozen.blocks id salt ps v.views numbered after h.views;
-      shared = shared_stays table v.rows v.frozen.blocks v.views beside h.shared id salt ps numbered after;
+      shared = shared_stays table v.rows v.views saved h.shared id salt ps numbered after;
       tips = tips_stay table id salt ps v.frozen.blocks v numbered.order le h.tips;
     })
 

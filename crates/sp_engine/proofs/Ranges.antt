@@ -1,8 +1,8 @@
 -- The numbers from one on, as a list: which are in it, and the row that has them.
-use Rattle.std.proofs.Common.{◌≡◌, ℕ, zero, suc, ◌+◌, ◌≤◌, ◌<◌, Bool, true, false, cond, ◌||◌, List, ◌∷◌, refl, ap, ◌∙◌, inl, inr, eqb, arith}
+use Rattle.std.proofs.Common.{◌≡◌, ℕ, zero, suc, ◌+◌, ◌≤◌, ◌<◌, Bool, true, false, cond, ◌||◌, List, ◌∷◌, refl, sym, ap, ◌∙◌, inl, inr, eqb, arith}
 use Rattle.std.specs.Prelude.{filter}
 use Rattle.std.specs.List.{range_with_len}
-use Rattle.std.proofs.lemmas.Bool.{cases_lt, eq-eqb, ne_eqb, or_left, or_right}
+use Rattle.std.proofs.lemmas.Bool.{cases_lt, false≢true, eq-eqb, ne_eqb, or_left, or_right}
 use Rattle.sp_bits.specs.Places.{has as has_place, places_where}
 use Rattle.sp_model.specs.Graph.{has}
 use Rattle.sp_dag.proofs.Whole.{filter_cut}
@@ -19,6 +19,12 @@ pub past_range : (a n k : ℕ) → a + n ≤ k → has (range_with_len a n) k �
 past_range a zero k high = refl
 past_range a (suc n) k high =
     ap (λ (c : Bool). c || has (range_with_len (a + 1) n) k) (ne_eqb a k (λ same. absurd (omega (arith, same)))) ∙ past_range (a + 1) n k (omega arith)
+
+pub below_range : (n k : ℕ) → has (range_with_len 0 n) k ≡ true → k < n
+below_range n k there = elim (cases_lt k n) [
+  | inl less ↦ less
+  | inr more ↦ absurd (false≢true (sym (past_range 0 n k (omega (arith, more))) ∙ there))
+]
 
 filter_all : (p : ℕ → Bool) (a n : ℕ) → ((k : ℕ) → a ≤ k → k < a + n → p k ≡ true) → filter p (range_with_len a n) ≡ range_with_len a n
 filter_all p a zero h = refl

@@ -25,6 +25,15 @@ set_seam : (front : List Viewed) (last new : Viewed) → set (front ++ last ∷ 
 set_seam [] last new = refl
 set_seam (v ∷ vs) last new = ap (λ (l : List Viewed). v ∷ l) (set_seam vs last new)
 
+pub last_is : (views front : List Viewed) (last d : Viewed) (k : ℕ) → views ≡ front ++ last ∷ [] → k + 1 ≡ length views → get_or views k d ≡ last
+last_is views front last d k is at =
+    let place : k ≡ length front = omega (arith, at, ap length is, length-append front (last ∷ [])) in
+    ap (λ (i : ℕ). get_or views i d) place ∙ ap (λ (l : List Viewed). get_or l (length front) d) is ∙ seam front
+  where
+    seam : (front : List Viewed) → get_or (front ++ last ∷ []) (length front) d ≡ last
+    seam [] = refl
+    seam (v ∷ vs) = seam vs
+
 pub set_last : (views front : List Viewed) (last new new' : Viewed) (k : ℕ) → views ≡ front ++ last ∷ [] → k + 1 ≡ length views → new ≡ new' → set views k new ≡ front ++ new' ∷ []
 set_last views front last new new' k is at same =
     let place : k ≡ length front = omega (arith, at, ap length is, length-append front (last ∷ [])) in

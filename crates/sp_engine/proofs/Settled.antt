@@ -1,5 +1,5 @@
 -- The blocks of an arrival have joined, and the views of the tips that are covered are let go.
-use Rattle.std.proofs.Common.{◌≡◌, ℕ, ◌+◌, ◌-◌, ◌<◌, ◌≤◌, Bool, cond, List, [], ◌∷◌, ◌++◌, length, map, take, sym, ap, subst, ◌∙◌, arith}
+use Rattle.std.proofs.Common.{◌≡◌, ℕ, ◌+◌, ◌-◌, ◌<◌, ◌≤◌, Bool, cond, List, [], ◌∷◌, ◌++◌, length, map, take, Option, sym, ap, subst, ◌∙◌, arith}
 use Rattle.std.specs.Prelude.{filter}
 use Rattle.std.proofs.lemmas.List.{map-append, take_all}
 use Rattle.std.proofs.lemmas.List.Elements.{filter-append}
@@ -16,13 +16,13 @@ use Rattle.sp_engine.proofs.Sharing.{views_move}
 use Rattle.sp_engine.proofs.StillTips.{all_stays, bar_stays, tips_below, tips_now, tips_twice}
 
 module _ (table : Numbered) (order : AreInOrder table.parents) (small : length table.parents ≤ 512) where
-  module _ (some : 0 < length table.parents) (n : ℕ) (old v : Tallied) (was : Viewed) (h : HaveJoined table n old v was) where
+  module _ (some : 0 < length table.parents) (n : ℕ) (old v : Tallied) (saved : List (Option (ℕ × ℕ))) (h : HaveJoined table n old v saved) where
     were : AreOfTips table n old.views
     were = h.joining.tips
 
     olds_are : map (λ (view : Viewed). view.members) h.joining.olds ≡ map (bar_row table) (tips_of (take n table.parents))
     olds_are =
-        let parts = snoc h.joining.olds were.tips was were.all (sym h.joining.old_is ∙ were.is) in
+        let parts = snoc h.joining.olds were.tips h.joining.was were.all (sym h.joining.old_is ∙ were.is) in
         ap (map (λ (view : Viewed). view.members)) parts.0 ∙ were.each
 
     within : n ≤ length table.parents
@@ -44,7 +44,7 @@ module _ (table : Numbered) (order : AreInOrder table.parents) (small : length t
       tips = filter (is_uncovered table) (h.joining.olds ++ h.joining.joined);
       all = h.joining.all;
       is =
-          is ∙ ap (filter (is_uncovered table)) (all_last table n old v was h.joining)
+          is ∙ ap (filter (is_uncovered table)) (all_last table n old v saved h.joining)
           ∙ filter-append (is_uncovered table) (h.joining.olds ++ h.joining.joined) (h.joining.all ∷ [])
           ∙ ap (λ (c : Bool). filter (is_uncovered table) (h.joining.olds ++ h.joining.joined) ++ cond c (h.joining.all ∷ []) [])
           (ap (is_top_tip table) h.members ∙ all_stays table order small (length table.parents - 1) (omega (arith, some)));
@@ -60,19 +60,19 @@ module _ (table : Numbered) (order : AreInOrder table.parents) (small : length t
     }
 
     -- no view but those that stay holds a row
-    pub settled : (mid pool : Pool) (new : List Viewed) → new ≡ filter (is_uncovered table) v.views → ((r : ℕ) → count_of v.rows r ≡ count_of mid r + held was.entries r)
+    pub settled : (mid pool : Pool) (new : List Viewed) → new ≡ filter (is_uncovered table) v.views → ((r : ℕ) → count_of v.rows r ≡ count_of mid r + held saved r)
         → ((r : ℕ) → count_of pool r + held_by v.views r ≡ count_of mid r + held_by new r) → AreViews table pool v.frozen.blocks new → AreVoted table (record { frozen = v.frozen; rows = pool; views = new; sums = v.sums })
     settled mid pool new is less counts sound = record {
       holds = record {
         frozen = h.joining.frozen;
         views = sound;
-        shared = record { few = omega arith; sound = tt; counts = λ r. omega (arith, h.joining.shared.counts r, less r, counts r) };
+        shared = record { few = omega arith; once = λ r. omega arith; counts = λ r. omega (arith, h.joining.shared.counts r, less r, counts r) };
         tips = subst (λ (k : ℕ). AreOfTips table k new) (sym h.every) (tips_settled new is);
       };
       every = h.every;
       sums = subst (λ (l : List ℕ). AreSums table l v.sums) h.members h.joining.sums;
     }
 
-    pub views_mid : (mid : Pool) → ((r : ℕ) → count_of v.rows r ≡ count_of mid r + held was.entries r) → ((r : ℕ) → 0 < count_of mid r → row_of mid r ≡ row_of v.rows r) → AreViews table mid v.frozen.blocks v.views
+    pub views_mid : (mid : Pool) → ((r : ℕ) → count_of v.rows r ≡ count_of mid r + held saved r) → ((r : ℕ) → 0 < count_of mid r → row_of mid r ≡ row_of v.rows r) → AreViews table mid v.frozen.blocks v.views
     views_mid mid less rows =
         views_move table v.rows v.frozen.blocks mid v.views (λ r. omega (arith, h.joining.shared.counts r, less r)) (λ r held. rows r (omega (arith, held, h.joining.shared.counts r, less r))) h.joining.views

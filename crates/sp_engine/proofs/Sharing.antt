@@ -140,7 +140,18 @@ module _ (table : Numbered) (pool : Pool) (n : ℕ) (small : length (pairs_of ta
       let sum : total (λ r. held v.entries r + held_by vs r) rows ≡ total (held v.entries) rows + total (held_by vs) rows = total_add (held v.entries) (held_by vs) rows in
       omega (arith, rest, sum, total_held v.entries rows sound, are.0.few, small))
 
-  -- no more rows are live than the views' entries can hold
-  pub few_live : (views : List Viewed) → AreRows 0 pool.rows → ((r : ℕ) → count_of pool r ≡ held_by views r) → AreViews table pool n views → live pool ≤ 261632 * length views
-  few_live views sound counts are =
-      omega (arith, total_counts 0 pool.rows sound, total_le (λ r. count_of pool r) (held_by views) pool.rows (λ r. omega (arith, counts r)), total_held_by views pool.rows sound are)
+  -- no more rows are live than the views' entries can hold, and those that are saved
+  pub few_live : (views : List Viewed) (saved : List (Option (ℕ × ℕ))) → length saved ≤ length (pairs_of table) → AreRows 0 pool.rows → ((r : ℕ) → count_of pool r ≡ held saved r + held_by views r) → AreViews table pool n views
+      → live pool ≤ 261632 * (1 + length views)
+  few_live views saved few sound counts are =
+      let sum : total (λ r. held saved r + held_by views r) pool.rows ≡ total (held saved) pool.rows + total (held_by views) pool.rows = total_add (held saved) (held_by views) pool.rows in
+      omega (
+        arith,
+        total_counts 0 pool.rows sound,
+        total_le (λ r. count_of pool r) (λ r. held saved r + held_by views r) pool.rows (λ r. omega (arith, counts r)),
+        sum,
+        total_held saved pool.rows sound,
+        total_held_by views pool.rows sound are,
+        few,
+        small,
+      )

@@ -1,5 +1,5 @@
 -- What the votes of all blocks say of the views: that of all blocks is one, and so is that of each tip.
-use Rattle.std.proofs.Common.{◌≡◌, ℕ, ◌+◌, ◌<◌, ◌≤◌, true, List, [], ◌∷◌, length, take, sym, ap, subst, ◌∙◌, Some, arith, length-append}
+use Rattle.std.proofs.Common.{◌≡◌, ℕ, ◌+◌, ◌<◌, ◌≤◌, true, List, [], ◌∷◌, length, take, sym, ap, subst, ◌∙◌, Option, Some, arith, length-append}
 use Rattle.std.specs.Prelude.{slice_get}
 use Rattle.std.specs.List.{range_with_len}
 use Rattle.std.proofs.lemmas.List.{take_all}
@@ -14,7 +14,7 @@ use Rattle.sp_engine.proofs.Covering.{all_is, of_tip, tip_view_there}
 use Rattle.sp_engine.proofs.Ranges.{in_range}
 use Rattle.sp_engine.proofs.Sharing.{view_of}
 
-module _ (table : Numbered) (v : Tallied) {beside : List Viewed} (voted : AreVotedBeside table v beside) where
+module _ (table : Numbered) (v : Tallied) {saved : List (Option (ℕ × ℕ))} (voted : AreVotedBeside table v saved) where
   tips : AreOfTips table (length table.parents) v.views
   tips = subst (λ (n : ℕ). AreOfTips table n v.views) voted.every voted.holds.tips
 

@@ -7,6 +7,8 @@ use Rattle.sp_model.specs.Loose.{in_bar, plus, minus}
 use Rattle.sp_dag.specs.Numbered.{Numbered, graph_of, pairs_of}
 use Rattle.sp_frozen.specs.Voters.{AreRows, FrozenRows, HoldsFrozen}
 use Rattle.sp_rows.specs.Pool.{Pool}
+use Rattle.sp_view.specs.Saved.{IsSaving, patched}
+use Rattle.sp_view.specs.Settled.{IsAsked}
 use Rattle.sp_view.specs.Stored.{count_of, row_of}
 use Rattle.sp_view.specs.Summed.{AreSums}
 use Rattle.sp_view.specs.Views.{AreKeptIds, IsBest, Viewed, entry_at, held, IsView}
@@ -53,23 +55,23 @@ pub record AreOfTips (table : Numbered) (n : ℕ) (views : List Viewed) : Type 0
   pub each : map (λ (view : Viewed). view.members) tips ≡ map (bar_row table) (tips_of (take n table.parents))
   pub members : all.members ≡ range_with_len 0 n
 
--- Views of blocks below a number, one at most, that are held beside those of the votes: no row is held but by these
--- and those, each as often as it is counted.
-pub record AreShared (table : Numbered) (pool : Pool) (n : ℕ) (views beside : List Viewed) : Type 0 where
-  pub few : length beside ≤ 1
-  pub sound : AreViews table pool n beside
-  pub counts : (row : ℕ) → count_of pool row ≡ held_by beside row + held_by views row
+-- Saved entries are held beside views: no row is held but by these and those, each as often as it is counted. The saved
+-- ones are no more than there are pairs, and hold no row twice.
+pub record AreShared (table : Numbered) (pool : Pool) (views : List Viewed) (saved : List (Option (ℕ × ℕ))) : Type 0 where
+  pub few : length saved ≤ length (pairs_of table)
+  pub once : (row : ℕ) → held saved row ≤ 1
+  pub counts : (row : ℕ) → count_of pool row ≡ held saved row + held_by views row
 
--- the votes of the first blocks of a table, where some views are held beside
-pub record HoldsVotes (table : Numbered) (v : Tallied) (beside : List Viewed) : Type 0 where
+-- the votes of the first blocks of a table, where some entries are saved beside
+pub record HoldsVotes (table : Numbered) (v : Tallied) (saved : List (Option (ℕ × ℕ))) : Type 0 where
   pub frozen : HoldsFrozen table v.frozen
   pub views : AreViews table v.rows v.frozen.blocks v.views
-  pub shared : AreShared table v.rows v.frozen.blocks v.views beside
+  pub shared : AreShared table v.rows v.views saved
   pub tips : AreOfTips table v.frozen.blocks v.views
 
 -- those of all its blocks
-pub record AreVotedBeside (table : Numbered) (v : Tallied) (beside : List Viewed) : Type 0 where
-  pub holds : HoldsVotes table v beside
+pub record AreVotedBeside (table : Numbered) (v : Tallied) (saved : List (Option (ℕ × ℕ))) : Type 0 where
+  pub holds : HoldsVotes table v saved
   pub every : v.frozen.blocks ≡ length table.parents
   pub sums : AreSums table (range_with_len 0 (length table.parents)) v.sums
 
@@ -148,44 +150,51 @@ pub record JoinedAlone (table : Numbered) (n : ℕ) (old : List Viewed) (was tip
   pub derived : IsDerived table n old tip
 
 -- Blocks from number n on have joined the votes of the first n blocks. The views of the old tips stand first, all of them,
--- then those of blocks that joined, and last that of all blocks; what that was is held beside. The rows that the old
--- views hold have their places. The sums are those of the view of all blocks, and those from before that of what it was.
-pub record AreJoining (table : Numbered) (n : ℕ) (old v : Tallied) (was : Viewed) : Type 0 where
+-- then those of blocks that joined, and last that of all blocks; by the entries that are saved of it it can be put back to what
+-- it was. The rows that the old views hold have their places. The sums are those of the view of all blocks, and those from
+-- before that of what it was.
+pub record AreJoining (table : Numbered) (n : ℕ) (old v : Tallied) (saved : List (Option (ℕ × ℕ))) : Type 0 where
   pub frozen : HoldsFrozen table v.frozen
   pub before : HoldsFrozen table old.frozen
   pub rows : AreRows old.frozen
   pub count : old.frozen.blocks ≡ n
-  pub held : (r : ℕ) → count_of old.rows r ≡ held_by old.views r
+  pub counted : (r : ℕ) → count_of old.rows r ≡ held_by old.views r
   pub tips : AreOfTips table n old.views
   pub later : n ≤ v.frozen.blocks
   pub views : AreViews table v.rows v.frozen.blocks v.views
-  pub shared : AreShared table v.rows v.frozen.blocks v.views (was ∷ [])
+  pub shared : AreShared table v.rows v.views saved
   pub olds : List Viewed
   pub few : length olds ≤ n
+  pub was : Viewed
   pub old_is : old.views ≡ olds ++ was ∷ []
+  pub firsts : was.members ≡ range_with_len 0 n
+  pub asked : IsAsked (graph_of table) was.members
+  pub once : (r : ℕ) → held was.entries r ≤ 1
   pub joined : List Viewed
   pub all : Viewed
   pub is : v.views ≡ olds ++ (joined ++ all ∷ [])
+  pub saving : IsSaving saved all.entries
+  pub patched_is : patched saved all.entries ≡ was.entries
   pub places : (r : ℕ) → 0 < held_by old.views r → row_of v.rows r ≡ row_of old.rows r
   pub sums : AreSums table all.members v.sums
   pub sums_before : AreSums table was.members old.sums
 
 -- so they stand where each block that joined has its view, but for those that another one covers, and that of all blocks has them all
-pub record HaveJoined (table : Numbered) (n : ℕ) (old v : Tallied) (was : Viewed) : Type 0 where
-  pub joining : AreJoining table n old v was
+pub record HaveJoined (table : Numbered) (n : ℕ) (old v : Tallied) (saved : List (Option (ℕ × ℕ))) : Type 0 where
+  pub joining : AreJoining table n old v saved
   pub every : v.frozen.blocks ≡ length table.parents
   pub each : map (λ (view : Viewed). view.members) joining.joined ≡ map (bar_row table) (tips_from table.parents n)
   pub members : joining.all.members ≡ range_with_len 0 (length table.parents)
-  pub none : v.frozen.blocks ≡ n → joining.all ≡ was
-  pub one : v.frozen.blocks ≡ n + 1 → (tip : Viewed) × (joining.joined ≡ tip ∷ []) × JoinedAlone table n old.views was tip joining.all
+  pub none : v.frozen.blocks ≡ n → joining.all ≡ joining.was
+  pub one : v.frozen.blocks ≡ n + 1 → (tip : Viewed) × (joining.joined ≡ tip ∷ []) × JoinedAlone table n old.views joining.was tip joining.all
 
 -- the same, of all blocks of a table but the last one, whose votes come next
-pub record HaveJoinedBut (table : Numbered) (n : ℕ) (old v : Tallied) (was : Viewed) : Type 0 where
-  pub joining : AreJoining table n old v was
+pub record HaveJoinedBut (table : Numbered) (n : ℕ) (old v : Tallied) (saved : List (Option (ℕ × ℕ))) : Type 0 where
+  pub joining : AreJoining table n old v saved
   pub last : v.frozen.blocks + 1 ≡ length table.parents
   pub each : map (λ (view : Viewed). view.members) joining.joined ≡ map (bar_row table) (tips_from (take v.frozen.blocks table.parents) n)
   pub members : joining.all.members ≡ range_with_len 0 v.frozen.blocks
-  pub none : v.frozen.blocks ≡ n → joining.all ≡ was
+  pub none : v.frozen.blocks ≡ n → joining.all ≡ joining.was
 
 -- ---- while a block joins
 
@@ -204,8 +213,8 @@ pub record IsLast (n : ℕ) (views : List Viewed) : Type 0 where
   pub is : views ≡ front ++ all ∷ []
   pub members : all.members ≡ range_with_len 0 n
 
--- the last one of some views took block b, and another view stands before it
-pub record IsPut (table : Numbered) (b : ℕ) (old : List Viewed) (tip : Viewed) (new : List Viewed) : Type 0 where
+-- the last one of some views took block b, and another view stands before it; of what that one was enough is saved
+pub record IsPut (table : Numbered) (b : ℕ) (old : List Viewed) (tip : Viewed) (new : List Viewed) (saved saved' : List (Option (ℕ × ℕ))) : Type 0 where
   pub front : List Viewed
   pub all : Viewed
   pub more : Viewed
@@ -213,3 +222,5 @@ pub record IsPut (table : Numbered) (b : ℕ) (old : List Viewed) (tip : Viewed)
   pub new_is : new ≡ front ++ tip ∷ more ∷ []
   pub members : more.members ≡ range_with_len 0 (b + 1)
   pub kept : AreKeptIds table all.members more.members all.entries more.entries
+  pub saving : IsSaving saved' more.entries
+  pub patched_is : patched saved' more.entries ≡ patched saved all.entries

@@ -20,6 +20,7 @@ use sp_ids::{BlockId, Memory};
 use sp_model::Profile;
 use sp_money::Purse;
 use sp_tx::Txs;
+use sp_view::Saved;
 use std::alloc::Global;
 
 /// Genesis as the only numbered block, and what is decided on it.
@@ -160,8 +161,9 @@ fn first_votes(alloc: Global, dag: &Dag) -> Result<Votes, Memory>
     // Tells the proof what numbered blocks are.
     let _blocks = dag.len();
     let mut votes = Votes::new(alloc)?;
-    // There are no tips from before.
-    votes.add(dag, 0)?;
+    // There are no tips from before, and there is nothing to put back.
+    let mut saved = Saved::new(alloc);
+    votes.add(dag, 0, &mut saved)?;
     Ok(votes)
 }
 

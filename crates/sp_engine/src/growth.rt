@@ -38,13 +38,12 @@ fn decide(
     accepted: &mut Accepted,
     purse: &mut Purse,
     ids: &[BlockId],
-    before: &Before,
+    before: &mut Before,
 ) -> Result<Vec<Flip>, Memory>
     requires numbered { AreNumbered pool.now dag.old }
-    requires joined { (old : Tallied) × HaveJoined dag.old before.now.blocks old votes.old before.now.all
-        × (before.now.tips + 1 ≡ length old.views) × (before.now.sums ≡ old.sums) }
-    requires blocks { before.now.blocks ≡ length dag.old.parents }
-    requires members { before.now.all.members ≡ first_blocks (length dag.old.parents) }
+    requires joined { (old : Tallied) × HaveJoined dag.old before.old.blocks old votes.old before.old.saved
+        × (before.old.tips + 1 ≡ length old.views) × (before.old.sums ≡ old.sums) }
+    requires blocks { before.old.blocks ≡ length dag.old.parents }
     requires accepting { IsAccepting pool.now dag.old carriers.old accepted.old }
     requires paying { IsPaying carriers.old accepted.old purse.old }
     requires order { Releases pool.now dag.old.ids ids.now }
@@ -53,11 +52,15 @@ fn decide(
     ensures profile { OnOk result (dag.new.profile ≡ dag.old.profile) }
     ensures ids { OnOk result (dag.new.ids ≡ dag.old.ids ++ ids.now) }
     ensures joined { OnOk result ((old : Tallied) →
-        HaveJoined dag.old before.now.blocks old votes.old before.now.all →
-        before.now.tips + 1 ≡ length old.views → HaveJoined dag.new before.now.blocks old votes.new before.now.all) }
+        HaveJoined dag.old before.old.blocks old votes.old before.old.saved →
+        before.old.tips + 1 ≡ length old.views → HaveJoined dag.new before.new.blocks old votes.new before.new.saved) }
     ensures err { OnErr result ((old : Tallied) →
-        HaveJoined dag.old before.now.blocks old votes.old before.now.all →
-        before.now.tips + 1 ≡ length old.views → AreJoining dag.new before.now.blocks old votes.new before.now.all) }
+        HaveJoined dag.old before.old.blocks old votes.old before.old.saved →
+        before.old.tips + 1 ≡ length old.views → AreJoining dag.new before.new.blocks old votes.new before.new.saved) }
+    ensures blocks { before.new.blocks ≡ before.old.blocks }
+    ensures tips { before.new.tips ≡ before.old.tips }
+    ensures members { before.new.members ≡ before.old.members }
+    ensures sums { before.new.sums ≡ before.old.sums }
     ensures front { (n : ℕ) → n ≤ length dag.old.parents →
         first_numbered dag.new n ≡ first_numbered dag.old n }
     ensures first { (n : ℕ) → n ≤ carriers.old.blocks →
@@ -76,7 +79,15 @@ fn decide(
     // Tells the proof what numbered blocks are.
     let _before = dag.len();
     let from = carriers.carrier_count();
-    add_all(pool, dag, votes, carriers, before.tips, ids)?;
+    add_all(
+        pool,
+        dag,
+        votes,
+        carriers,
+        before.tips,
+        &mut before.saved,
+        ids,
+    )?;
     // Tells the proof what numbered blocks are.
     let _blocks = dag.len();
     let changed = votes.changes(dag, before)?;
@@ -99,15 +110,16 @@ fn take_back(
     requires some { 1 ≤ before.blocks }
     requires within { before.blocks ≤ length dag.old.parents }
     requires carried { before.blocks ≤ carriers.old.blocks }
-    requires joining { (old : Tallied) × AreJoining dag.old before.blocks old votes.old before.all
+    requires joining { (old : Tallied) × AreJoining dag.old before.blocks old votes.old before.saved
         × (before.tips + 1 ≡ length old.views) × (before.sums ≡ old.sums) }
+    requires members { before.members ≡ first_blocks before.blocks }
     requires accepted { txs ≤ length purse.old.accepted }
     requires none { (tx : ℕ) → txs ≤ tx → is_set purse.old.accepted tx ≡ false }
     requires of { (list : List Transaction) × IsOf list purse.old
         × (locks ≡ length (locks_of (take txs list))) }
     ensures dag { dag.new ≡ first_numbered dag.old before.blocks }
     ensures carriers { carriers.new ≡ first_carried carriers.old before.blocks }
-    ensures votes { (old : Tallied) → AreJoining dag.old before.blocks old votes.old before.all →
+    ensures votes { (old : Tallied) → AreJoining dag.old before.blocks old votes.old before.saved →
         before.tips + 1 ≡ length old.views → before.sums ≡ old.sums → IsAsBefore old votes.new }
     ensures of { (list : List Transaction) → IsOf list purse.old → IsOf (take txs list) purse.new }
     ensures accepted { purse.new.accepted ≡ take txs purse.old.accepted }
@@ -160,8 +172,17 @@ pub(crate) fn grow(
     let _blocks = dag.len();
     let txs = carriers.tx_count();
     let locks = purse.lock_count();
-    let before = votes.before(dag)?;
-    match decide(pool, dag, votes, carriers, accepted, purse, ids, &before) {
+    let mut before = votes.before(dag)?;
+    match decide(
+        pool,
+        dag,
+        votes,
+        carriers,
+        accepted,
+        purse,
+        ids,
+        &mut before,
+    ) {
         Ok(flips) => {
             purse.apply(carriers, flips.as_slice());
             votes.settle(dag, before);

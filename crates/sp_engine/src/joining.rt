@@ -1,12 +1,13 @@
 //! The steps by which a block joins the votes: the view of it with its past, the view of all blocks,
-//! and how the views that are covered are let go, or those that joined. A view that is held beside
-//! these stays as it is.
+//! and how the views that are covered are let go, or those that joined. What the view of all blocks was is saved
+//! on the way, so that it can be put back.
 
-ghost use Rattle.std.specs.Prelude.{◌≡◌, ◌<◌, ◌≤◌, ◌+◌, ◌^◌, ◌++◌, ◌∷◌, [], true, not, ℕ, List, length, filter, vec_len, vec_capacity, IfOk, OnOk, OnErr};
+ghost use Rattle.std.specs.Prelude.{◌≡◌, ◌<◌, ◌≤◌, ◌+◌, ◌^◌, ◌++◌, ◌∷◌, [], true, not, ℕ, List, Option, length, filter, vec_len, vec_capacity, IfOk, OnOk, OnErr};
 ghost use Rattle.std.specs.List.{range_with_len};
 ghost use Rattle.sp_model.specs.Graph.{has, past};
 ghost use Rattle.sp_dag.specs.Numbered.{Numbered, graph_of};
 ghost use Rattle.sp_frozen.specs.Voters.{HoldsFrozen};
+ghost use Rattle.sp_view.specs.Saved.{IsSaving, patched};
 ghost use Rattle.sp_view.specs.Stored.{count_of, live, row_of};
 ghost use Rattle.sp_view.specs.Summed.{AreRight};
 ghost use Rattle.sp_view.specs.Views.{held, Viewed, AreKeptIds, IsBest, IsView};
@@ -17,9 +18,8 @@ use sp_dag::Dag;
 use sp_frozen::Frozen;
 use sp_ids::Memory;
 use sp_rows::RowPool;
-use sp_view::{Sums, View};
+use sp_view::{Saved, Sums, View};
 use std::alloc::Global;
-use std::mem;
 
 // Whether a block has the highest one of these members as a parent.
 fn is_covered(dag: &Dag, members: &Row) -> bool
@@ -87,16 +87,16 @@ pub(crate) fn new_tip(
     requires next { length dag.now.parents ≡ frozen.old.blocks + 1 }
     requires frozen { HoldsFrozen dag.now frozen.old }
     requires views { AreViews dag.now rows.old frozen.old.blocks views.now }
-    requires shared { (beside : List Viewed) ×
-        AreShared dag.now rows.old frozen.old.blocks views.now beside }
+    requires shared { (saved : List (Option (ℕ × ℕ))) ×
+        AreShared dag.now rows.old views.now saved }
     requires few { length views.now ≤ 512 }
     ensures frozen { OnOk result (HoldsFrozen dag.now frozen.new) }
     ensures blocks { OnOk result (frozen.new.blocks ≡ frozen.old.blocks + 1) }
     ensures views { IfOk result (λ tip.
         AreViews dag.now rows.new frozen.new.blocks (tip ∷ views.now)) }
-    ensures shared { IfOk result (λ tip. (beside : List Viewed) →
-        AreShared dag.now rows.old frozen.old.blocks views.now beside →
-        AreShared dag.now rows.new frozen.new.blocks (tip ∷ views.now) beside) }
+    ensures shared { IfOk result (λ tip. (saved : List (Option (ℕ × ℕ))) →
+        AreShared dag.now rows.old views.now saved →
+        AreShared dag.now rows.new (tip ∷ views.now) saved) }
     ensures members { IfOk result (λ tip.
         tip.members ≡ bar_row dag.now frozen.old.blocks) }
     ensures kept { IfOk result (λ tip. (i : ℕ) (base : Viewed) →
@@ -128,43 +128,47 @@ pub(crate) fn new_tip(
 }
 
 /// Adds the last block of a graph to the view of all blocks, which is the last one, and to the sums of
-/// their votes, and puts a view before it.
+/// their votes, and puts a view before it. Each entry that may be saved is saved before it changes.
 ///
 /// # Errors
 ///
-/// `Memory` where there was none. That view is let go, and the others stay.
+/// `Memory` where there was none. That view is let go, and the others stay, and what is saved.
 pub(crate) fn put_tip(
     views: &mut Vec<View>,
     dag: &Dag,
     frozen: &Frozen,
     rows: &mut RowPool,
     sums: &mut Sums,
+    saved: &mut Saved,
     tip: View,
 ) -> Result<(), Memory>
     requires room { vec_len views.old < vec_capacity views.old }
     requires next { length dag.now.parents ≡ frozen.now.blocks }
     requires frozen { HoldsFrozen dag.now frozen.now }
     requires views { AreViews dag.now rows.old frozen.now.blocks (tip ∷ views.old.items) }
-    requires shared { (beside : List Viewed) ×
-        AreShared dag.now rows.old frozen.now.blocks (tip ∷ views.old.items) beside }
+    requires shared { AreShared dag.now rows.old (tip ∷ views.old.items) saved.old }
     requires few { vec_len views.old ≤ 512 }
     requires last { (b : ℕ) → b + 1 ≡ length dag.now.parents → IsLast b views.old.items }
     requires sums { (b : ℕ) → b + 1 ≡ length dag.now.parents →
         AreRight dag.now (range_with_len 0 b) sums.old }
+    requires saved { (front : List Viewed) (all : Viewed) → views.old.items ≡ front ++ all ∷ [] →
+        IsSaving saved.old all.entries × ((r : ℕ) → held (patched saved.old all.entries) r ≤ 1) }
     ensures put { OnOk result ((b : ℕ) → b + 1 ≡ length dag.now.parents →
-        IsPut dag.now b views.old.items tip views.new.items) }
+        IsPut dag.now b views.old.items tip views.new.items saved.old saved.new) }
     ensures views { OnOk result
         (AreViews dag.now rows.new frozen.now.blocks views.new.items) }
-    ensures shared { OnOk result ((beside : List Viewed) →
-        AreShared dag.now rows.old frozen.now.blocks (tip ∷ views.old.items) beside →
-        AreShared dag.now rows.new frozen.now.blocks views.new.items beside) }
+    ensures shared { OnOk result (AreShared dag.now rows.new views.new.items saved.new) }
     ensures places { (row : ℕ) (front : List Viewed) (all : Viewed) → views.old.items ≡ front ++ all ∷ [] →
         held all.entries row < count_of rows.old row → 0 < count_of rows.new row →
+        row_of rows.new row ≡ row_of rows.old row }
+    ensures saved_places { (row : ℕ) (front : List Viewed) (all : Viewed) → views.old.items ≡ front ++ all ∷ [] →
+        0 < held (patched saved.old all.entries) row → 0 < count_of rows.new row →
         row_of rows.new row ≡ row_of rows.old row }
     ensures sums { OnOk result (AreRight dag.now (range_with_len 0 (length dag.now.parents)) sums.new) }
     ensures as_long { length sums.new ≡ length sums.old }
     ensures err { OnErr result (views.new.items ≡ views.old.items) }
     ensures err_sums { OnErr result (sums.new ≡ sums.old) }
+    ensures err_saved { OnErr result (saved.new ≡ saved.old) }
     ensures err_counts { OnErr result ((row : ℕ) →
         count_of rows.new row + held tip.entries row ≡ count_of rows.old row) }
     ensures err_rows { OnErr result ((row : ℕ) → 0 < count_of rows.new row →
@@ -175,7 +179,7 @@ pub(crate) fn put_tip(
     let _pairs = dag.pair_count();
     let _live = rows.live();
     let last = views.len() - 1;
-    match views[last].add_with_sums(dag, frozen, rows, sums, b) {
+    match views[last].add_with_sums(dag, frozen, rows, sums, saved, b) {
         Ok(()) => match views.insert(last, tip) {
             Ok(()) => Ok(()),
             // There is room.
@@ -229,19 +233,22 @@ pub(crate) fn release_joined(views: &mut Vec<View>, rows: &mut RowPool, place: u
     }
 }
 
-/// Puts a view into the place of the last one, which is let go.
-pub(crate) fn put_last(views: &mut Vec<View>, rows: &mut RowPool, view: View)
-    requires some { 0 < vec_len views.old }
-    requires counts { (row : ℕ) → held_by views.old.items row + held view.entries row
+/// Puts the last one of the views back as it was, by the entries that were saved of it and its members of then.
+pub(crate) fn restore_last(views: &mut Vec<View>, rows: &mut RowPool, saved: Saved, members: &Row)
+    requires counts { (row : ℕ) → held_by views.old.items row + held saved row
         ≤ count_of rows.old row }
+    requires saved { (front : List Viewed) × (last : Viewed) × (views.old.items ≡ front ++ last ∷ []) ×
+        (length saved ≤ length last.entries) × ((r : ℕ) → held (patched saved last.entries) r ≤ 1) }
     ensures put { (front : List Viewed) (last : Viewed) → views.old.items ≡ front ++ last ∷ [] →
-        views.new.items ≡ front ++ view ∷ [] }
-    ensures counts { (row : ℕ) → count_of rows.new row + held_by views.old.items row + held view.entries row
+        views.new.items ≡ front ++ record {
+          members = members.now;
+          entries = patched saved last.entries;
+        } ∷ [] }
+    ensures counts { (row : ℕ) → count_of rows.new row + held_by views.old.items row + held saved row
         ≡ count_of rows.old row + held_by views.new.items row }
     ensures rows { (row : ℕ) → 0 < count_of rows.new row →
         row_of rows.new row ≡ row_of rows.old row }
 {
     let last = views.len() - 1;
-    let all = mem::replace(&mut views[last], view);
-    all.release(rows);
+    views[last].restore(rows, saved, members);
 }

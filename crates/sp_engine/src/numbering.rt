@@ -2,7 +2,6 @@
 
 ghost use Rattle.std.specs.Prelude.{◌≡◌, ◌≤◌, ◌+◌, ◌++◌, ◌∷◌, [], ℕ, List, length, IfOk, OnErr, OnOk};
 ghost use Rattle.sp_pool.specs.Kept.{IsNext, Releases};
-ghost use Rattle.sp_view.specs.Views.{Viewed};
 ghost use Rattle.sp_accept.specs.Acceptance.{Acceptance, IsRight};
 ghost use Rattle.sp_accept.specs.Changes.{carriers_below, TellsChanges};
 ghost use Rattle.sp_engine.specs.Engine.{AreCarried, AreNumbered, first_carried, first_numbered, GoesOn};
@@ -13,19 +12,21 @@ use sp_carry::Carriers;
 use sp_dag::Dag;
 use sp_ids::{BlockId, Memory};
 use sp_pool::Pool;
+use sp_view::Saved;
 
 /// Adds the kept block of this id, which is the earliest one that is ready, its votes and its
-/// carriers. The views of so many tips from before stay.
+/// carriers. The views of so many tips from before stay, and what the view of all blocks was is saved.
 fn add_one(
     pool: &Pool,
     dag: &mut Dag,
     votes: &mut Votes,
     carriers: &mut Carriers,
     tips: usize,
+    saved: &mut Saved,
     id: &BlockId,
 ) -> Result<(), Memory>
     requires numbered { AreNumbered pool.now dag.old }
-    requires joined { (n : ℕ) × (old : Tallied) × (was : Viewed) × HaveJoined dag.old n old votes.old was
+    requires joined { (n : ℕ) × (old : Tallied) × HaveJoined dag.old n old votes.old saved.old
         × (tips + 1 ≡ length old.views) }
     requires carried { AreCarried pool.now dag.old carriers.old }
     requires next { IsNext pool.now dag.old.ids id.now }
@@ -33,12 +34,12 @@ fn add_one(
     ensures profile { OnOk result (dag.new.profile ≡ dag.old.profile) }
     ensures ids { OnOk result (dag.new.ids ≡ dag.old.ids ++ id.now ∷ []) }
     ensures long { OnOk result (length dag.new.parents ≡ length dag.old.parents + 1) }
-    ensures joined { OnOk result ((n : ℕ) (old : Tallied) (was : Viewed) →
-        HaveJoined dag.old n old votes.old was → tips + 1 ≡ length old.views →
-        HaveJoined dag.new n old votes.new was) }
-    ensures err { OnErr result ((n : ℕ) (old : Tallied) (was : Viewed) →
-        HaveJoined dag.old n old votes.old was → tips + 1 ≡ length old.views →
-        AreJoining dag.new n old votes.new was) }
+    ensures joined { OnOk result ((n : ℕ) (old : Tallied) →
+        HaveJoined dag.old n old votes.old saved.old → tips + 1 ≡ length old.views →
+        HaveJoined dag.new n old votes.new saved.new) }
+    ensures err { OnErr result ((n : ℕ) (old : Tallied) →
+        HaveJoined dag.old n old votes.old saved.old → tips + 1 ≡ length old.views →
+        AreJoining dag.new n old votes.new saved.new) }
     ensures front { (n : ℕ) → n ≤ length dag.old.parents →
         first_numbered dag.new n ≡ first_numbered dag.old n }
     ensures first { (n : ℕ) → n ≤ carriers.old.blocks →
@@ -59,7 +60,7 @@ fn add_one(
             let number = dag.add(*id, block.salt, block.parents.as_slice())?;
             // Tells the proof what numbered blocks are.
             let _more = dag.len();
-            votes.add(dag, tips)?;
+            votes.add(dag, tips, saved)?;
             carriers.add(dag, number, &block.txs)?;
             // Tells the proof what carriers are.
             let _added = carriers.block_count();
@@ -70,7 +71,7 @@ fn add_one(
 }
 
 /// Adds the kept blocks of these ids, which become present one after another, their votes and their
-/// carriers. The views of so many tips from before stay.
+/// carriers. The views of so many tips from before stay, and what the view of all blocks was is saved.
 ///
 /// # Errors
 ///
@@ -81,22 +82,23 @@ pub(crate) fn add_all(
     votes: &mut Votes,
     carriers: &mut Carriers,
     tips: usize,
+    saved: &mut Saved,
     ids: &[BlockId],
 ) -> Result<(), Memory>
     requires numbered { AreNumbered pool.now dag.old }
-    requires joined { (n : ℕ) × (old : Tallied) × (was : Viewed) × HaveJoined dag.old n old votes.old was
+    requires joined { (n : ℕ) × (old : Tallied) × HaveJoined dag.old n old votes.old saved.old
         × (tips + 1 ≡ length old.views) }
     requires carried { AreCarried pool.now dag.old carriers.old }
     requires order { Releases pool.now dag.old.ids ids.now }
     ensures numbered { OnOk result (AreNumbered pool.now dag.new) }
     ensures profile { OnOk result (dag.new.profile ≡ dag.old.profile) }
     ensures ids { OnOk result (dag.new.ids ≡ dag.old.ids ++ ids.now) }
-    ensures joined { OnOk result ((n : ℕ) (old : Tallied) (was : Viewed) →
-        HaveJoined dag.old n old votes.old was → tips + 1 ≡ length old.views →
-        HaveJoined dag.new n old votes.new was) }
-    ensures err { OnErr result ((n : ℕ) (old : Tallied) (was : Viewed) →
-        HaveJoined dag.old n old votes.old was → tips + 1 ≡ length old.views →
-        AreJoining dag.new n old votes.new was) }
+    ensures joined { OnOk result ((n : ℕ) (old : Tallied) →
+        HaveJoined dag.old n old votes.old saved.old → tips + 1 ≡ length old.views →
+        HaveJoined dag.new n old votes.new saved.new) }
+    ensures err { OnErr result ((n : ℕ) (old : Tallied) →
+        HaveJoined dag.old n old votes.old saved.old → tips + 1 ≡ length old.views →
+        AreJoining dag.new n old votes.new saved.new) }
     ensures front { (n : ℕ) → n ≤ length dag.old.parents →
         first_numbered dag.new n ≡ first_numbered dag.old n }
     ensures first { (n : ℕ) → n ≤ carriers.old.blocks →
@@ -110,7 +112,7 @@ pub(crate) fn add_all(
         carriers_below carriers.new.rows n ≡ carriers_below carriers.old.rows n) }
 {
     for id in ids {
-        add_one(pool, dag, votes, carriers, tips, id)?;
+        add_one(pool, dag, votes, carriers, tips, saved, id)?;
     }
     Ok(())
 }

@@ -1,7 +1,7 @@
 //! The votes of all present blocks: frozen ones, and rows of loose ones that the views of the tips
-//! and of all blocks share, beside the sums of the votes of all. While an arrival's blocks join, a fork
-//! of the view of all is held beside, so that the blocks can be taken back, and the sums from before, so
-//! that it can be told which votes turned.
+//! and of all blocks share, beside the sums of the votes of all. While an arrival's blocks join, the entries
+//! of the view of all are saved before they change, so that the blocks can be taken back, and the sums from
+//! before, so that it can be told which votes turned.
 
 ghost use Rattle.std.specs.Prelude.{◌≡◌, ◌≢◌, ◌<◌, ◌≤◌, ◌+◌, ◌∷◌, [], ℕ, List, length, IfOk, IfSome, IfNone, OnOk, OnErr, IsTrue, IsFalse, ◌↔◌};
 ghost use Rattle.sp_bits.specs.Places.{IsGreatest};
@@ -11,10 +11,10 @@ ghost use Rattle.sp_view.specs.Views.{IsView, Viewed};
 ghost use Rattle.sp_accept.specs.Acceptance.{first_blocks};
 ghost use Rattle.sp_accept.specs.Changes.{TellsChanges};
 ghost use Rattle.sp_engine.specs.Engine.{numbers};
-ghost use Rattle.sp_engine.specs.Votes.{AreJoining, AreVoted, AreWhole, empty_view, Grew, HaveJoined, HaveJoinedBut, IsAsBefore, IsOfAll, IsOfTip, is_tip, Tallied};
+ghost use Rattle.sp_engine.specs.Votes.{AreJoining, AreVoted, AreWhole, Grew, HaveJoined, HaveJoinedBut, IsAsBefore, IsOfAll, IsOfTip, is_tip, Tallied};
 
 use crate::changes::turned_pairs;
-use crate::joining::{new_tip, put_last, put_tip, release_covered, release_joined};
+use crate::joining::{new_tip, put_tip, release_covered, release_joined, restore_last};
 use crate::words::{related_word, word_by};
 use sp_bits::Row;
 use sp_dag::Dag;
@@ -22,7 +22,7 @@ use sp_frozen::Frozen;
 use sp_ids::Memory;
 use sp_model::Word;
 use sp_rows::RowPool;
-use sp_view::{Sums, View};
+use sp_view::{Saved, Sums, View};
 use std::alloc::Global;
 use std::marker::Model;
 
@@ -45,13 +45,14 @@ impl Model for Votes {
     ghost view = { λ v. record { frozen = v.frozen; rows = v.rows; views = v.views.items; sums = v.sums } };
 }
 
-/// What the votes were before the blocks of an arrival joined them: how many blocks, how many of
-/// their tips, the view of all of them, and the sums of its votes.
+/// What the votes were before the blocks of an arrival joined them: how many blocks, how many of their tips,
+/// the members of the view of all of them, what is saved of its entries, and the sums of its votes.
 #[derive(Drop)]
 pub(crate) struct Before {
     pub(crate) blocks: u16,
     pub(crate) tips: usize,
-    pub(crate) all: View,
+    pub(crate) members: Row,
+    pub(crate) saved: Saved,
     pub(crate) sums: Sums,
 }
 
@@ -86,7 +87,7 @@ impl Votes {
     /// Memory was refused.
     pub(crate) fn new(alloc: Global) -> Result<Votes, Memory>
         ensures joining { IfOk result (λ votes. (table : Numbered) → AreInOrder table.parents →
-            length table.parents ≡ 1 → HaveJoinedBut table 0 votes votes empty_view) }
+            length table.parents ≡ 1 → HaveJoinedBut table 0 votes votes []) }
         ensures blocks { IfOk result (λ votes. votes.frozen.blocks ≡ 0) }
     {
         let mut views = Vec::new(alloc);
@@ -102,20 +103,21 @@ impl Votes {
 
     /// Adds the last block of a graph, whose other blocks were added. The view of the block and its
     /// past stands behind those that were there. The first of these, which are of tips from before the
-    /// arrival and so many, stay; of the others those go that the block covers.
+    /// arrival and so many, stay; of the others those go that the block covers. Of the view of all blocks
+    /// each entry that may be saved is saved before it changes.
     ///
     /// # Errors
     ///
     /// Memory was refused; the frozen votes may have the block.
-    pub(crate) fn add(&mut self, dag: &Dag, tips: usize) -> Result<(), Memory>
-        requires joining { (n : ℕ) × (old : Tallied) × (was : Viewed) ×
-            HaveJoinedBut dag.now n old self.old was × (tips + 1 ≡ length old.views) }
+    pub(crate) fn add(&mut self, dag: &Dag, tips: usize, saved: &mut Saved) -> Result<(), Memory>
+        requires joining { (n : ℕ) × (old : Tallied) ×
+            HaveJoinedBut dag.now n old self.old saved.old × (tips + 1 ≡ length old.views) }
         requires next { length dag.now.parents ≡ self.old.frozen.blocks + 1 }
-        ensures joined { OnOk result ((n : ℕ) (old : Tallied) (was : Viewed) →
-            HaveJoinedBut dag.now n old self.old was → tips + 1 ≡ length old.views →
-            HaveJoined dag.now n old self.new was) }
-        ensures err { OnErr result ((n : ℕ) (old : Tallied) (was : Viewed) →
-            HaveJoinedBut dag.now n old self.old was → AreJoining dag.now n old self.new was) }
+        ensures joined { OnOk result ((n : ℕ) (old : Tallied) →
+            HaveJoinedBut dag.now n old self.old saved.old → tips + 1 ≡ length old.views →
+            HaveJoined dag.now n old self.new saved.new) }
+        ensures err { OnErr result ((n : ℕ) (old : Tallied) →
+            HaveJoinedBut dag.now n old self.old saved.old → AreJoining dag.now n old self.new saved.new) }
     {
         // Tells the proof that there are at most 512 blocks.
         let _blocks = dag.len();
@@ -129,39 +131,42 @@ impl Votes {
             &self.frozen,
             &mut self.rows,
             &mut self.sums,
+            saved,
             tip,
         )?;
         release_covered(&mut self.views, &mut self.rows, dag, tips);
         Ok(())
     }
 
-    /// What the votes are before the blocks of an arrival join them. The view of all blocks is held
-    /// once more, so that it stays, and the sums are copied.
+    /// What the votes are before the blocks of an arrival join them. The sums are copied, and nothing is saved
+    /// yet of the view of all blocks.
     ///
     /// # Errors
     ///
-    /// Memory was refused; only more rows may be spare.
-    pub(crate) fn before(&mut self, dag: &Dag) -> Result<Before, Memory>
-        requires { AreVoted dag.now self.old }
+    /// Memory was refused.
+    pub(crate) fn before(&self, dag: &Dag) -> Result<Before, Memory>
+        requires { AreVoted dag.now self.now }
         ensures joined { IfOk result (λ before.
-            HaveJoined dag.now (length dag.now.parents) self.old self.new before.all) }
+            HaveJoined dag.now (length dag.now.parents) self.now self.now before.saved) }
         ensures blocks { IfOk result (λ before. before.blocks ≡ length dag.now.parents) }
-        ensures tips { IfOk result (λ before. before.tips + 1 ≡ length self.old.views) }
-        ensures sums { IfOk result (λ before. before.sums ≡ self.old.sums) }
+        ensures tips { IfOk result (λ before. before.tips + 1 ≡ length self.now.views) }
+        ensures sums { IfOk result (λ before. before.sums ≡ self.now.sums) }
         ensures members { IfOk result (λ before.
-            before.all.members ≡ first_blocks (length dag.now.parents)) }
-        ensures err { OnErr result (IsAsBefore self.old self.new) }
+            before.members ≡ first_blocks (length dag.now.parents)) }
     {
         // Tells the proof that there are at most 512 blocks.
         let _blocks = dag.len();
         let blocks = self.frozen.blocks();
         let tips = self.views.len() - 1;
         let sums = self.sums.fork()?;
-        let all = self.views[tips].fork(&mut self.rows)?;
+        let all = &self.views[tips];
+        let members = *all.members();
+        let saved = all.saving()?;
         Ok(Before {
             blocks,
             tips,
-            all,
+            members,
+            saved,
             sums,
         })
     }
@@ -173,19 +178,18 @@ impl Votes {
     ///
     /// Memory was refused.
     pub(crate) fn changes(&self, dag: &Dag, before: &Before) -> Result<Vec<(u16, u16)>, Memory>
-        requires { (old : Tallied) × HaveJoined dag.now before.now.blocks old self.now before.now.all
+        requires { (old : Tallied) × HaveJoined dag.now before.now.blocks old self.now before.now.saved
             × (before.now.sums ≡ old.sums) }
-        ensures { IfOk result (λ pairs. (n : ℕ) → before.now.all.members ≡ first_blocks n →
-            TellsChanges dag.now n pairs.items) }
+        ensures { IfOk result (λ pairs. TellsChanges dag.now before.now.blocks pairs.items) }
     {
         turned_pairs(self.alloc, dag, &before.sums, &self.sums)
     }
 
-    /// Keeps the blocks that joined: the views of covered tips are let go, and what was before.
+    /// Keeps the blocks that joined: the views of covered tips are let go, and what is saved.
     pub(crate) fn settle(&mut self, dag: &Dag, before: Before)
-        requires { (old : Tallied) × HaveJoined dag.now before.blocks old self.old before.all }
+        requires { (old : Tallied) × HaveJoined dag.now before.blocks old self.old before.saved }
         ensures voted { AreVoted dag.now self.new }
-        ensures grew { (old : Tallied) → HaveJoined dag.now before.blocks old self.old before.all →
+        ensures grew { (old : Tallied) → HaveJoined dag.now before.blocks old self.old before.saved →
             length dag.now.parents ≡ before.blocks + 1 → Grew dag.now before.blocks old self.new }
     {
         // Tells the proof that the blocks stand in order.
@@ -193,28 +197,31 @@ impl Votes {
         let Before {
             blocks: _,
             tips: _,
-            all,
+            members: _,
+            saved,
             sums: _,
         } = before;
-        all.release(&mut self.rows);
+        saved.release(&mut self.rows);
         release_covered(&mut self.views, &mut self.rows, dag, 0);
     }
 
     /// Takes the blocks back that joined, for a graph that is cut to those from before after this
     /// call: their views are let go, and the view of all blocks and the sums are those from before.
     pub(crate) fn take_back(&mut self, dag: &Dag, before: Before)
-        requires { (old : Tallied) × AreJoining dag.now before.blocks old self.old before.all
+        requires members { before.members ≡ first_blocks before.blocks }
+        requires joining { (old : Tallied) × AreJoining dag.now before.blocks old self.old before.saved
             × (before.tips + 1 ≡ length old.views) × (before.sums ≡ old.sums) }
-        ensures { (old : Tallied) → AreJoining dag.now before.blocks old self.old before.all →
+        ensures { (old : Tallied) → AreJoining dag.now before.blocks old self.old before.saved →
             before.tips + 1 ≡ length old.views → before.sums ≡ old.sums → IsAsBefore old self.new }
     {
         let Before {
             blocks,
             tips,
-            all,
+            members,
+            saved,
             sums,
         } = before;
-        put_last(&mut self.views, &mut self.rows, all);
+        restore_last(&mut self.views, &mut self.rows, saved, &members);
         release_joined(&mut self.views, &mut self.rows, tips);
         self.frozen.cut(dag, blocks);
         self.sums = sums;

@@ -11,7 +11,7 @@ use crate::rows::holds;
 use crate::signs::{Votes, has_votes, plain_of};
 use sp_dag::Dag;
 use sp_rows::RowPool;
-use sp_view::{Sums, View};
+use sp_view::{Saved, Sums, View};
 use std::alloc::Global;
 use std::test::Fail;
 
@@ -51,7 +51,16 @@ impl Summed {
         if self.view.members().test(b) || !based.dag.past(b).within(self.view.members()) {
             return Err("a member, or above other blocks".into());
         }
-        self.view.add_with_sums(&based.dag, &based.frozen, &mut self.pool, &mut self.sums, b)?;
+        // Nothing is put back here.
+        let mut saved = Saved::new(based.alloc);
+        self.view.add_with_sums(
+            &based.dag,
+            &based.frozen,
+            &mut self.pool,
+            &mut self.sums,
+            &mut saved,
+            b,
+        )?;
         Ok(())
     }
 

@@ -26,11 +26,11 @@ was_none (suc n) now alive none = absurd (let some : 0 < now = alive (omega arit
 
 pub fresh_step : (first entries : List (Option (ℕ × ℕ))) (i : ℕ) (result : Option (ℕ × ℕ)) (start pool pool' : Pool) → i < length entries
     → entry_at entries i ≡ entry_at first i → ((r : ℕ) → held entries r ≤ count_of pool r) → ((r : ℕ) → 0 < count_of start r → 0 < count_of pool r)
-    → ((r : ℕ) → count_of pool' r + holds (entry_at entries i) r ≡ count_of pool r + holds result r)
+    → ((r : ℕ) → holds (entry_at entries i) r ≡ 0 → holds result r ≡ 0 → count_of pool' r ≡ count_of pool r)
     → ((r : ℕ) → 0 < holds result r → (0 < holds (entry_at entries i) r) ⊎ (count_of pool r ≡ 0))
     → (entry_at entries i ≡ None → IfSome result (IsFresh pool pool'))
     → AreFresh first entries start pool → AreFresh first (set entries i result) start pool'
-fresh_step first entries i result start pool pool' lt unturned enough alive counts results fresh known j none =
+fresh_step first entries i result start pool pool' lt unturned enough alive still results fresh known j none =
     elim (cases_eq j i) [
       | inl same ↦ rw (same, get_or-set_same entries i result None lt)
           (if_map result (IsFresh pool pool') (IsFresh start pool')
@@ -63,5 +63,5 @@ fresh_step first entries i result start pool pool' lt unturned enough alive coun
             | inl inside ↦ absurd (omega arith)
             | inr dead ↦ absurd (omega arith)
           ]
-          | inr nothing ↦ omega (arith, counts r)
+          | inr nothing ↦ (let same : count_of pool' r ≡ count_of pool r = still r out (omega (arith, nothing)) in same ∙ one)
         ]

@@ -1,5 +1,5 @@
 -- Pairs that a block which joins a set passes over: what stands of them is right for the larger set.
-use Rattle.std.proofs.Common.{◌≡◌, ◌≢◌, ◌⊎◌, ℕ, zero, suc, ◌+◌, ◌<◌, ◌≤◌, Bool, true, false, ◌||◌, ◌&&◌, cond, List, [], ◌∷◌, not, take, Option, Some, None, refl, sym, ap, ◌∙◌, eqb, ltb, inl, inr, arith}
+use Rattle.std.proofs.Common.{◌≡◌, ◌≢◌, ◌⊎◌, ℕ, zero, suc, ◌<◌, ◌≤◌, Bool, true, false, ◌||◌, ◌&&◌, cond, List, [], ◌∷◌, not, take, Option, Some, None, refl, sym, ap, ◌∙◌, eqb, ltb, inl, inr, arith}
 use Rattle.std.specs.Prelude.{ℤ, slice_get, ◌+ℤ◌}
 use Rattle.std.proofs.lemmas.Int.{ints}
 use Rattle.std.proofs.lemmas.Bool.{and_from, and_left, and_parts, and_right, cases_Bool, cases_lt, false≢true, false_from_ne_true, le-ltb, lt-ltb, ne_eqb}
@@ -47,6 +47,9 @@ none_apart g b y row below apart x row_is below_is small is none less unrelated 
 -- a pair whose second block isn't a member, and one on which the block has no vote
 pub idle_out : (g : Graph) (b : ℕ) (s t : List ℕ) (x y : ℕ) → has t y ≡ false → IsIdle g b s t x y
 idle_out g b s t x y out = inl (and_right (has t x) (has t y) out)
+
+pub idle_first : (g : Graph) (b : ℕ) (s t : List ℕ) (x y : ℕ) → has t x ≡ false → IsIdle g b s t x y
+idle_first g b s t x y out = inl (and_left (has t x) (has t y) out)
 
 pub idle_apart : (g : Graph) (b : ℕ) (s t : List ℕ) (x y : ℕ) → Joins g b s t → has t y ≡ true → x < y → y < b → in_past g y b ≡ false → in_past g x b ≡ false → IsIdle g b s t x y
 idle_apart g b s t x y j member less less' above apart = elim (cases_Bool (has t x)) [

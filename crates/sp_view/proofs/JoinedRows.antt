@@ -203,27 +203,3 @@ open_joined g b t x y agree todo asked there is = record {
   where
     parts : (z : ℕ) → has todo z ≡ true → (in_past g z b ≡ true) × (is_loose g z x y ≡ true)
     parts z h = and_parts (in_past g z b) (is_loose g z x y) (and_parts (in_past g z b && is_loose g z x y) (not (has agree z)) (sym (is z) ∙ h)).0
-
--- the past without those that are bound, and without those that agree
-pub anew : (g : Graph) (below bound second third agree : List ℕ) (b x y : ℕ) → ((z : ℕ) → has below z ≡ in_past g z b) → ((z : ℕ) → in_past g z b ≡ true → z < 512)
-    → bound ≡ places_where (λ z. not (is_loose g z x y)) → second ≡ difference below bound → third ≡ difference second agree
-    → (z : ℕ) → has third z ≡ ((in_past g z b && is_loose g z x y) && not (has agree z))
-anew g below bound second third agree b x y reads small bound_is e e' z =
-    ap (λ (l : List ℕ). has l z) e'
-    ∙ has_difference second agree z (λ h. small z (and_parts (in_past g z b) (is_loose g z x y) (sym second_is ∙ h)).0)
-    ∙ ap (λ (c : Bool). c && not (has agree z)) second_is
-  where
-    twice : (c : Bool) → not (not c) ≡ c
-    twice true = refl
-    twice false = refl
-
-    at : (p : Bool) → in_past g z b ≡ p → (p && not (has bound z)) ≡ (p && is_loose g z x y)
-    at true ep = ap not (ap (λ (l : List ℕ). has l z) bound_is ∙ has_places (λ z. not (is_loose g z x y)) z (λ _. small z ep)) ∙ twice (is_loose g z x y)
-    at false ep = refl
-
-    second_is : has second z ≡ (in_past g z b && is_loose g z x y)
-    second_is =
-        ap (λ (l : List ℕ). has l z) e
-        ∙ has_difference below bound z (λ h. small z (sym (reads z) ∙ h))
-        ∙ ap (λ (c : Bool). c && not (has bound z)) (reads z)
-        ∙ at (in_past g z b) refl

@@ -38,3 +38,7 @@ pub mod JoinedVotes
 pub mod Genesis
 pub mod Turning
 pub mod Idling
+pub mod Patched
+pub mod Free
+pub mod Stepping
+pub mod Keeping

@@ -152,3 +152,11 @@ moved_moves g set more x y pool pool' (Some b) (Some a) row row' is is' keep =
 moved_moves g set more x y pool pool' None (Some a) row row' is is' keep = omega (arith, moves_new g set more x y true is is'.0)
 moved_moves g set more x y pool pool' None None row row' is is' keep = omega arith
 moved_moves g set more x y pool pool' (Some b) None row row' is is' keep = omega arith
+
+-- whether a name is another one
+pub kept_id : {a b : ℕ} → a ≡ b → cond {A = ℕ} (eqb a b) 0 1 ≡ 0
+kept_id {a} {b} same = rw (eq-eqb a b same) refl
+
+pub moved_id : (c : Bool) → cond {A = ℕ} c 0 1 ≤ 1
+moved_id true = omega arith
+moved_id false = omega arith

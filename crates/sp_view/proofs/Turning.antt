@@ -1,20 +1,23 @@
 -- Genesis' vote on a pair before a block joins and after, by the sum of all votes before.
-use Rattle.std.proofs.Common.{◌≡◌, ℕ, ◌<◌, List, length, Option, Some, None, sym, ap, ◌∙◌, true, ◌&&◌, arith}
-use Rattle.std.specs.Prelude.{ℤ, pos, negsuc, IfSome, IsSome, slice_get, ◌+ℤ◌, ◌-ℤ◌, ◌≤ℤ◌}
+use Rattle.std.proofs.Common.{◌≡◌, ◌≢◌, ℕ, ◌<◌, Bool, List, length, Option, Some, None, refl, sym, ap, ◌∙◌, true, ◌&&◌, arith}
+use Rattle.std.specs.Prelude.{filter, ℤ, pos, negsuc, IfSome, IsSome, slice_get, ◌+ℤ◌, ◌-ℤ◌, ◌≤ℤ◌}
+use Rattle.std.specs.Int.Signed.{lt_z}
 use Rattle.std.proofs.lemmas.Int.{ints}
 use Rattle.std.proofs.lemmas.Bool.{and_parts, false≢true, ne_eqb}
 use Rattle.sp_bits.specs.Places.{difference}
+use Rattle.sp_bits.specs.Members.{has-filter}
 use Rattle.sp_dag.specs.Numbered.{IsNumbered, IsPair, Numbered, graph_of, pairs_of}
 use Rattle.sp_dag.proofs.Ranked.{pair_kind}
 use Rattle.sp_frozen.specs.Voters.{FrozenRows}
-use Rattle.sp_model.specs.Graph.{Graph, has}
+use Rattle.sp_model.specs.Graph.{Graph, IsDownset, has}
+use Rattle.sp_model.specs.Loose.{is_loose, is_minus, is_plus, minus, plus}
 use Rattle.sp_model.specs.Votes.{sgn, vote}
 use Rattle.sp_model.proofs.Loose.{sgn_sgn, vote_sign}
 use Rattle.sp_view.specs.Settled.{AreKept, AreOpen, AreSides, IsAsked}
 use Rattle.sp_view.specs.Summed.{IsSum}
 use Rattle.sp_view.specs.Sums.{sum_of, IsLone}
 use Rattle.sp_view.specs.Voting.{IsJoined}
-use Rattle.sp_view.proofs.Genesis.{root_in, root_others, root_sign, rooted_still}
+use Rattle.sp_view.proofs.Genesis.{minus_told, plus_told, root_in, root_others, root_sign, rooted_still}
 use Rattle.sp_view.proofs.JoinedSums.{IsSmall}
 use Rattle.sp_view.proofs.JoinedVotes.{kept_votes, sign_small, sum_turns}
 
@@ -83,3 +86,48 @@ module _ (table : Numbered) (frozen : FrozenRows) (b : ℕ) (s t : List ℕ) (i 
   turn_still same =
       rooted_still (graph_of table) t x y ups downs todo after j.voting.asked opened kept lone after_vote s j.row
       (root_in table numbered s older older_below x y kind second) sides (sym same ∙ before_vote)
+
+  pub root_before : has s 0 ≡ true
+  root_before = root_in table numbered s older older_below x y kind second
+
+  pub both_votes : (before ≡ vote (graph_of table) s 0 x y) × (after ≡ vote (graph_of table) t 0 x y)
+  both_votes = (before_vote, after_vote)
+
+-- ---- which rows have genesis in them
+
+root_side : (g : Graph) (set : List ℕ) (x y : ℕ) (votes : ℤ → Bool) → has set 0 ≡ true → is_loose g 0 x y ≡ true
+    → has (filter (λ z. is_loose g z x y && votes (vote g set z x y)) set) 0 ≡ votes (vote g set 0 x y)
+root_side g set x y votes member loose = has-filter (λ z. is_loose g z x y && votes (vote g set z x y)) set 0 ∙ rw (member, loose) refl
+
+module _ (g : Graph) (s t : List ℕ) (x y : ℕ) (ups downs : List ℕ) (before after before' after' : ℤ) (down : IsDownset g s) (down' : IsDownset g t) (sides : AreSides g s x y ups downs)
+    (root : has s 0 ≡ true) (root' : has t 0 ≡ true) (loose : is_loose g 0 x y ≡ true) (votes : (before ≡ vote g s 0 x y) × (after ≡ vote g t 0 x y)) (same : before' ≡ before)
+    (same' : after' ≡ after) where
+  before_sign : sgn before ≡ before
+  before_sign = ap sgn votes.0 ∙ vote_sign g s 0 x y down root ∙ sym votes.0
+
+  after_sign : sgn after ≡ after
+  after_sign = ap sgn votes.1 ∙ vote_sign g t 0 x y down' root' ∙ sym votes.1
+
+  pub plus_is : lt_z (pos 0) after' ≡ is_plus after
+  plus_is = plus_told after after' same' after_sign
+
+  pub minus_is : lt_z after' (pos 0) ≡ is_minus after
+  minus_is = minus_told after after' same' after_sign
+
+  plus_before : lt_z (pos 0) before' ≡ has (plus g s x y) 0
+  plus_before = plus_told before before' same before_sign ∙ ap is_plus votes.0 ∙ sym (root_side g s x y is_plus root loose)
+
+  minus_before : lt_z before' (pos 0) ≡ has (minus g s x y) 0
+  minus_before = minus_told before before' same before_sign ∙ ap is_minus votes.0 ∙ sym (root_side g s x y is_minus root loose)
+
+  pub plus_was : lt_z (pos 0) before' ≡ has ups 0
+  plus_was = plus_before ∙ ap (λ (l : List ℕ). has l 0) (sym sides.plus_is)
+
+  pub minus_was : lt_z before' (pos 0) ≡ has downs 0
+  minus_was = minus_before ∙ ap (λ (l : List ℕ). has l 0) (sym sides.minus_is)
+
+  pub plus_turns : lt_z (pos 0) before' ≢ lt_z (pos 0) after' → plus g s x y ≢ plus g t x y
+  plus_turns differ e = differ (plus_before ∙ ap (λ (l : List ℕ). has l 0) e ∙ root_side g t x y is_plus root' loose ∙ ap is_plus (sym votes.1) ∙ sym plus_is)
+
+  pub minus_turns : lt_z before' (pos 0) ≢ lt_z after' (pos 0) → minus g s x y ≢ minus g t x y
+  minus_turns differ e = differ (minus_before ∙ ap (λ (l : List ℕ). has l 0) e ∙ root_side g t x y is_minus root' loose ∙ ap is_minus (sym votes.1) ∙ sym minus_is)

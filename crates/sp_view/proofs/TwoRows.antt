@@ -37,15 +37,15 @@ module _ (count0 count1 : ℕ → ℕ) (row0 row1 row2 : ℕ → List ℕ) (p m 
     (o2 : (r : ℕ) → 0 < count1 r → (r ≡ m → 1 < count1 r) → row2 r ≡ row1 r)
     (live : (r : ℕ) → one r p + one r m ≤ count0 r)
     (fresh : p' ≢ p → count0 p' ≡ 0) where
-  pub first_stays : row2 p' ≡ row1 p'
-  first_stays = o2 p' some more
-    where
-      some : 0 < count1 p'
-      some = elim (cases_eq p' p) [
-        | inl same ↦ omega (arith, c1 p', one_if p' p' refl, one_if p' p same, live p')
-        | inr other ↦ omega (arith, c1 p', one_if p' p' refl, none_if p' p other)
-      ]
+  pub first_lives : 0 < count1 p'
+  first_lives = elim (cases_eq p' p) [
+    | inl same ↦ omega (arith, c1 p', one_if p' p' refl, one_if p' p same, live p')
+    | inr other ↦ omega (arith, c1 p', one_if p' p' refl, none_if p' p other)
+  ]
 
+  pub first_stays : row2 p' ≡ row1 p'
+  first_stays = o2 p' first_lives more
+    where
       more : p' ≡ m → 1 < count1 p'
       more e = elim (cases_eq p' p) [
         | inl same ↦ omega (arith, c1 p', one_if p' p' refl, one_if p' p same, one_if p' m e, live p')

@@ -12,3 +12,6 @@ pub mod Idle
 pub mod Ends
 pub mod Adding
 pub mod SoFar
+pub mod Saved
+pub mod Keeping
+pub mod Steps

@@ -1,17 +1,18 @@
 //! Which votes on a pair a block that joins the set asks anew: those of the loose voters in its past
 //! that don't vote as it does. Where there are none, the pair stays as it is.
 
-ghost use Rattle.std.specs.Prelude.{◌≡◌, ◌<◌, ◌≤◌, ◌&&◌, ◌↔◌, [], ℕ, List, length, IsTrue, if◌then◌else◌, slice_get, Some, pos, negsuc};
+ghost use Rattle.std.specs.Prelude.{◌≡◌, ◌<◌, ◌≤◌, ◌&&◌, ◌↔◌, [], ℕ, List, length, IsTrue, if◌then◌else◌, slice_get, unwrap_or, Some, pos, negsuc};
 ghost use Rattle.sp_bits.specs.Places.{difference, IsRow};
 ghost use Rattle.sp_model.specs.Graph.{has};
 ghost use Rattle.sp_model.specs.Joining.{Joins};
 ghost use Rattle.sp_model.specs.Votes.{vote};
 ghost use Rattle.sp_dag.specs.Numbered.{graph_of, pairs_of};
+ghost use Rattle.sp_view.specs.Idle.{IsPlace};
 ghost use Rattle.sp_view.specs.Stored.{count_of, row_of};
 ghost use Rattle.sp_view.specs.Settled.{AreKept, AreOpen, AreSides, IsAsked};
 ghost use Rattle.sp_view.specs.Views.{holds, entry_at};
 
-use crate::pair_rows::open_voters;
+use crate::runs::Place;
 use crate::stored::{RowName, row_at};
 use sp_bits::Row;
 use sp_dag::Dag;
@@ -22,11 +23,8 @@ fn side_of(pool: &RowPool, entry: &(RowName, RowName), up: bool) -> Row
     requires { (r : ℕ) → holds (Some entry.now) r ≤ count_of pool.now r }
     ensures { result ≡ (if up then row_of pool.now entry.now.0 else row_of pool.now entry.now.1) }
 {
-    if up {
-        row_at(pool, entry.0)
-    } else {
-        row_at(pool, entry.1)
-    }
+    let side = if up { entry.0 } else { entry.1 };
+    row_at(pool, side)
 }
 
 // Whether a row has no place.
@@ -37,38 +35,48 @@ pub(crate) fn is_none(row: &Row) -> bool
 }
 
 // The voters of an old pair whose votes are asked anew when block `b` joins, which votes +1 on it, or else -1. Where
-// there are none, the pair stays as it is.
+// there are none, the pair stays as it is. The pair's first block is given.
 pub(crate) fn asked(
     dag: &Dag,
     pool: &RowPool,
     members: &Row,
     b: u16,
-    pair: u32,
+    place: &Place,
+    x: u16,
     entry: &(RowName, RowName),
     up: bool,
-) -> Row
+) -> Option<Row>
     requires asked { IsAsked (graph_of dag.now) members.now }
     requires below { b < length dag.now.parents }
     requires joined { IsTrue (has members.now b) }
-    requires listed { pair < length (pairs_of dag.now) }
+    requires place { IsPlace dag.now b place.now.pair place.now.second place.now.end
+        place.now.above place.now.free }
+    requires pair { slice_get (pairs_of dag.now) place.now.pair ≡ Some (x, place.now.second) }
     requires live { (r : ℕ) → holds (Some entry.now) r ≤ count_of pool.now r }
-    ensures within { (z : ℕ) → IsTrue (has result z) → IsTrue (has members.now z) }
+    ensures within { (z : ℕ) → IsTrue (has (unwrap_or result []) z) → IsTrue (has members.now z) }
     ensures kept { (before : List ℕ) (x y : ℕ) →
-        slice_get (pairs_of dag.now) pair ≡ Some (x, y) →
+        slice_get (pairs_of dag.now) place.now.pair ≡ Some (x, y) →
         Joins (graph_of dag.now) b before members.now → IsRow before →
         AreSides (graph_of dag.now) before x y
         (row_of pool.now entry.now.0) (row_of pool.now entry.now.1) →
         vote (graph_of dag.now) members.now b x y ≡ (if up then pos 1 else negsuc 0) →
-        AreOpen (graph_of dag.now) members.now x y (has result)
-        × AreKept (graph_of dag.now) members.now x y (has result)
-        (difference (row_of pool.now entry.now.0) result)
-        (difference (row_of pool.now entry.now.1) result) }
+        AreOpen (graph_of dag.now) members.now x y (has (unwrap_or result []))
+        × AreKept (graph_of dag.now) members.now x y (has (unwrap_or result []))
+        (difference (row_of pool.now entry.now.0) (unwrap_or result []))
+        (difference (row_of pool.now entry.now.1) (unwrap_or result [])) }
 {
     // Tells the proof that there are at most 512 blocks, in order.
     let _blocks = dag.len();
-    let (x, y) = dag.pair(pair);
-    let agree = side_of(pool, entry, up);
-    open_voters(dag, &agree, x, y, b)
+    // Those that vote as it does, and those that the first block binds.
+    let mut settled = side_of(pool, entry, up);
+    settled.or_with(dag.future(x));
+    settled.set(x);
+    let mut todo = place.free;
+    todo.without(&settled);
+    if is_none(&todo) {
+        return None;
+    }
+    Some(todo)
 }
 
 // Whether both blocks of a pair are members.

@@ -7,12 +7,13 @@ ghost use Rattle.sp_view.specs.Stored.{count_of, row_of, spare, live};
 ghost use Rattle.sp_view.specs.Voting.{IsGrown, IsVoting};
 ghost use Rattle.sp_view.specs.Views.{holds, moved_of, IsEntry, IsOnce, KeepIds};
 
+use crate::anew::asked_rows;
 use crate::asking::{has_both, is_none};
-use crate::entries::{are_same, asked_rows};
 use crate::missing::asked_by_growth;
 use crate::pair_rows::{Sides, new_rows};
 use crate::sharing::share_entry;
 use crate::stored::{RowName, row_at, share, taken};
+use crate::writing::are_same;
 use sp_bits::Row;
 use sp_dag::Dag;
 use sp_frozen::Frozen;

@@ -2,6 +2,7 @@
 //! by one block at a time; only the votes that the block can change are asked anew.
 #![tactic(auto)]
 
+mod anew;
 mod asking;
 mod best;
 mod block_runs;
@@ -11,10 +12,12 @@ mod entries;
 mod joining;
 pub mod laws;
 mod missing;
+mod old_pairs;
 mod pair_rows;
 mod pasts;
 mod rooted;
 mod runs;
+mod saved;
 mod seeing;
 mod settle;
 mod sharing;
@@ -22,9 +25,12 @@ mod stored;
 mod summing;
 mod sums;
 mod tally;
+mod turned;
 mod view;
+mod writing;
 
 // A crate can name a view in a contract only if the types of its fields are exported.
+pub use saved::Saved;
 #[doc(hidden)]
 pub use stored::RowName;
 pub use sums::Sums;

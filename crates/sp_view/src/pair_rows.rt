@@ -101,23 +101,6 @@ pub(crate) fn new_rows(
     )
 }
 
-// The loose voters in the past of block `b` that aren't among those of `agree`.
-pub(crate) fn open_voters(dag: &Dag, agree: &Row, x: u16, y: u16, b: u16) -> Row
-    requires x_in { x < length dag.now.parents }
-    requires y_in { y < length dag.now.parents }
-    requires b_in { b < length dag.now.parents }
-    ensures { (z : ℕ) → has result z
-        ≡ ((in_past (graph_of dag.now) z b && is_loose (graph_of dag.now) z x y)
-        && not (has agree.now z)) }
-{
-    // Tells the proof that there are at most 512 blocks, in order.
-    let _blocks = dag.len();
-    let mut todo = *dag.past(b);
-    todo.without(&bound_on(dag, x, y));
-    todo.without(agree);
-    todo
-}
-
 // The loose voters of a pair in a set that a block joined, from those before, where the votes of
 // `todo` are asked anew.
 pub(crate) fn joined_rows(

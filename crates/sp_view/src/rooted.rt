@@ -60,7 +60,7 @@ pub(crate) fn root_turn(todo: &Row, sum: Option<i32>, own: i32) -> Option<Turn>
 }
 
 // A row with genesis in it, or without.
-fn with_root(row: &Row, is_in: bool) -> Row
+pub(crate) fn with_root(row: &Row, is_in: bool) -> Row
     ensures row { IsRow result }
     ensures places { (z : ℕ) → has result z ≡ (if z == 0 then is_in else has row.now z) }
 {
@@ -73,27 +73,4 @@ fn with_root(row: &Row, is_in: bool) -> Row
     }
     rooted.clear(0);
     rooted
-}
-
-// The voters of a pair that was inside the set before it grew, where genesis alone is asked anew, whose vote is given.
-pub(crate) fn rooted_rows(
-    pool: &RowPool,
-    members: &Row,
-    entry: &(RowName, RowName),
-    todo: &Row,
-    root: i32,
-) -> Sides
-    requires live { (r : ℕ) → holds (Some entry.now) r ≤ count_of pool.now r }
-    ensures { (g : Graph) (x y : ℕ) → IsAsked g members.now →
-        AreOpen g members.now x y (has todo.now) →
-        AreKept g members.now x y (has todo.now)
-        (difference (row_of pool.now entry.now.0) todo.now)
-        (difference (row_of pool.now entry.now.1) todo.now) →
-        IsLone todo.now 0 → root ≡ vote g members.now 0 x y →
-        AreSides g members.now x y result.plus result.minus }
-{
-    Sides {
-        plus: with_root(&row_at(pool, entry.0), root > 0),
-        minus: with_root(&row_at(pool, entry.1), root < 0),
-    }
 }

@@ -1,7 +1,7 @@
-//! The counts of a view's rows, when a view is forked and when it is let go.
+//! The counts of a view's rows, when a view is forked, when one of its entries is saved, and when they are let go.
 
-ghost use Rattle.std.specs.Prelude.{◌≡◌, ◌<◌, ◌≤◌, ◌+◌, ◌^◌, ℕ, [], length, vec_capacity};
-ghost use Rattle.sp_view.specs.Stored.{count_of, row_of, live};
+ghost use Rattle.std.specs.Prelude.{◌≡◌, ◌<◌, ◌≤◌, ◌+◌, ◌^◌, ℕ, [], length, take, vec_capacity};
+ghost use Rattle.sp_view.specs.Stored.{count_of, row_of, live, spare};
 ghost use Rattle.sp_view.specs.Views.{holds, held};
 
 use crate::stored::{RowName, give, share};
@@ -13,6 +13,7 @@ pub(crate) fn share_entry(pool: &mut RowPool, entry: Option<(RowName, RowName)>)
     requires few { (r : ℕ) → 0 < holds entry r → count_of pool.old r + holds entry r < 2 ^ 32 }
     ensures counts { (r : ℕ) → count_of pool.new r ≡ count_of pool.old r + holds entry r }
     ensures rows { (r : ℕ) → row_of pool.new r ≡ row_of pool.old r }
+    ensures spare { spare pool.new ≡ spare pool.old }
     ensures live { live pool.new ≡ live pool.old }
 {
     if let Some((plus, minus)) = entry {
@@ -22,7 +23,7 @@ pub(crate) fn share_entry(pool: &mut RowPool, entry: Option<(RowName, RowName)>)
 }
 
 // One holder less of each row of an entry.
-fn give_entry(pool: &mut RowPool, entry: Option<(RowName, RowName)>)
+pub(crate) fn give_entry(pool: &mut RowPool, entry: Option<(RowName, RowName)>)
     requires { (r : ℕ) → holds entry r ≤ count_of pool.old r }
     ensures counts { (r : ℕ) → count_of pool.old r ≡ count_of pool.new r + holds entry r }
     ensures rows { (r : ℕ) → 0 < count_of pool.new r →
@@ -56,6 +57,20 @@ pub(crate) fn share_entries(
     }
 }
 
+// One holder less of each row of the entries from a place on.
+pub(crate) fn give_from(pool: &mut RowPool, entries: &[Option<(RowName, RowName)>], start: usize)
+    requires within { start ≤ length entries.now }
+    requires live { (r : ℕ) → held entries.now r ≤ count_of pool.old r + held (take start entries.now) r }
+    ensures counts { (r : ℕ) → count_of pool.old r + held (take start entries.now) r
+        ≡ count_of pool.new r + held entries.now r }
+    ensures rows { (r : ℕ) → 0 < count_of pool.new r →
+        row_of pool.new r ≡ row_of pool.old r }
+{
+    'entries: for i in start..entries.len() {
+        give_entry(pool, entries[i]);
+    }
+}
+
 // One holder less of each row.
 pub(crate) fn give_entries(pool: &mut RowPool, entries: &[Option<(RowName, RowName)>])
     requires { (r : ℕ) → held entries.now r ≤ count_of pool.old r }
@@ -63,7 +78,5 @@ pub(crate) fn give_entries(pool: &mut RowPool, entries: &[Option<(RowName, RowNa
     ensures rows { (r : ℕ) → 0 < count_of pool.new r →
         row_of pool.new r ≡ row_of pool.old r }
 {
-    'entries: for i in 0..entries.len() {
-        give_entry(pool, entries[i]);
-    }
+    give_from(pool, entries, 0);
 }

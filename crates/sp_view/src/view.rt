@@ -6,6 +6,7 @@ ghost use Rattle.sp_model.specs.Graph.{has, in_past};
 ghost use Rattle.sp_dag.specs.Numbered.{graph_of, pairs_of};
 ghost use Rattle.sp_frozen.specs.Voters.{HoldsFrozen};
 ghost use Rattle.sp_view.specs.Stored.{count_of, row_of, live};
+ghost use Rattle.sp_view.specs.Saved.{patched, AreCountedWith, IsSaving};
 ghost use Rattle.sp_view.specs.Summed.{AreRight};
 ghost use Rattle.sp_view.specs.Views.{Viewed, entry_at, held, IsView, AreFresh, AreKeptIds};
 ghost use Rattle.sp_view.specs.Adding.{with_member, AreCountedStill, OthersStay, AreFewLive};
@@ -17,6 +18,7 @@ mod virtual_votes;
 use crate::asking::entry_of;
 use crate::ends::{end_of, grow};
 use crate::entries::join_entries;
+use crate::saved::Saved;
 use crate::sharing::{give_entries, share_entries};
 use crate::stored::RowName;
 use crate::sums::Sums;
@@ -130,22 +132,25 @@ impl View {
         ensures err { OnErr result (self.new ≡ self.old) }
         ensures err_rows { OnErr result (pool.new.rows ≡ pool.old.rows) }
     {
-        let mut none = Sums::new(self.alloc);
-        self.add_with_sums(dag, frozen, pool, &mut none, b)?;
+        let mut sums = Sums::new(self.alloc);
+        let mut saved = Saved::new(self.alloc);
+        self.add_with_sums(dag, frozen, pool, &mut sums, &mut saved, b)?;
         Ok(())
     }
 
-    /// Adds a block as [`View::add`] does, with sums of the members' votes, which become those with the block.
+    /// Adds a block as [`View::add`] does, with sums of the members' votes, which become those with the block. Each
+    /// entry that changes and that may be saved is saved before, if it isn't yet.
     ///
     /// # Errors
     ///
-    /// Memory was refused; the view, all live rows and the sums are as before.
+    /// Memory was refused; the view, all live rows, the sums and what is saved are as before.
     pub fn add_with_sums(
         &mut self,
         dag: &Dag,
         frozen: &Frozen,
         pool: &mut RowPool,
         sums: &mut Sums,
+        saved: &mut Saved,
         b: u16,
     ) -> Result<(), Memory>
         requires view { IsView dag.now self.old pool.old }
@@ -157,11 +162,15 @@ impl View {
             IsTrue (has self.old.members z) }
         requires few { live pool.old < 2 ^ 30 }
         requires sums { AreRight dag.now self.old.members sums.old }
+        requires saved { IsSaving saved.old self.old.entries }
+        requires saved_live { (r : ℕ) → held saved.old r + held self.old.entries r ≤ count_of pool.old r }
+        requires saved_few { 0 < length saved.old → (r : ℕ) → count_of pool.old r < 2 ^ 31 }
         ensures ok { OnOk result (IsView dag.now self.new pool.new) }
         ensures members { OnOk result (self.new.members ≡ with_member self.old.members b) }
         ensures kept { OnOk result (AreKeptIds dag.now self.old.members self.new.members
             self.old.entries self.new.entries) }
-        ensures counts { AreCountedStill pool.old pool.new self.old.entries self.new.entries }
+        ensures counts { AreCountedWith pool.old pool.new
+            self.old.entries saved.old self.new.entries saved.new }
         ensures others { OthersStay pool.old pool.new self.old.entries }
         ensures fresh { OnOk result (AreFresh self.old.entries self.new.entries pool.old pool.new) }
         ensures live { OnOk result (AreFewLive dag.now b self.old.members self.new.members
@@ -169,8 +178,13 @@ impl View {
         ensures long { length self.new.entries ≤ length (pairs_of dag.now) }
         ensures sums { OnOk result (AreRight dag.now self.new.members sums.new) }
         ensures as_long { length sums.new ≡ length sums.old }
+        ensures saved { IsSaving saved.new self.new.entries }
+        ensures patched { patched saved.new self.new.entries ≡ patched saved.old self.old.entries }
+        ensures saved_rows { (r : ℕ) → 0 < held (patched saved.old self.old.entries) r →
+            row_of pool.new r ≡ row_of pool.old r }
         ensures err { OnErr result (self.new ≡ self.old) }
         ensures err_sums { OnErr result (sums.new ≡ sums.old) }
+        ensures err_saved { OnErr result (saved.new ≡ saved.old) }
         ensures err_rows { OnErr result (pool.new.rows ≡ pool.old.rows) }
     {
         // Tells the proof that there are at most 512 blocks, in order.
@@ -193,6 +207,7 @@ impl View {
             b,
             &mut self.entries,
             sums,
+            saved,
         );
         self.members = members;
         Ok(())
@@ -220,6 +235,37 @@ impl View {
             members: self.members,
             entries,
         })
+    }
+
+    /// What to save this view's entries in before they change; none is saved yet.
+    ///
+    /// # Errors
+    ///
+    /// Memory was refused.
+    pub fn saving(&self) -> Result<Saved, Memory>
+        ensures same { IfOk result (λ saved. patched saved self.now.entries ≡ self.now.entries) }
+        ensures none { IfOk result (λ saved. (r : ℕ) → held saved r ≡ 0) }
+    {
+        Saved::of(self.alloc, self.entries.len())
+    }
+
+    /// Puts the view back as it was, by the entries that were saved since then and the members of then. What it holds
+    /// besides has one holder less for each entry.
+    pub fn restore(&mut self, pool: &mut RowPool, saved: Saved, members: &Row)
+        requires long { length saved ≤ length self.old.entries }
+        requires live { (r : ℕ) → held saved r + held self.old.entries r ≤ count_of pool.old r }
+        requires once { (r : ℕ) → held (patched saved self.old.entries) r ≤ 1 }
+        ensures view { self.new ≡ record {
+          members = members.now;
+          entries = patched saved self.old.entries;
+        } }
+        ensures counts { (r : ℕ) → count_of pool.new r + (held self.old.entries r + held saved r)
+            ≡ count_of pool.old r + held self.new.entries r }
+        ensures rows { (r : ℕ) → 0 < count_of pool.new r →
+            row_of pool.new r ≡ row_of pool.old r }
+    {
+        saved.put_into(pool, &mut self.entries);
+        self.members = *members;
     }
 
     /// Lets the view go: each of its rows has one holder less for each entry that holds it.

@@ -1,5 +1,6 @@
-use Rattle.std.proofs.Common.{◌∙◌, ◌-◌, length, refl}
+use Rattle.std.proofs.Common.{◌∙◌, ◌-◌, ℕ, length, refl, subst}
 use Rattle.std.specs.Prelude.{Result, Ok, Err, OnOk}
+use Rattle.sp_accept.specs.Changes.{TellsChanges}
 use Rattle.sp_rows.proofs.Keeps.{on_err}
 use Rattle.sp_engine.proofs.Retreat.{whole_joined}
 use Rattle.sp_engine.proofs.CarriedBlocks.{are_of, carried_count}
@@ -9,7 +10,7 @@ use Rattle.sp_engine.proofs.TakenBack.{no_wider}
 use Rattle.sp_engine.proofs.growth.decide.Goals as goal
 
 pub add_all-requires-clause-joined : goal.add_all-requires-clause-joined
-add_all-requires-clause-joined c = (c.args.before.now.blocks, c.requires.joined.0, c.args.before.now.all, c.requires.joined.1, c.requires.joined.2)
+add_all-requires-clause-joined c = (c.args.before.now.blocks, c.requires.joined.0, c.requires.joined.1, c.requires.joined.2)
 
 pub add_all-requires-clause-carried : goal.add_all-requires-clause-carried
 add_all-requires-clause-carried c = c.requires.accepting.carriers
@@ -26,34 +27,34 @@ update-requires-clause-first c =
     c.requires.accepting.carriers.carried c.in_ok-add_all.ensures.below
 
 pub changes-requires : goal.changes-requires
-changes-requires c = (c.requires.joined.0, c.in_ok-add_all.ensures.joined c.args.before.now.blocks c.requires.joined.0 c.args.before.now.all c.requires.joined.1 c.requires.joined.2, c.requires.joined.3)
+changes-requires c = (c.requires.joined.0, c.in_ok-add_all.ensures.joined c.args.before.now.blocks c.requires.joined.0 c.requires.joined.1 c.requires.joined.2, c.requires.joined.3)
 
 pub update-requires-clause-whole : goal.update-requires-clause-whole
 update-requires-clause-whole c =
-    whole_joined c.add_all.new.dag c.args.before.now.blocks c.requires.joined.0 c.add_all.new.votes c.args.before.now.all
-    (c.in_ok-add_all.ensures.joined c.args.before.now.blocks c.requires.joined.0 c.args.before.now.all c.requires.joined.1 c.requires.joined.2)
+    whole_joined c.add_all.new.dag c.args.before.now.blocks c.requires.joined.0 c.add_all.new.votes c.add_all.new.saved
+    (c.in_ok-add_all.ensures.joined c.args.before.now.blocks c.requires.joined.0 c.requires.joined.1 c.requires.joined.2)
 
 pub update-requires-clause-told : goal.update-requires-clause-told
 update-requires-clause-told c =
     told_of c.add_all.new.dag c.in_ok-changed.changed.items c.as_slice-changed.result.now (length c.args.dag.now.parents) c.args.accepted.now.blocks c.as_slice-changed.ensures.value
     (c.requires.accepting.all ∙ carried_count c.args.pool.now c.args.dag.now c.args.carriers.now c.len-before.ensures.numbered c.requires.accepting.carriers)
-    (c.in_ok-changed.ensures (length c.args.dag.now.parents) c.requires.members)
+    (subst (λ (n : ℕ). TellsChanges c.add_all.new.dag n c.in_ok-changed.changed.items) c.requires.blocks c.in_ok-changed.ensures)
 
 on_ok : {X E P : Type 0} (r : Result X E) → P → OnOk r P
 on_ok (Ok x) h = h
 on_ok (Err e) h = tt
 
 pub returns-clause-joined : goal.returns-clause-joined
-returns-clause-joined c = on_ok c.update.result (λ old h tips. c.in_ok-add_all.ensures.joined c.args.before.now.blocks old c.args.before.now.all h tips)
+returns-clause-joined c = on_ok c.update.result (λ old h tips. c.in_ok-add_all.ensures.joined c.args.before.now.blocks old h tips)
 
 pub returns-in_err-changed-clause-err : goal.returns-in_err-changed-clause-err
-returns-in_err-changed-clause-err c = on_err c.from_residual-in_err-changed.result (λ old h tips. (c.in_ok-add_all.ensures.joined c.args.before.now.blocks old c.args.before.now.all h tips).joining)
+returns-in_err-changed-clause-err c = on_err c.from_residual-in_err-changed.result (λ old h tips. (c.in_ok-add_all.ensures.joined c.args.before.now.blocks old h tips).joining)
 
 pub returns-in_err-prepare-clause-err : goal.returns-in_err-prepare-clause-err
-returns-in_err-prepare-clause-err c = on_err c.from_residual-in_err-prepare.result (λ old h tips. (c.in_ok-add_all.ensures.joined c.args.before.now.blocks old c.args.before.now.all h tips).joining)
+returns-in_err-prepare-clause-err c = on_err c.from_residual-in_err-prepare.result (λ old h tips. (c.in_ok-add_all.ensures.joined c.args.before.now.blocks old h tips).joining)
 
 pub returns-clause-err : goal.returns-clause-err
-returns-clause-err c = on_err c.update.result (λ old h tips. (c.in_ok-add_all.ensures.joined c.args.before.now.blocks old c.args.before.now.all h tips).joining)
+returns-clause-err c = on_err c.update.result (λ old h tips. (c.in_ok-add_all.ensures.joined c.args.before.now.blocks old h tips).joining)
 
 pub returns-in_err-add_all-clause-wider : goal.returns-in_err-add_all-clause-wider
 returns-in_err-add_all-clause-wider c = no_wider c.args.carriers.now c.args.accepted.now c.args.purse.now c.args.purse.now c.requires.paying refl

@@ -1,20 +1,20 @@
-use Rattle.std.proofs.Common.{◌≡◌, ◌+◌, ◌∙◌, ℕ, ap, length, sym, subst, arith, length-append}
+use Rattle.std.proofs.Common.{◌≡◌, ◌+◌, ◌∙◌, ℕ, List, Option, ap, length, sym, subst, arith, length-append}
 use Rattle.sp_dag.specs.Numbered.{Numbered}
 use Rattle.sp_carry.specs.Carried.{Carried}
-use Rattle.sp_view.specs.Views.{Viewed}
+use Rattle.sp_engine.specs.Engine.{first_carried, first_numbered}
 use Rattle.sp_engine.specs.Votes.{Grew, HaveJoined, Tallied}
 use Rattle.sp_engine.proofs.CarriedBlocks.{carried_count}
 use Rattle.sp_engine.proofs.Paying.{now_paying, off_all, was_paying}
 use Rattle.sp_engine.proofs.TakenBack.{carried_back, flags_within, locks_back, none_set, numbered_back, paying_back}
 use Rattle.sp_engine.proofs.growth.grow.Goals as goal
 
-joined_at : (table : Numbered) (n k : ℕ) (old v : Tallied) (was : Viewed) → k ≡ n → HaveJoined table n old v was → HaveJoined table k old v was
-joined_at table n k old v was at h = subst (λ (m : ℕ). HaveJoined table m old v was) (sym at) h
+joined_at : (table : Numbered) (n k : ℕ) (old v : Tallied) (saved : List (Option (ℕ × ℕ))) → k ≡ n → HaveJoined table n old v saved → HaveJoined table k old v saved
+joined_at table n k old v saved at h = subst (λ (m : ℕ). HaveJoined table m old v saved) (sym at) h
 
 pub settle-requires : goal.settle-requires
 settle-requires c = (
   c.args.votes.now,
-  c.in-Ok.ensures.joined c.args.votes.now (joined_at c.args.dag.now (length c.args.dag.now.parents) c.in_ok-before.before.blocks c.args.votes.now c.before-2.new.self c.in_ok-before.before.all c.in_ok-before.ensures.blocks c.in_ok-before.ensures.joined) c.in_ok-before.ensures.tips,
+  c.in-Ok.ensures.joined c.args.votes.now (joined_at c.args.dag.now (length c.args.dag.now.parents) c.in_ok-before.before.blocks c.args.votes.now c.args.votes.now c.in_ok-before.before.saved c.in_ok-before.ensures.blocks c.in_ok-before.ensures.joined) c.in_ok-before.ensures.tips,
 )
 
 pub returns-in-Ok-clause-in_order : goal.returns-in-Ok-clause-in_order
@@ -26,10 +26,10 @@ returns-in-Ok-clause-one c = λ one.
     let new : Numbered = c.decide.new.dag in
     let long : length new.parents ≡ length old.parents + 1 =
     omega (arith, one, c.len-blocks.ensures.numbered.long, c.in-Ok.ensures.in_order.long, ap length c.in-Ok.ensures.ids, length-append old.ids c.args.ids.now) in
-    let h = joined_at old (length old.parents) c.in_ok-before.before.blocks c.args.votes.now c.before-2.new.self c.in_ok-before.before.all c.in_ok-before.ensures.blocks c.in_ok-before.ensures.joined in (
+    let h = joined_at old (length old.parents) c.in_ok-before.before.blocks c.args.votes.now c.args.votes.now c.in_ok-before.before.saved c.in_ok-before.ensures.blocks c.in_ok-before.ensures.joined in (
       long,
-      subst (λ (n : ℕ). Grew new n c.args.votes.now c.settle.new.self) c.in_ok-before.ensures.blocks
-          (c.settle.ensures.grew c.args.votes.now (c.in-Ok.ensures.joined c.args.votes.now h c.in_ok-before.ensures.tips) (omega (arith, long, c.in_ok-before.ensures.blocks))),
+      subst (λ (n : ℕ). Grew new n c.args.votes.now c.settle.new.self) (c.in-Ok.ensures.blocks ∙ c.in_ok-before.ensures.blocks)
+          (c.settle.ensures.grew c.args.votes.now (c.in-Ok.ensures.joined c.args.votes.now h c.in_ok-before.ensures.tips) (omega (arith, long, c.in-Ok.ensures.blocks, c.in_ok-before.ensures.blocks))),
     )
 
 pub returns-in-Ok-clause-paying : goal.returns-in-Ok-clause-paying
@@ -49,9 +49,9 @@ take_back-requires-clause-carried c =
 pub take_back-requires-clause-joining : goal.take_back-requires-clause-joining
 take_back-requires-clause-joining c = (
   c.args.votes.now,
-  c.in-Err.ensures.err c.args.votes.now (joined_at c.args.dag.now (length c.args.dag.now.parents) c.in_ok-before.before.blocks c.args.votes.now c.before-2.new.self c.in_ok-before.before.all c.in_ok-before.ensures.blocks c.in_ok-before.ensures.joined) c.in_ok-before.ensures.tips,
-  c.in_ok-before.ensures.tips,
-  c.in_ok-before.ensures.sums,
+  c.in-Err.ensures.err c.args.votes.now (joined_at c.args.dag.now (length c.args.dag.now.parents) c.in_ok-before.before.blocks c.args.votes.now c.args.votes.now c.in_ok-before.before.saved c.in_ok-before.ensures.blocks c.in_ok-before.ensures.joined) c.in_ok-before.ensures.tips,
+  omega (arith, c.in-Err.ensures.tips, c.in_ok-before.ensures.tips),
+  c.in-Err.ensures.sums ∙ c.in_ok-before.ensures.sums,
 )
 
 pub take_back-requires-clause-accepted : goal.take_back-requires-clause-accepted
@@ -72,7 +72,7 @@ take_back-requires-clause-of c = (
 
 pub returns-in-Err-clause-dag : goal.returns-in-Err-clause-dag
 returns-in-Err-clause-dag c =
-    c.take_back.ensures.dag ∙ c.in-Err.ensures.front c.in_ok-before.before.blocks (omega (arith, c.in_ok-before.ensures.blocks))
+    c.take_back.ensures.dag ∙ ap (first_numbered c.decide.new.dag) c.in-Err.ensures.blocks ∙ c.in-Err.ensures.front c.in_ok-before.before.blocks (omega (arith, c.in_ok-before.ensures.blocks))
     ∙ numbered_back c.args.dag.now c.in_ok-before.before.blocks c.len-blocks.ensures.numbered c.in_ok-before.ensures.blocks
 
 pub returns-in-Err-clause-carriers : goal.returns-in-Err-clause-carriers
@@ -80,13 +80,14 @@ returns-in-Err-clause-carriers c =
     let k : Carried = c.args.carriers.now in
     let at : k.blocks ≡ c.in_ok-before.before.blocks =
     carried_count c.args.pool.now c.args.dag.now k c.len-blocks.ensures.numbered c.requires.accepting.carriers ∙ sym c.in_ok-before.ensures.blocks in
-    c.take_back.ensures.carriers ∙ c.in-Err.ensures.first c.in_ok-before.before.blocks (omega (arith, at))
+    c.take_back.ensures.carriers ∙ ap (first_carried c.decide.new.carriers) c.in-Err.ensures.blocks ∙ c.in-Err.ensures.first c.in_ok-before.before.blocks (omega (arith, at))
     ∙ carried_back k c.in_ok-before.before.blocks c.requires.accepting.carriers.carried at
 
 pub returns-in-Err-clause-votes : goal.returns-in-Err-clause-votes
 returns-in-Err-clause-votes c =
-    let h = joined_at c.args.dag.now (length c.args.dag.now.parents) c.in_ok-before.before.blocks c.args.votes.now c.before-2.new.self c.in_ok-before.before.all c.in_ok-before.ensures.blocks c.in_ok-before.ensures.joined in
-    c.take_back.ensures.votes c.args.votes.now (c.in-Err.ensures.err c.args.votes.now h c.in_ok-before.ensures.tips) c.in_ok-before.ensures.tips c.in_ok-before.ensures.sums
+    let h = joined_at c.args.dag.now (length c.args.dag.now.parents) c.in_ok-before.before.blocks c.args.votes.now c.args.votes.now c.in_ok-before.before.saved c.in_ok-before.ensures.blocks c.in_ok-before.ensures.joined in
+    c.take_back.ensures.votes c.args.votes.now (c.in-Err.ensures.err c.args.votes.now h c.in_ok-before.ensures.tips)
+    (omega (arith, c.in-Err.ensures.tips, c.in_ok-before.ensures.tips)) (c.in-Err.ensures.sums ∙ c.in_ok-before.ensures.sums)
 
 pub returns-in-Err-clause-purse : goal.returns-in-Err-clause-purse
 returns-in-Err-clause-purse c =

@@ -3,7 +3,7 @@ use Rattle.sp_dag.specs.Numbered.{Numbered, graph_of, pairs_of}
 use Rattle.sp_model.specs.Graph.{past}
 use Rattle.sp_view.specs.Views.{AreKeptIds, IsBest, Viewed}
 use Rattle.sp_engine.specs.Votes.{AreKeptIdsBy, AreViews}
-use Rattle.sp_engine.proofs.Beside.{counted, few_counted, few_live_beside, shared_derived, shared_grown, shared_up}
+use Rattle.sp_engine.proofs.Beside.{counted, few_counted, few_live_beside, shared_derived, shared_grown}
 use Rattle.sp_engine.proofs.Sharing.{view_of, views_move}
 use Rattle.sp_engine.proofs.Tips.{kept_by_two, others_stay, past_asked, past_lower}
 use Rattle.sp_engine.proofs.joining.new_tip.Goals as goal
@@ -15,7 +15,7 @@ pub derive-requires-clause-counts : goal.derive-requires-clause-counts
 derive-requires-clause-counts c = λ i view at r some.
     omega (
       arith,
-      few_counted c.args.dag.now c.args.rows.now c.args.frozen.now.blocks c.args.views.now c.requires.shared.0 c.requires.shared.1 c.requires.views r,
+      few_counted c.args.dag.now c.args.rows.now c.args.views.now c.requires.shared.0 c.requires.shared.1 c.args.frozen.now.blocks c.requires.views r,
       c.requires.few,
     )
 
@@ -35,7 +35,7 @@ derive-requires-clause-few c =
     let small : length (pairs_of c.args.dag.now) ≤ 130816 = omega (arith, c.pair_count-pairs.ensures.value, c.pair_count-pairs.ensures.bound) in
     omega (
       arith,
-      few_live_beside c.args.dag.now c.args.rows.now c.args.frozen.now.blocks c.args.views.now c.requires.shared.0 c.requires.shared.1 small c.requires.views c.live-live.ensures.rows,
+      few_live_beside c.args.dag.now c.args.rows.now c.args.views.now c.requires.shared.0 c.requires.shared.1 c.args.frozen.now.blocks small c.requires.views c.live-live.ensures.rows,
       c.requires.few,
     )
 
@@ -54,8 +54,8 @@ vote_tip-requires-clause-few c =
     c.requires.views in
     omega (
       arith,
-      few_live_beside table c.derive.new.pool c.args.frozen.now.blocks (tip ∷ c.args.views.now) c.requires.shared.0
-          (shared_derived table c.args.rows.now c.args.frozen.now.blocks c.args.views.now c.requires.shared.0 shared c.derive.new.pool tip c.in_ok-tip.ensures.counts c.in_ok-tip.ensures.rows)
+      few_live_beside table c.derive.new.pool (tip ∷ c.args.views.now) c.requires.shared.0
+          (shared_derived table c.args.rows.now c.args.views.now c.requires.shared.0 shared c.derive.new.pool tip c.in_ok-tip.ensures.counts) c.args.frozen.now.blocks
           small
           (c.in_ok-tip.ensures.ok, (λ z h. (let less : z < c.len-b.result - 1 = lower z h in omega (arith, less, c.requires.next, c.len-b.ensures.value))), others)
           c.live-derived.ensures.rows,
@@ -70,18 +70,16 @@ returns-in-Ok-clause-views c =
       (λ z h. (let less : z < length table.parents = c.in-Ok.ensures.view.below z h in omega (arith, less, c.requires.next, c.in-Ok.ensures.blocks))),
       subst (λ (n : ℕ). AreViews table c.vote_tip.new.rows n c.args.views.now) (let e : c.args.frozen.now.blocks + 1 ≡ c.vote_tip.new.frozen.blocks = omega (arith, c.in-Ok.ensures.blocks) in e)
           (others_stay table c.args.rows.now c.derive.new.pool c.vote_tip.new.rows c.args.frozen.now.blocks c.args.views.now tip c.vote_tip.new.tip
-          (counted table c.args.rows.now c.args.frozen.now.blocks c.args.views.now c.requires.shared.0 c.requires.shared.1) c.in_ok-tip.ensures.counts c.in_ok-tip.ensures.rows c.in-Ok.ensures.counts c.in-Ok.ensures.others c.requires.views),
+          (counted table c.args.rows.now c.args.views.now c.requires.shared.0 c.requires.shared.1) c.in_ok-tip.ensures.counts c.in_ok-tip.ensures.rows c.in-Ok.ensures.counts c.in-Ok.ensures.others c.requires.views),
     )
 
 pub returns-in-Ok-clause-shared : goal.returns-in-Ok-clause-shared
-returns-in-Ok-clause-shared c = λ beside shared.
+returns-in-Ok-clause-shared c = λ saved shared.
     let table : Numbered = c.args.dag.now in
-    let n : ℕ = c.args.frozen.now.blocks in
     let views : List Viewed = c.args.views.now in
     let tip : Viewed = c.in_ok-tip.tip in
-    let derived = shared_derived table c.args.rows.now n views beside shared c.derive.new.pool tip c.in_ok-tip.ensures.counts c.in_ok-tip.ensures.rows in
-    let grown = shared_grown table c.derive.new.pool n views beside tip c.vote_tip.new.tip c.vote_tip.new.rows derived c.in-Ok.ensures.counts c.in-Ok.ensures.others in
-    shared_up table c.vote_tip.new.rows n (c.vote_tip.new.tip ∷ views) beside grown c.vote_tip.new.frozen.blocks (omega (arith, c.in-Ok.ensures.blocks, c.requires.next, c.len-b.ensures.value))
+    let derived = shared_derived table c.args.rows.now views saved shared c.derive.new.pool tip c.in_ok-tip.ensures.counts in
+    shared_grown table c.derive.new.pool views saved tip c.vote_tip.new.tip c.vote_tip.new.rows derived c.in-Ok.ensures.counts
 
 pub returns-in-Ok-clause-kept : goal.returns-in-Ok-clause-kept
 returns-in-Ok-clause-kept c = λ i base best.

@@ -11,16 +11,15 @@ pub add_one-requires-clause-joined : goal.add_one-requires-clause-joined
 add_one-requires-clause-joined c = (
   c.requires.joined.0,
   c.requires.joined.1,
-  c.requires.joined.2,
-  c.loop-id.invariant.joined c.requires.joined.0 c.requires.joined.1 c.requires.joined.2 c.requires.joined.3 c.requires.joined.4,
-  c.requires.joined.4,
+  c.loop-id.invariant.joined c.requires.joined.0 c.requires.joined.1 c.requires.joined.2 c.requires.joined.3,
+  c.requires.joined.3,
 )
 
 pub loop-id-preserved : goal.loop-id-preserved
 loop-id-preserved c = record {
   numbered = c.in_ok-add_one.ensures.numbered;
   profile = c.in_ok-add_one.ensures.profile ∙ c.loop-id.invariant.profile;
-  joined = λ n old was h tips. c.in_ok-add_one.ensures.joined n old was (c.loop-id.invariant.joined n old was h tips) tips;
+  joined = λ n old h tips. c.in_ok-add_one.ensures.joined n old (c.loop-id.invariant.joined n old h tips) tips;
   front = λ n le. c.in_ok-add_one.ensures.front n (omega (arith, le, c.loop-id.invariant.wider)) ∙ c.loop-id.invariant.front n le;
   wider = omega (arith, c.loop-id.invariant.wider, c.in_ok-add_one.ensures.long);
   first = λ n le. c.in_ok-add_one.ensures.first n (omega (arith, le, c.loop-id.invariant.longer)) ∙ c.loop-id.invariant.first n le;
@@ -34,4 +33,4 @@ loop-id-preserved c = record {
 }
 
 pub returns-in_err-add_one-clause-err : goal.returns-in_err-add_one-clause-err
-returns-in_err-add_one-clause-err c = on_err c.from_residual.result (λ n old was h tips. c.in_err-add_one.ensures.err n old was (c.loop-id.invariant.joined n old was h tips) tips)
+returns-in_err-add_one-clause-err c = on_err c.from_residual.result (λ n old h tips. c.in_err-add_one.ensures.err n old (c.loop-id.invariant.joined n old h tips) tips)

@@ -1,6 +1,5 @@
 use Rattle.std.proofs.Common.{◌≡◌, ◌≤◌, ◌+◌, ◌++◌, ℕ, length, take, drop}
 use Rattle.sp_pool.specs.Kept.{Releases}
-use Rattle.sp_view.specs.Views.{Viewed}
 use Rattle.sp_accept.specs.Acceptance.{Acceptance, IsRight}
 use Rattle.sp_accept.specs.Changes.{carriers_below}
 use Rattle.sp_engine.specs.Engine.{AreCarried, AreNumbered, first_carried, first_numbered, GoesOn}
@@ -11,7 +10,7 @@ abbrev pub invariant-loop-id : goal.invariant-loop-id
 invariant-loop-id l = record {
   numbered : AreNumbered l.pool l.dag;
   profile : l.dag.profile ≡ l.fn.dag.profile;
-  joined : (n : ℕ) (old : Tallied) (was : Viewed) → HaveJoined l.fn.dag n old l.fn.votes was → l.tips + 1 ≡ length old.views → HaveJoined l.dag n old l.votes was;
+  joined : (n : ℕ) (old : Tallied) → HaveJoined l.fn.dag n old l.fn.votes l.fn.saved → l.tips + 1 ≡ length old.views → HaveJoined l.dag n old l.votes l.saved;
   front : (n : ℕ) → n ≤ length l.fn.dag.parents → first_numbered l.dag n ≡ first_numbered l.fn.dag n;
   wider : length l.fn.dag.parents ≤ length l.dag.parents;
   first : (n : ℕ) → n ≤ l.fn.carriers.blocks → first_carried l.carriers n ≡ first_carried l.fn.carriers n;

@@ -14,7 +14,7 @@ use Rattle.sp_rows.proofs.Keeps.{on_err}
 use Rattle.sp_carry.specs.Carried.{Carried}
 use Rattle.sp_carry.specs.Carried as carried
 use Rattle.sp_carry.proofs.Cutting.{cut_before}
-use Rattle.sp_engine.proofs.Joined.{first_stays, joined_stays}
+use Rattle.sp_engine.proofs.JoinedStays.{first_stays, joined_stays}
 use Rattle.sp_engine.proofs.Paying.{block_goes}
 use Rattle.sp_engine.proofs.numbering.add_one.Goals as goal
 
@@ -74,16 +74,15 @@ pub add-requires-in-Some-clause-joining : goal.add-requires-in-Some-clause-joini
 add-requires-in-Some-clause-joining c = (
   c.requires.joined.0,
   c.requires.joined.1,
-  c.requires.joined.2,
-  joined_stays c.args.dag.now c.add.new.self c.args.id.now c.block-in-Some.inside.salt (map (number_of c.args.dag.now.ids) c.as_slice.result.now) c.requires.joined.0 c.requires.joined.1 c.args.votes.now c.requires.joined.2
-      c.in_ok-number-in-Some.ensures.ok c.len-blocks.ensures.numbered c.len-more.ensures.numbered.order c.requires.joined.3,
-  c.requires.joined.4,
+  joined_stays c.args.dag.now c.add.new.self c.args.id.now c.block-in-Some.inside.salt (map (number_of c.args.dag.now.ids) c.as_slice.result.now) c.requires.joined.0 c.requires.joined.1 c.args.votes.now c.args.saved.now
+      c.in_ok-number-in-Some.ensures.ok c.len-blocks.ensures.numbered c.len-more.ensures.numbered.order c.requires.joined.2,
+  c.requires.joined.3,
 )
 
 pub returns-clause-joined : goal.returns-clause-joined
-returns-clause-joined c = λ n old was joined tips.
-    c.in_ok-add-in-Some.ensures.joined n old was
-    (joined_stays c.args.dag.now c.add.new.self c.args.id.now c.block-in-Some.inside.salt (map (number_of c.args.dag.now.ids) c.as_slice.result.now) n old c.args.votes.now was
+returns-clause-joined c = λ n old joined tips.
+    c.in_ok-add-in-Some.ensures.joined n old
+    (joined_stays c.args.dag.now c.add.new.self c.args.id.now c.block-in-Some.inside.salt (map (number_of c.args.dag.now.ids) c.as_slice.result.now) n old c.args.votes.now c.args.saved.now
     c.in_ok-number-in-Some.ensures.ok c.len-blocks.ensures.numbered c.len-more.ensures.numbered.order joined) tips
 
 pub returns-clause-right : goal.returns-clause-right
@@ -105,15 +104,15 @@ returns-clause-below c = λ n le.
     (c.in_ok-add-in-Some-2.ensures.ok ∙ ap (λ (b : ReadBlock). with_block c.add.new.self c.args.carriers.now b.txs) c.block-in-Some.view_is) le
 
 pub returns-in_err-add-in-Some-clause-err : goal.returns-in_err-add-in-Some-clause-err
-returns-in_err-add-in-Some-clause-err c = on_err c.from_residual-in_err-add-in-Some.result (λ n old was joined _.
-    c.in_err-add-in-Some.ensures.err n old was
-    (joined_stays c.args.dag.now c.add.new.self c.args.id.now c.block-in-Some.inside.salt (map (number_of c.args.dag.now.ids) c.as_slice.result.now) n old c.args.votes.now was
+returns-in_err-add-in-Some-clause-err c = on_err c.from_residual-in_err-add-in-Some.result (λ n old joined _.
+    c.in_err-add-in-Some.ensures.err n old
+    (joined_stays c.args.dag.now c.add.new.self c.args.id.now c.block-in-Some.inside.salt (map (number_of c.args.dag.now.ids) c.as_slice.result.now) n old c.args.votes.now c.args.saved.now
     c.in_ok-number-in-Some.ensures.ok c.len-blocks.ensures.numbered c.len-more.ensures.numbered.order joined))
 
 pub returns-in_err-add-in-Some-2-clause-err : goal.returns-in_err-add-in-Some-2-clause-err
-returns-in_err-add-in-Some-2-clause-err c = on_err c.from_residual-in_err-add-in-Some-2.result (λ n old was joined tips.
-    (c.in_ok-add-in-Some.ensures.joined n old was
-    (joined_stays c.args.dag.now c.add.new.self c.args.id.now c.block-in-Some.inside.salt (map (number_of c.args.dag.now.ids) c.as_slice.result.now) n old c.args.votes.now was
+returns-in_err-add-in-Some-2-clause-err c = on_err c.from_residual-in_err-add-in-Some-2.result (λ n old joined tips.
+    (c.in_ok-add-in-Some.ensures.joined n old
+    (joined_stays c.args.dag.now c.add.new.self c.args.id.now c.block-in-Some.inside.salt (map (number_of c.args.dag.now.ids) c.as_slice.result.now) n old c.args.votes.now c.args.saved.now
     c.in_ok-number-in-Some.ensures.ok c.len-blocks.ensures.numbered c.len-more.ensures.numbered.order joined) tips).joining)
 
 pub returns-in_err-add-in-Some-clause-front : goal.returns-in_err-add-in-Some-clause-front

@@ -1,11 +1,18 @@
-use Rattle.std.proofs.Common.{◌≡◌, ◌≢◌, ◌∙◌, ◌<◌, ℕ, Bool, true, false, List, not, ◌&&◌, cond, ap, arith, sym}
-use Rattle.std.specs.Prelude.{pos, negsuc}
+use Rattle.std.proofs.Common.{◌≡◌, ◌≢◌, ◌∙◌, ◌<◌, ℕ, Bool, true, false, List, [], Some, not, ◌&&◌, cond, ap, arith, length, subst, sym}
+use Rattle.std.specs.Prelude.{pos, negsuc, slice_get}
+use Rattle.std.proofs.lemmas.Bool.{false≢true}
 use Rattle.std.proofs.lemmas.Int.{ints}
+use Rattle.std.proofs.lemmas.Option.{slice_get_within}
+use Rattle.sp_bits.specs.Places.{difference, IsRow}
 use Rattle.sp_dag.specs.Numbered.{Numbered, graph_of, pairs_of, IsPair}
-use Rattle.sp_dag.proofs.Ranked.{pair_kind}
+use Rattle.sp_dag.proofs.Ranked.{ancestors_lower, future_members, pair_kind}
 use Rattle.sp_model.specs.Graph.{Graph, has, in_past}
+use Rattle.sp_model.specs.Joining.{Joins}
 use Rattle.sp_model.specs.Loose.{is_loose}
+use Rattle.sp_model.specs.Votes.{vote}
+use Rattle.sp_view.specs.Settled.{AreKept, AreOpen, AreSides, IsAsked}
 use Rattle.sp_view.specs.Stored.{row_of}
+use Rattle.sp_view.proofs.Free.{todo_told}
 use Rattle.sp_view.proofs.JoinedRows.{agreeing_side, joined_kept, open_joined}
 use Rattle.sp_view.proofs.JoinedVotes.{voting_bound}
 use Rattle.sp_view.proofs.TwoRows.{pair_same}
@@ -15,25 +22,75 @@ one_differs : (up : Bool) → cond up (pos 1) (negsuc 0) ≢ pos 0
 one_differs true = λ e. omega (arith, ints)
 one_differs false = λ e. omega (arith, ints)
 
-pub returns-clause-within : goal.returns-clause-within
-returns-clause-within c = λ z h.
-    (open_joined (graph_of c.args.dag.now) c.args.b c.args.members.now c.pair-x.result.0 c.pair-x.result.1 c.side_of-agree.result c.open_voters.result c.requires.asked c.requires.joined c.open_voters.ensures).member z h
-
-pub returns-clause-kept : goal.returns-clause-kept
-returns-clause-kept c = λ before x y at j row sides votes.
-    let table : Numbered = c.args.dag.now in
+-- what is asked anew is open, and all else is kept
+kept_of : (table : Numbered) (b : ℕ) (members : List ℕ) (i x' y' : ℕ) (ups downs agree todo : List ℕ) (up : Bool) → IsAsked (graph_of table) members → has members b ≡ true
+    → slice_get (pairs_of table) i ≡ Some (x', y') → agree ≡ cond up ups downs
+    → ((z : ℕ) → has todo z ≡ ((in_past (graph_of table) z b && is_loose (graph_of table) z x' y') && not (has agree z)))
+    → (before : List ℕ) (x y : ℕ) → slice_get (pairs_of table) i ≡ Some (x, y) → Joins (graph_of table) b before members → IsRow before → AreSides (graph_of table) before x y ups downs
+    → vote (graph_of table) members b x y ≡ cond up (pos 1) (negsuc 0)
+    → AreOpen (graph_of table) members x y (has todo) × AreKept (graph_of table) members x y (has todo) (difference ups todo) (difference downs todo)
+kept_of table b members i x' y' ups downs agree todo up asked there pair agree_is told before x y at j row sides votes =
     let g : Graph = graph_of table in
-    let same : (x ≡ c.pair-x.result.0) × (y ≡ c.pair-x.result.1) = pair_same (pairs_of table) c.args.pair x y c.pair-x.result at c.pair-x.ensures.pair in
-    let kind : IsPair table (x, y) = pair_kind table c.args.pair (x, y) at in
+    let same : (x ≡ x') × (y ≡ y') = pair_same (pairs_of table) i x y (x', y') at pair in
+    let kind : IsPair table (x, y) = pair_kind table i (x, y) at in
     let apart : x ≢ y = λ e. (let le : x < y = kind.order in omega arith) in
-    let ups : List ℕ = row_of c.args.pool.now c.args.entry.now.0 in
-    let downs : List ℕ = row_of c.args.pool.now c.args.entry.now.1 in
-    let agree : List ℕ = cond c.args.up ups downs in
-    let todo_is : (z : ℕ) → has c.open_voters.result z ≡ ((in_past g z c.args.b && is_loose g z x y) && not (has agree z)) =
-    λ z. rw (same.0, same.1) (c.open_voters.ensures z ∙ ap (λ (l : List ℕ). (in_past g z c.args.b && is_loose g z c.pair-x.result.0 c.pair-x.result.1) && not (has l z)) c.side_of-agree.ensures) in (
-      open_joined g c.args.b c.args.members.now x y agree c.open_voters.result c.requires.asked c.requires.joined todo_is,
-      joined_kept g c.args.b before c.args.members.now x y ups downs j apart row c.requires.asked sides agree c.open_voters.result
-          (voting_bound g c.args.b before c.args.members.now x y j (λ e. one_differs c.args.up (sym votes ∙ e)))
-          (agreeing_side g c.args.b before c.args.members.now x y ups downs j apart row c.requires.asked sides c.args.up votes)
+    let todo_is : (z : ℕ) → has todo z ≡ ((in_past g z b && is_loose g z x y) && not (has (cond up ups downs) z)) =
+    λ z. rw (same.0, same.1) (told z ∙ ap (λ (l : List ℕ). (in_past g z b && is_loose g z x' y') && not (has l z)) agree_is) in (
+      open_joined g b members x y (cond up ups downs) todo asked there todo_is,
+      joined_kept g b before members x y ups downs j apart row asked sides (cond up ups downs) todo
+          (voting_bound g b before members x y j (λ e. one_differs up (sym votes ∙ e)))
+          (agreeing_side g b before members x y ups downs j apart row asked sides up votes)
           todo_is,
     )
+
+pub future-requires : goal.future-requires
+future-requires c =
+    let kind : IsPair c.args.dag.now (c.args.x, c.args.place.now.second) = pair_kind c.args.dag.now c.args.place.now.pair (c.args.x, c.args.place.now.second) c.requires.pair in
+    let less : c.args.x < c.args.place.now.second = kind.order in
+    let within : c.args.place.now.second < length c.args.dag.now.parents = kind.within in
+    omega (arith, less, within)
+
+pub set-requires : goal.set-requires
+set-requires c =
+    let kind : IsPair c.args.dag.now (c.args.x, c.args.place.now.second) = pair_kind c.args.dag.now c.args.place.now.pair (c.args.x, c.args.place.now.second) c.requires.pair in
+    let less : c.args.x < c.args.place.now.second = kind.order in
+    let within : c.args.place.now.second < length c.args.dag.now.parents = kind.within in
+    omega (arith, less, within, c.len-blocks.ensures.numbered.small)
+
+pub returns-then-is_none-clause-within : goal.returns-then-is_none-clause-within
+returns-then-is_none-clause-within c = λ z h. absurd (false≢true h)
+
+pub returns-then-is_none-clause-kept : goal.returns-then-is_none-clause-kept
+returns-then-is_none-clause-kept c =
+    let table : Numbered = c.args.dag.now in
+    let listed : c.args.place.now.pair < length (pairs_of table) = slice_get_within (pairs_of table) c.args.place.now.pair (c.args.x, c.args.place.now.second) c.requires.pair in
+    let g : Graph = graph_of table in
+    kept_of table c.args.b c.args.members.now c.args.place.now.pair c.args.x c.args.place.now.second (row_of c.args.pool.now c.args.entry.now.0) (row_of c.args.pool.now c.args.entry.now.1)
+    c.side_of-settled.result [] c.args.up c.requires.asked c.requires.joined c.requires.pair c.side_of-settled.ensures
+    (subst (λ (l : List ℕ). (z : ℕ) → has l z ≡ ((in_past g z c.args.b && is_loose g z c.args.x c.args.place.now.second) && not (has c.side_of-settled.result z)))
+    (c.is_none.ensures.0 c.if-is_none.true)
+    (todo_told (graph_of table) c.args.b c.args.x c.args.place.now.second c.args.place.now.free c.side_of-settled.result c.future.result.now c.or_with.new.self c.set.new.self
+    (c.requires.place.free_is listed)
+    (λ z h. (let lower : z < c.args.b = ancestors_lower table z c.args.b c.len-blocks.ensures.numbered.order c.requires.below h in let within : c.args.b < length table.parents = c.requires.below in omega (arith, within, c.len-blocks.ensures.numbered.small)))
+    (λ z. ap (λ (l : List ℕ). has l z) c.future.ensures ∙ future_members table c.args.x z) c.or_with.ensures c.set.ensures c.without.new.self c.without.ensures))
+
+pub returns-clause-within : goal.returns-clause-within
+returns-clause-within c =
+    let table : Numbered = c.args.dag.now in
+    let listed : c.args.place.now.pair < length (pairs_of table) = slice_get_within (pairs_of table) c.args.place.now.pair (c.args.x, c.args.place.now.second) c.requires.pair in
+    (open_joined (graph_of table) c.args.b c.args.members.now c.args.x c.args.place.now.second c.side_of-settled.result c.without.new.self c.requires.asked c.requires.joined
+    (todo_told (graph_of table) c.args.b c.args.x c.args.place.now.second c.args.place.now.free c.side_of-settled.result c.future.result.now c.or_with.new.self c.set.new.self
+    (c.requires.place.free_is listed)
+    (λ z h. (let lower : z < c.args.b = ancestors_lower table z c.args.b c.len-blocks.ensures.numbered.order c.requires.below h in let within : c.args.b < length table.parents = c.requires.below in omega (arith, within, c.len-blocks.ensures.numbered.small)))
+    (λ z. ap (λ (l : List ℕ). has l z) c.future.ensures ∙ future_members table c.args.x z) c.or_with.ensures c.set.ensures c.without.new.self c.without.ensures)).member
+
+pub returns-clause-kept : goal.returns-clause-kept
+returns-clause-kept c =
+    let table : Numbered = c.args.dag.now in
+    let listed : c.args.place.now.pair < length (pairs_of table) = slice_get_within (pairs_of table) c.args.place.now.pair (c.args.x, c.args.place.now.second) c.requires.pair in
+    kept_of table c.args.b c.args.members.now c.args.place.now.pair c.args.x c.args.place.now.second (row_of c.args.pool.now c.args.entry.now.0) (row_of c.args.pool.now c.args.entry.now.1)
+    c.side_of-settled.result c.without.new.self c.args.up c.requires.asked c.requires.joined c.requires.pair c.side_of-settled.ensures
+    (todo_told (graph_of table) c.args.b c.args.x c.args.place.now.second c.args.place.now.free c.side_of-settled.result c.future.result.now c.or_with.new.self c.set.new.self
+    (c.requires.place.free_is listed)
+    (λ z h. (let lower : z < c.args.b = ancestors_lower table z c.args.b c.len-blocks.ensures.numbered.order c.requires.below h in let within : c.args.b < length table.parents = c.requires.below in omega (arith, within, c.len-blocks.ensures.numbered.small)))
+    (λ z. ap (λ (l : List ℕ). has l z) c.future.ensures ∙ future_members table c.args.x z) c.or_with.ensures c.set.ensures c.without.new.self c.without.ensures)

@@ -1,5 +1,6 @@
 use Rattle.std.proofs.Common.{◌≡◌, ◌∙◌, arith, refl}
 use Rattle.sp_dag.specs.Numbered.{Numbered, pairs_of}
+use Rattle.sp_view.proofs.Stepping.{step_new}
 use Rattle.sp_view.proofs.TwoRows.{frozen_among, one_if, pair_same}
 use Rattle.sp_view.proofs.entries.new_entry.Goals as goal
 
@@ -15,3 +16,8 @@ returns-clause-rows c = λ x y at.
     let stays = c.taken-minus.ensures.others c.taken-plus.result (omega (arith, c.taken-plus.ensures.counts c.taken-plus.result, one_if c.taken-plus.result c.taken-plus.result refl)) in
     rw (same.0, same.1)
     (record { plus_is = stays ∙ c.taken-plus.ensures.row ∙ c.new_rows-new.ensures.plus_is; minus_is = c.taken-minus.ensures.row ∙ c.new_rows-new.ensures.minus_is })
+
+pub returns-clause-step : goal.returns-clause-step
+returns-clause-step c =
+    step_new c.args.pool.now c.taken-plus.new.pool c.taken-minus.new.pool c.taken-plus.result c.taken-minus.result c.taken-plus.ensures.fresh c.taken-minus.ensures.fresh c.taken-plus.ensures.counts
+    c.taken-minus.ensures.counts c.taken-plus.ensures.others c.taken-minus.ensures.others c.taken-plus.ensures.spare c.taken-minus.ensures.spare c.taken-plus.ensures.live c.taken-minus.ensures.live

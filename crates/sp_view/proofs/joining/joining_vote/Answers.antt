@@ -2,22 +2,21 @@ use Rattle.std.proofs.Common.{◌≡◌, ◌∙◌, ◌<◌, ◌&&◌, ℕ, Bool
 use Rattle.std.specs.Prelude.{slice_get}
 use Rattle.std.specs.Int.{w32}
 use Rattle.std.proofs.lemmas.Bool.{lt-ltb}
+use Rattle.std.proofs.lemmas.Option.{slice_get_within}
 use Rattle.std.proofs.lemmas.Int.{to_z-of_z}
-use Rattle.sp_dag.specs.Numbered.{IsNumbered, Numbered, graph_of, pairs_of}
-use Rattle.sp_dag.proofs.Ranked.{downset_numbered, past_members}
+use Rattle.sp_dag.specs.Numbered.{IsPair, Numbered, graph_of, pairs_of}
+use Rattle.sp_dag.proofs.Ranked.{downset_numbered, pair_kind}
 use Rattle.sp_frozen.specs.Voters.{AreFrozenBelow, FrozenRows, HoldsFrozen}
-use Rattle.sp_model.specs.Graph.{has, in_past, keys, past}
+use Rattle.sp_model.specs.Graph.{has, in_past, keys}
 use Rattle.sp_model.specs.Loose.{is_loose, is_plus, is_minus}
 use Rattle.sp_model.specs.Votes.{vote}
 use Rattle.sp_view.proofs.JoinedVotes.{vote_first, vote_second, vote_neither, vote_both}
 use Rattle.sp_view.proofs.TwoRows.{pair_same}
 use Rattle.sp_view.proofs.joining.joining_vote.Goals as goal
 
--- what a test of the past's row says
-read_past : (table : Numbered) (row : List ℕ) (b x x' : ℕ) (r v : Bool) → IsNumbered table → b < length table.parents → row ≡ past (graph_of table) b → x' ≡ x → r ≡ has row x → r ≡ v
-    → in_past (graph_of table) x' b ≡ v
-read_past table row b x x' r v numbered within is same read known =
-    ap (λ (k : ℕ). in_past (graph_of table) k b) same ∙ sym (past_members table x b numbered.order within) ∙ ap (λ (l : List ℕ). has l x) (sym is) ∙ sym read ∙ known
+-- what is told of a pair's block, by the same number
+read : (table : Numbered) (b x x' : ℕ) (r v : Bool) → x' ≡ x → r ≡ in_past (graph_of table) x b → r ≡ v → in_past (graph_of table) x' b ≡ v
+read table b x x' r v same told known = ap (λ (k : ℕ). in_past (graph_of table) k b) same ∙ sym told ∙ known
 
 -- a pair's frozen rows tell whether one block is in them
 read_frozen : (table : Numbered) (frozen : FrozenRows) (i x y b : ℕ) (plus minus : List ℕ) → HoldsFrozen table frozen → slice_get (pairs_of table) i ≡ Some (x, y) → i < length frozen.pluses → b < frozen.blocks
@@ -30,41 +29,47 @@ read_frozen table frozen i x y b plus minus holds at listed added e e' =
       ap (λ (l : List ℕ). has l b) e' ∙ rows.minus_is b ∙ rw (lt-ltb b frozen.blocks added) refl,
     )
 
-pub returns-then-second : goal.returns-then-second
-returns-then-second c = λ before more x y at j inside.
-    let table : Numbered = c.args.dag.now in
-    let same = pair_same (pairs_of table) c.args.pair x y c.pair-x.result at c.pair-x.ensures.pair in
-    let within : c.args.b < length table.parents = omega (arith, c.requires.added, c.requires.held.within) in
-    sym (vote_second (graph_of table) c.args.b before more x y j inside
-    (read_past table c.past-past.result.now c.args.b c.pair-x.result.0 x c.test.result _ c.len-blocks.ensures.numbered within c.past-past.ensures same.0 c.test.ensures.value c.if-not-test.true)
-    (read_past table c.past-past.result.now c.args.b c.pair-x.result.1 y c.test-second.result _ c.len-blocks.ensures.numbered within c.past-past.ensures same.1 c.test-second.ensures.value c.if-second.true))
+pub in_past-first-requires-clause-a_in : goal.in_past-first-requires-clause-a_in
+in_past-first-requires-clause-a_in c =
+    let kind : IsPair c.args.dag.now (c.args.x, c.args.place.now.second) = pair_kind c.args.dag.now c.args.place.now.pair (c.args.x, c.args.place.now.second) c.requires.pair in
+    let less : c.args.x < c.args.place.now.second = kind.order in
+    let within : c.args.place.now.second < length c.args.dag.now.parents = kind.within in
+    omega (arith, less, within)
 
-pub returns-else-second : goal.returns-else-second
-returns-else-second c = λ before more x y at j inside.
+pub returns-then-first : goal.returns-then-first
+returns-then-first c = λ before more x y at j inside.
     let table : Numbered = c.args.dag.now in
-    let same = pair_same (pairs_of table) c.args.pair x y c.pair-x.result at c.pair-x.ensures.pair in
-    let within : c.args.b < length table.parents = omega (arith, c.requires.added, c.requires.held.within) in
-    sym (vote_neither (graph_of table) c.args.b before more x y j inside
-    (read_past table c.past-past.result.now c.args.b c.pair-x.result.0 x c.test.result _ c.len-blocks.ensures.numbered within c.past-past.ensures same.0 c.test.ensures.value c.if-not-test.true)
-    (read_past table c.past-past.result.now c.args.b c.pair-x.result.1 y c.test-second.result _ c.len-blocks.ensures.numbered within c.past-past.ensures same.1 c.test-second.ensures.value c.if-second.false))
-
-pub returns-then-not-second : goal.returns-then-not-second
-returns-then-not-second c = λ before more x y at j inside.
-    let table : Numbered = c.args.dag.now in
-    let same = pair_same (pairs_of table) c.args.pair x y c.pair-x.result at c.pair-x.ensures.pair in
-    let within : c.args.b < length table.parents = omega (arith, c.requires.added, c.requires.held.within) in
+    let listed : c.args.place.now.pair < length (pairs_of table) = slice_get_within (pairs_of table) c.args.place.now.pair (x, y) at in
+    let same = pair_same (pairs_of table) c.args.place.now.pair x y (c.args.x, c.args.place.now.second) at c.requires.pair in
     sym (vote_first (graph_of table) c.args.b before more x y j inside
-    (read_past table c.past-past.result.now c.args.b c.pair-x.result.0 x c.test.result _ c.len-blocks.ensures.numbered within c.past-past.ensures same.0 c.test.ensures.value c.if-not-test.false)
-    (read_past table c.past-past.result.now c.args.b c.pair-x.result.1 y c.test-second.result _ c.len-blocks.ensures.numbered within c.past-past.ensures same.1 c.test-second.ensures.value c.if-not-second.true))
+    (read table c.args.b c.args.x x c.in_past-first.result _ same.0 c.in_past-first.ensures c.if-first.true)
+    (read table c.args.b c.args.place.now.second y c.args.place.now.above _ same.1 (c.requires.place.above_is listed) c.if-not-place.true))
+
+pub returns-else-first : goal.returns-else-first
+returns-else-first c = λ before more x y at j inside.
+    let table : Numbered = c.args.dag.now in
+    let listed : c.args.place.now.pair < length (pairs_of table) = slice_get_within (pairs_of table) c.args.place.now.pair (x, y) at in
+    let same = pair_same (pairs_of table) c.args.place.now.pair x y (c.args.x, c.args.place.now.second) at c.requires.pair in
+    sym (vote_neither (graph_of table) c.args.b before more x y j inside
+    (read table c.args.b c.args.x x c.in_past-first.result _ same.0 c.in_past-first.ensures c.if-first.false)
+    (read table c.args.b c.args.place.now.second y c.args.place.now.above _ same.1 (c.requires.place.above_is listed) c.if-not-place.true))
+
+pub returns-then-not-first : goal.returns-then-not-first
+returns-then-not-first c = λ before more x y at j inside.
+    let table : Numbered = c.args.dag.now in
+    let listed : c.args.place.now.pair < length (pairs_of table) = slice_get_within (pairs_of table) c.args.place.now.pair (x, y) at in
+    let same = pair_same (pairs_of table) c.args.place.now.pair x y (c.args.x, c.args.place.now.second) at c.requires.pair in
+    sym (vote_second (graph_of table) c.args.b before more x y j inside
+    (read table c.args.b c.args.x x c.in_past-first.result _ same.0 c.in_past-first.ensures c.if-not-first.true)
+    (read table c.args.b c.args.place.now.second y c.args.place.now.above _ same.1 (c.requires.place.above_is listed) c.if-not-place.false))
 
 pub returns : goal.returns
 returns c = λ before more x y at j inside.
     let table : Numbered = c.args.dag.now in
     let f : FitsSigned w32 c.vote_of.result = search rules in
-    let same = pair_same (pairs_of table) c.args.pair x y c.pair-x.result at c.pair-x.ensures.pair in
-    let within : c.args.b < length table.parents = omega (arith, c.requires.added, c.requires.held.within) in
-    let rows = read_frozen table c.args.frozen.now c.args.pair x y c.args.b c.plus.result.now c.minus.result.now c.requires.held at c.requires.inside c.requires.added c.plus.ensures c.minus.ensures in
+    let same = pair_same (pairs_of table) c.args.place.now.pair x y (c.args.x, c.args.place.now.second) at c.requires.pair in
+    let rows = read_frozen table c.args.frozen.now c.args.place.now.pair x y c.args.b c.plus.result.now c.minus.result.now c.requires.held at c.requires.inside c.requires.added c.plus.ensures c.minus.ensures in
     to_z-of_z w32 c.vote_of.result f ∙ c.vote_of.ensures
     ∙ sym (vote_both (graph_of table) c.args.b before more x y j inside (has c.plus.result.now c.args.b) (has c.minus.result.now c.args.b) (downset_numbered table c.len-blocks.ensures.numbered.order)
-    (read_past table c.past-past.result.now c.args.b c.pair-x.result.0 x c.test.result _ c.len-blocks.ensures.numbered within c.past-past.ensures same.0 c.test.ensures.value c.if-not-test.false)
+    (read table c.args.b c.args.x x c.in_past-first.result _ same.0 c.in_past-first.ensures c.if-not-first.false)
     rows.0 rows.1)

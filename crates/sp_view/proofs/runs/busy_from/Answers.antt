@@ -9,17 +9,21 @@ use Rattle.sp_view.proofs.runs.busy_from.Goals as goal
 pub returns-in-Some-clause-idle : goal.returns-in-Some-clause-idle
 returns-in-Some-clause-idle c = λ before i x z at j le less. elim (cases_lt z c.seconds.y) [
   | inl lower ↦ c.seconds.invariant.idle before i x z at j le lower
-  | inr more ↦ absurd (let past : c.in-Some.place.pair ≤ i = (c.in-Some.ensures.first i x z at).1 more in omega (arith, past, less))
+  | inr more ↦ c.in-Some.ensures.idle before i x z at j more less
 ]
 
 pub returns-in-Some-clause-least : goal.returns-in-Some-clause-least
-returns-in-Some-clause-least c = λ i x z at le. (let more : c.seconds.y ≤ z = (c.in-Some.ensures.first i x z at).0 le in omega (arith, more, c.seconds.invariant.start))
+returns-in-Some-clause-least c = λ i x z at le. (let more : c.seconds.y ≤ z = c.in-Some.ensures.least i x z at le in omega (arith, more, c.seconds.invariant.start))
 
 pub returns-clause-place : goal.returns-clause-place
 returns-clause-place c = record {
   within = λ less. absurd (omega (arith, less, c.pair_count-end.ensures.value));
+  ends = omega (arith, c.pair_count-end.ensures.value);
+  low = λ i x z at le. absurd (let less : i < length (pairs_of c.args.dag.now) = slice_get_within (pairs_of c.args.dag.now) i (x, z) at in omega (arith, less, le, c.pair_count-end.ensures.value));
   behind = λ i x z at le. absurd (let less : i < length (pairs_of c.args.dag.now) = slice_get_within (pairs_of c.args.dag.now) i (x, z) at in omega (arith, less, le, c.pair_count-end.ensures.value));
   from = λ i x z at more. absurd (let kind : IsPair c.args.dag.now (x, z) = pair_kind c.args.dag.now i (x, z) at in let less : z < length c.args.dag.now.parents = kind.within in omega (arith, less, more, c.len-blocks.ensures.value));
+  above_is = λ less. absurd (omega (arith, less, c.pair_count-end.ensures.value));
+  free_is = λ less. absurd (omega (arith, less, c.pair_count-end.ensures.value));
 }
 
 pub returns-clause-idle : goal.returns-clause-idle

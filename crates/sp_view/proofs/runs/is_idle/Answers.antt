@@ -1,4 +1,4 @@
-use Rattle.std.proofs.Common.{◌≡◌, ◌∙◌, ◌<◌, ℕ, List, [], ap, arith, false, refl, sym, true}
+use Rattle.std.proofs.Common.{◌≡◌, ◌∙◌, ◌<◌, ℕ, List, [], ap, arith, false, refl, sym}
 use Rattle.sp_bits.specs.Places.{members_below}
 use Rattle.sp_dag.specs.Numbered.{Numbered, graph_of}
 use Rattle.sp_dag.proofs.Ranked.{ancestors_lower, past_members}

@@ -10,6 +10,7 @@ use Rattle.sp_view.specs.Voting.{IsJoined, IsVoting}
 use Rattle.sp_view.specs.Stored.{live}
 use Rattle.sp_view.proofs.Brought.{moved_brought}
 use Rattle.sp_view.proofs.Growing.{entries_grown, view_joined}
+use Rattle.sp_view.proofs.Keeping.{patched_same, saving_still}
 use Rattle.sp_view.proofs.Moves.{all_moved_few}
 use Rattle.sp_view.proofs.Pools.{row_of_words}
 use Rattle.sp_view.proofs.view.View.add_with_sums.Goals as goal
@@ -62,7 +63,7 @@ returns-clause-ok c =
       below = voting.below;
       few = omega (arith, c.join_entries.ensures.long, c.grow.ensures.long, c.join_entries.new.entries.ok.0, c.end_of-end.ensures.within);
       entry = c.join_entries.ensures.entry;
-      live = λ r. omega (arith, c.join_entries.ensures.counts r, held_is r, ap (λ (l : List Counted). counted.count_of l r) c.in_ok-reserve-2.ensures.rows, c.requires.view.live r);
+      live = λ r. omega (arith, c.join_entries.ensures.counts r, held_is r, ap (λ (l : List Counted). counted.count_of l r) c.in_ok-reserve-2.ensures.rows, c.requires.saved_live r);
       once = c.join_entries.ensures.once;
     }
 
@@ -89,3 +90,50 @@ returns-clause-live c =
       ap (λ (l : List Counted). length l) c.in_ok-reserve-2.ensures.rows,
       moved_brought table c.args.b c.args.self.now.members c.set.new.self joined.row within c.len-blocks.ensures.numbered.small joined.joins,
     )
+
+pub join_entries-requires-clause-live : goal.join_entries-requires-clause-live
+join_entries-requires-clause-live c = λ r.
+    let held_is : (r : ℕ) → held c.grow.new.entries.items r ≡ held c.args.self.now.entries r =
+    λ r. c.grow.ensures.held r ∙ ap (λ (l : List (Option (ℕ × ℕ))). held l r) c.in_ok-reserve.ensures.items ∙ ap (λ (v : Viewed). held v.entries r) c.self.view_is in
+    omega (arith, held_is r, ap (λ (l : List Counted). counted.count_of l r) c.in_ok-reserve-2.ensures.rows, c.requires.saved_live r)
+
+pub join_entries-requires-clause-saved : goal.join_entries-requires-clause-saved
+join_entries-requires-clause-saved c =
+    let entry_is : (i : ℕ) → entry_at c.grow.new.entries.items i ≡ entry_at c.args.self.now.entries i =
+    λ i. c.grow.ensures.entry i ∙ ap (λ (l : List (Option (ℕ × ℕ))). entry_at l i) c.in_ok-reserve.ensures.items ∙ ap (λ (v : Viewed). entry_at v.entries i) c.self.view_is in
+    saving_still c.args.saved.now c.args.saved.now c.args.self.now.entries c.grow.new.entries.items (patched_same c.args.saved.now c.grow.new.entries.items c.args.self.now.entries entry_is)
+    (omega (arith, c.grow.ensures.long, c.grow.new.entries.ok.0, c.end_of-end.ensures.from, c.self.inside.entries.ok.0, ap (λ (v : Viewed). length v.entries) c.self.view_is)) c.requires.saved
+
+pub join_entries-requires-clause-few : goal.join_entries-requires-clause-few
+join_entries-requires-clause-few c = λ some r. omega (arith, ap (λ (l : List Counted). counted.count_of l r) c.in_ok-reserve-2.ensures.rows, c.requires.saved_few some r)
+
+pub returns-clause-counts : goal.returns-clause-counts
+returns-clause-counts c = λ r.
+    let held_is : (r : ℕ) → held c.grow.new.entries.items r ≡ held c.args.self.now.entries r =
+    λ r. c.grow.ensures.held r ∙ ap (λ (l : List (Option (ℕ × ℕ))). held l r) c.in_ok-reserve.ensures.items ∙ ap (λ (v : Viewed). held v.entries r) c.self.view_is in
+    omega (arith, held_is r, ap (λ (l : List Counted). counted.count_of l r) c.in_ok-reserve-2.ensures.rows, c.join_entries.ensures.counts r)
+
+pub returns-clause-patched : goal.returns-clause-patched
+returns-clause-patched c =
+    let entry_is : (i : ℕ) → entry_at c.grow.new.entries.items i ≡ entry_at c.args.self.now.entries i =
+    λ i. c.grow.ensures.entry i ∙ ap (λ (l : List (Option (ℕ × ℕ))). entry_at l i) c.in_ok-reserve.ensures.items ∙ ap (λ (v : Viewed). entry_at v.entries i) c.self.view_is in
+    c.join_entries.ensures.patched ∙ patched_same c.args.saved.now c.grow.new.entries.items c.args.self.now.entries entry_is
+
+pub returns-clause-saved : goal.returns-clause-saved
+returns-clause-saved c =
+    let entry_is : (i : ℕ) → entry_at c.grow.new.entries.items i ≡ entry_at c.args.self.now.entries i =
+    λ i. c.grow.ensures.entry i ∙ ap (λ (l : List (Option (ℕ × ℕ))). entry_at l i) c.in_ok-reserve.ensures.items ∙ ap (λ (v : Viewed). entry_at v.entries i) c.self.view_is in
+    saving_still c.args.saved.now c.join_entries.new.saved c.args.self.now.entries c.join_entries.new.entries.items
+    (c.join_entries.ensures.patched ∙ patched_same c.args.saved.now c.grow.new.entries.items c.args.self.now.entries entry_is)
+    (omega (arith, c.join_entries.ensures.long, c.join_entries.new.entries.ok.0, c.grow.ensures.long, c.end_of-end.ensures.from, c.self.inside.entries.ok.0, ap (λ (v : Viewed). length v.entries) c.self.view_is)) c.requires.saved
+
+pub returns-clause-saved_rows : goal.returns-clause-saved_rows
+returns-clause-saved_rows c = λ r some.
+    let entry_is : (i : ℕ) → entry_at c.grow.new.entries.items i ≡ entry_at c.args.self.now.entries i =
+    λ i. c.grow.ensures.entry i ∙ ap (λ (l : List (Option (ℕ × ℕ))). entry_at l i) c.in_ok-reserve.ensures.items ∙ ap (λ (v : Viewed). entry_at v.entries i) c.self.view_is in
+    c.join_entries.ensures.saved_rows r
+    (omega (arith, some, ap (λ (l : List (Option (ℕ × ℕ))). held l r) (patched_same c.args.saved.now c.grow.new.entries.items c.args.self.now.entries entry_is)))
+    ∙ row_of_words c.args.pool.now c.reserve-2.new.self r (ap (λ (l : List Counted). words_of l r) c.in_ok-reserve-2.ensures.rows)
+
+pub returns-in_err-reserve-2-clause-saved_rows : goal.returns-in_err-reserve-2-clause-saved_rows
+returns-in_err-reserve-2-clause-saved_rows c = λ r _. row_of_words c.args.pool.now c.reserve-2.new.self r (ap (λ (l : List Counted). words_of l r) c.in_err-reserve-2.ensures.rows)

@@ -1,0 +1,136 @@
+//! The rows of a pair that was inside a set before a block joined, and what comes to the sum of its votes, where that is known.
+
+ghost use Rattle.std.specs.Prelude.{◌≡◌, ◌<◌, ◌+◌, ◌^◌, ℕ, length, IfSome, slice_get, Some};
+ghost use Rattle.sp_dag.specs.Numbered.{graph_of, pairs_of};
+ghost use Rattle.sp_model.specs.Votes.{vote};
+ghost use Rattle.sp_view.specs.Gained.{IsGain};
+ghost use Rattle.sp_view.specs.Idle.{IsPlace};
+ghost use Rattle.sp_view.specs.Keeping.{IsSavingStep};
+ghost use Rattle.sp_view.specs.Steps.{AreAnew, IsNew, IsOld};
+ghost use Rattle.sp_view.specs.Stored.{count_of};
+ghost use Rattle.sp_view.specs.Summed.{IsSum};
+ghost use Rattle.sp_view.specs.Voting.{IsJoined};
+
+use crate::anew::asked_entry;
+use crate::asking::asked;
+use crate::joining::joining_vote;
+use crate::rooted::root_turn;
+use crate::runs::Place;
+use crate::saved::Saved;
+use crate::stored::RowName;
+use crate::turned::turned_entry;
+use sp_bits::Row;
+use sp_dag::Dag;
+use sp_frozen::Frozen;
+use sp_rows::RowPool;
+
+// The rows after a block joined, and what came to the sum of the votes, where that is known.
+#[derive(Clone, Copy)]
+pub(crate) struct Joined {
+    pub(crate) rows: (RowName, RowName),
+    pub(crate) gain: Option<i32>,
+}
+
+// Those of a pair on which the votes of `todo` are asked anew, and on which the vote of the block is given. By the sum before,
+// where one is kept, the vote of genesis is told, if it alone is asked. The entry is saved before it changes.
+fn opened_entry(
+    dag: &Dag,
+    frozen: &Frozen,
+    pool: &mut RowPool,
+    saved: &mut Saved,
+    before: &Row,
+    members: &Row,
+    b: u16,
+    pair: u32,
+    entry: (RowName, RowName),
+    todo: &Row,
+    own: i32,
+    sum: Option<i32>,
+) -> Joined
+    requires joined { IsJoined dag.now frozen.now b before.now members.now }
+    requires listed { pair < length (pairs_of dag.now) }
+    requires inside { pair < length frozen.now.pluses }
+    requires rows { IsOld dag.now before.now members.now pair pool.old entry }
+    requires anew { AreAnew dag.now members.now pair pool.old entry todo.now }
+    requires sum { (x y : ℕ) → slice_get (pairs_of dag.now) pair ≡ Some (x, y) →
+        IsSum (graph_of dag.now) before.now x y sum }
+    requires few { pair < length saved.old → (r : ℕ) → count_of pool.old r + 2 < 2 ^ 32 }
+    requires own { (x y : ℕ) → slice_get (pairs_of dag.now) pair ≡ Some (x, y) →
+        own ≡ vote (graph_of dag.now) members.now b x y }
+    ensures rows { IsNew dag.now before.now members.now pair pool.new entry result.rows }
+    ensures step { IsSavingStep pool.old pool.new pair (Some entry) (Some result.rows) saved.old saved.new }
+    ensures gain { (x y : ℕ) → slice_get (pairs_of dag.now) pair ≡ Some (x, y) →
+        IfSome result.gain (IsGain (graph_of dag.now) before.now members.now x y) }
+{
+    // Tells the proof that there are at most 512 blocks, from genesis on.
+    let _blocks = dag.len();
+    match root_turn(todo, sum, own) {
+        Some(turn) => {
+            if turn.before == turn.after {
+                return Joined {
+                    rows: entry,
+                    gain: Some(own),
+                };
+            }
+            saved.save(pool, pair, &entry);
+            let rows = turned_entry(
+                dag, frozen, pool, before, members, b, pair, entry, todo, &turn,
+            );
+            let gain = Some(turn.after - turn.before + own);
+            Joined { rows, gain }
+        }
+        None => {
+            saved.save(pool, pair, &entry);
+            let rows = asked_entry(dag, frozen, pool, before, members, b, pair, entry, todo);
+            Joined { rows, gain: None }
+        }
+    }
+}
+
+// Those of any such pair, by the sum of its votes before, where one is kept.
+pub(crate) fn joined_entry(
+    dag: &Dag,
+    frozen: &Frozen,
+    pool: &mut RowPool,
+    saved: &mut Saved,
+    before: &Row,
+    members: &Row,
+    b: u16,
+    place: &Place,
+    entry: (RowName, RowName),
+    sum: Option<i32>,
+) -> Joined
+    requires joined { IsJoined dag.now frozen.now b before.now members.now }
+    requires place { IsPlace dag.now b place.now.pair place.now.second place.now.end
+        place.now.above place.now.free }
+    requires listed { place.now.pair < length (pairs_of dag.now) }
+    requires inside { place.now.pair < length frozen.now.pluses }
+    requires rows { IsOld dag.now before.now members.now place.now.pair pool.old entry }
+    requires few { place.now.pair < length saved.old → (r : ℕ) → count_of pool.old r + 2 < 2 ^ 32 }
+    requires sum { (x y : ℕ) → slice_get (pairs_of dag.now) place.now.pair ≡ Some (x, y) →
+        IsSum (graph_of dag.now) before.now x y sum }
+    ensures rows { IsNew dag.now before.now members.now place.now.pair pool.new entry result.rows }
+    ensures step { IsSavingStep pool.old pool.new place.now.pair (Some entry) (Some result.rows)
+        saved.old saved.new }
+    ensures gain { (x y : ℕ) → slice_get (pairs_of dag.now) place.now.pair ≡ Some (x, y) →
+        IfSome result.gain (IsGain (graph_of dag.now) before.now members.now x y) }
+{
+    let (x, _) = dag.pair(place.pair);
+    let own = joining_vote(dag, frozen, b, place, x);
+    if own == 0 {
+        return Joined {
+            rows: entry,
+            gain: Some(0),
+        };
+    }
+    let pair = place.pair;
+    match asked(dag, pool, members, b, place, x, &entry, own > 0) {
+        Some(todo) => opened_entry(
+            dag, frozen, pool, saved, before, members, b, pair, entry, &todo, own, sum,
+        ),
+        None => Joined {
+            rows: entry,
+            gain: Some(own),
+        },
+    }
+}
