@@ -1,6 +1,6 @@
 //! Blocks without transactions: what the tests of pools, of engines and of lines stand on.
 
-ghost use Rattle.std.specs.Prelude.{IfOk};
+ghost use Rattle.std.specs.Prelude.{◌≡◌, ◌+◌, IfOk, OnOk, length};
 ghost use Rattle.sp_block.specs.Block.{IsGenesis};
 
 use sp_block::{Block, Draft, Parents, draft_bytes, read_block};
@@ -73,19 +73,25 @@ impl Numbered {
     }
 
     /// One block more, whose salt is its number.
-    pub fn add(&mut self, parents: &[usize]) -> Result<(), Fail> {
+    pub fn add(&mut self, parents: &[usize]) -> Result<(), Fail>
+        ensures { OnOk result (length self.new.ids.items ≡ length self.old.ids.items + 1) }
+    {
         let number = self.ids.len() as u64;
         self.put(number, 0, parents)
     }
 
     /// One block more of a salt that others may have. Its nonce is its number, so that two blocks of one
     /// salt on the same parents differ.
-    pub fn add_salted(&mut self, salt: u64, parents: &[usize]) -> Result<(), Fail> {
+    pub fn add_salted(&mut self, salt: u64, parents: &[usize]) -> Result<(), Fail>
+        ensures { OnOk result (length self.new.ids.items ≡ length self.old.ids.items + 1) }
+    {
         let number = self.ids.len() as u64;
         self.put(salt, number, parents)
     }
 
-    fn put(&mut self, salt: u64, nonce: u64, parents: &[usize]) -> Result<(), Fail> {
+    fn put(&mut self, salt: u64, nonce: u64, parents: &[usize]) -> Result<(), Fail>
+        ensures { OnOk result (length self.new.ids.items ≡ length self.old.ids.items + 1) }
+    {
         let mut ids = Vec::new(self.alloc);
         for parent in parents {
             ids.push(self.id(*parent))?;

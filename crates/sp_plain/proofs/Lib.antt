@@ -3,3 +3,4 @@ pub mod Ranges
 pub mod Cases
 pub mod Entries
 pub mod Stays
+pub mod FirstNumbers

@@ -3,14 +3,16 @@
 //! written down as they are read.
 //!
 //! It is the slow reference, clear before fast: tests compare other votes with it. `plain_votes` begins anew each
-//! time, and a `Plain` keeps the matrices of pasts as its graph grows.
+//! time, and a `Plain` keeps the matrices of pasts as its graph grows. `first_blocks` is such a set.
 #![tactic(auto)]
 
 mod ballots;
+mod firsts;
 mod grown;
 mod matrix;
 mod plain;
 
+pub use firsts::first_blocks;
 pub use grown::Plain;
 pub use matrix::Matrix;
 pub use plain::plain_votes;

@@ -1,14 +1,9 @@
 //! Virtual votes of small graphs, worked out by hand.
 
-ghost use Rattle.std.specs.Prelude.{◌≤◌, length};
-ghost use Rattle.sp_dag.specs.Numbered.{graph_of};
-ghost use Rattle.sp_plain.specs.Plain.{IsClosed};
-
-use sp_bits::Row as Places;
 use sp_dag::Dag;
 use sp_fixtures::graph::{add, id};
 use sp_model::Profile;
-use sp_plain::plain_votes;
+use sp_plain::{first_blocks, plain_votes};
 use std::alloc::Global;
 use std::test::Fail;
 
@@ -69,25 +64,11 @@ fn dag_of(alloc: Global, blocks: Graph) -> Result<Dag, Fail> {
     Ok(dag)
 }
 
-/// So many first blocks.
-fn first(dag: &Dag, count: u16) -> Places
-    requires { count ≤ length dag.now.parents }
-    ensures { IsClosed (graph_of dag.now) (length dag.now.parents) result }
-{
-    // Tells the proof that the blocks stand in order.
-    let _blocks = dag.len();
-    let mut row = Places::empty();
-    for number in 0..count {
-        row.set(number);
-    }
-    row
-}
-
 fn vote(alloc: Global, dag: &Dag, count: u16, x: u16, y: u16) -> Result<i8, Fail> {
     if count > dag.len() || x >= dag.len() || y >= dag.len() {
         return Err("no such block".into());
     }
-    let matrix = plain_votes(alloc, dag, &first(dag, count))?;
+    let matrix = plain_votes(alloc, dag, &first_blocks(dag, count))?;
     Ok(matrix.vote(x, y))
 }
 

@@ -5,13 +5,11 @@
 //! `pairs` those of each two blocks of graphs that are made and drawn. `reading` tests bytes that are no
 //! certificate, `hostile` certificates that show nothing, and `one_byte` each other value of each byte of
 //! one that does. `engine` makes engines and asks them for certificates, `bytes` writes, reads and judges
-//! them, `drawn` draws graphs, and `rows` judges a table's row.
+//! them, and `rows` judges a table's row.
 #![tactic(auto)]
 
 #[cfg(test)]
 mod bytes;
-#[cfg(test)]
-mod drawn;
 #[cfg(test)]
 mod engine;
 #[cfg(test)]

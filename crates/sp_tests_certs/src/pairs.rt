@@ -3,12 +3,12 @@
 //! another sign it is refused.
 
 use crate::bytes::{Told, said, written};
-use crate::drawn::{Shape, graph};
 use crate::engine::{certificate_of, engine_of};
 use crate::rows::holds;
 use sp_engine::Engine;
 use sp_feed::Message;
 use sp_fixtures::Numbered;
+use sp_fixtures::drawn::{Shape, graph};
 use sp_ids::BlockId;
 use sp_make::make;
 use sp_model::{Profile, Word};

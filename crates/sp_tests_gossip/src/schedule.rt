@@ -2,9 +2,8 @@
 //! another order. Beside each node stands an engine to which the same bytes arrive, one by one: what
 //! arrives there, and which packets are sent, is worked out here from the engines' answers alone.
 
-ghost use Rattle.std.specs.Prelude.{◌<◌};
-
 use sp_engine::{Answer, Engine};
+use sp_fixtures::drawn::Draws;
 use sp_fixtures::{GENESIS, Numbered, genesis_of};
 use sp_gossip::{Event, Kind, Net, Step};
 use sp_model::Profile;
@@ -63,27 +62,9 @@ impl Drop for World {
     }
 }
 
-/// Numbers that seem to have no order, each from the one before it.
-#[derive(Drop)]
-struct Draws {
-    last: u64,
-}
-
-impl Draws {
-    /// A number below the count.
-    fn below(&mut self, count: usize) -> usize
-        requires { 0 < count }
-        ensures { result < count }
-    {
-        let next = self.last.wrapping_mul(6_364_136_223_846_793_005);
-        self.last = next.wrapping_add(1_442_695_040_888_963_407);
-        (self.last >> 33) as usize % count
-    }
-
-    /// The number of a node.
-    fn node(&mut self) -> u8 {
-        self.below(NODES as usize) as u8
-    }
+/// The number of a node.
+fn node(draws: &mut Draws) -> u8 {
+    draws.below(NODES as usize) as u8
 }
 
 /// Blocks on one or two of the six before them, with three salts.
@@ -285,7 +266,7 @@ impl World {
     /// One of three things happens; a block is made while there are any that weren't.
     fn goes_on(&mut self, net: &mut Net, draws: &mut Draws, made: usize) -> Result<usize, Fail> {
         let what = draws.below(8);
-        let (node, other) = (draws.node(), draws.node());
+        let (node, other) = (node(draws), node(draws));
         if what < 2 && made < BLOCKS {
             let number = made.saturating_add(1);
             self.make(net, node, number)?;

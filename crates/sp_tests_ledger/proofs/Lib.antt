@@ -1,4 +1,3 @@
 pub mod Prepared
-pub mod FirstBlocks
 pub mod Decided
 pub mod Differing

@@ -3,8 +3,8 @@
 ghost use Rattle.std.specs.Prelude.{◌<◌};
 
 use crate::blocks::Blocks;
-use crate::drawn::{Draws, Shape, drawn};
 use crate::payments::{ALICE, BOB, CAROL, DAVE, EVE, Paid, grant, spend};
+use sp_fixtures::drawn::{Draws, Shape, parents_of};
 use sp_ids::{Outpoint, TxId};
 use sp_tx::{Tx, Txs, id};
 use std::alloc::Global;
@@ -155,7 +155,7 @@ fn go_on(
     draws: &mut Draws,
     shape: &Shape,
 ) -> Result<(), Fail> {
-    let parents = drawn(purses.alloc, draws, shape, blocks.count())?;
+    let parents = parents_of(purses.alloc, draws, shape, blocks.count())?;
     let chosen = purses.some(draws, 4)?;
     let txs = txs_of(purses.alloc, &chosen)?;
     purses.add_all(&chosen)?;

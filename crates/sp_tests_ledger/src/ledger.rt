@@ -1,9 +1,7 @@
 //! Blocks with their carriers, and which of these are accepted: what the tests decide on, anew or by
 //! what changed.
 
-ghost use Rattle.std.specs.Bool.{OnTrue};
-ghost use Rattle.std.specs.Prelude.{◌≡◌, ◌++◌, ◌∷◌, [], ℕ, List, All, IsTrue, OnOk, OnErr};
-ghost use Rattle.sp_model.specs.Graph.{has};
+ghost use Rattle.std.specs.Prelude.{◌≡◌, ◌+◌, ℕ, List, OnOk, OnErr};
 ghost use Rattle.sp_dag.specs.Numbered.{AreInOrder, IsNumbered, with_next};
 
 use crate::changes::{carriers_below, changed};
@@ -11,7 +9,7 @@ use crate::plain::votes_of_first;
 use crate::voted::VotedOrder;
 use sp_accept::Accepted;
 use sp_carry::{Carriers, Flip};
-use sp_dag::Dag;
+use sp_fixtures::graph::check_new;
 use sp_ids::{BlockId, TxId};
 use sp_model::Profile;
 use sp_money::Purse;
@@ -20,12 +18,6 @@ use sp_tx::Txs;
 use std::alloc::Global;
 use std::marker::Model;
 use std::test::Fail;
-
-fn are_in(dag: &Dag, ids: &[BlockId]) -> bool
-    ensures { OnTrue result (All (λ id. IsTrue (has dag.now.ids id)) ids.now) }
-{
-    ids.iter().all(|id| dag.number(id).is_some())
-}
 
 /// Adds a block on others that are there.
 fn stand(plain: &mut Plain, new: BlockId, parents: &[BlockId]) -> Result<(), Fail>
@@ -36,12 +28,9 @@ fn stand(plain: &mut Plain, new: BlockId, parents: &[BlockId]) -> Result<(), Fai
     ensures err { OnErr result (plain.new ≡ plain.old) }
 {
     let dag = plain.dag();
-    if dag.number(&new).is_some() || !are_in(dag, parents) {
-        return Err("known, or on an unknown parent".into());
-    }
-    if dag.len() >= 512 || parents.is_empty() {
-        return Err("too many blocks, or no parent".into());
-    }
+    // Tells the proof that the blocks are numbered.
+    let _before = dag.len();
+    check_new(dag, &new, parents)?;
     plain.add(new, 0, parents)?;
     // Tells the proof that the blocks stand in order.
     let _blocks = plain.dag().len();
@@ -117,7 +106,9 @@ impl Ledger {
     }
 
     /// How many blocks there are.
-    pub fn blocks(&self) -> u16 {
+    pub fn blocks(&self) -> u16
+        ensures { result ≡ self.now }
+    {
         self.plain.dag().len()
     }
 
@@ -126,13 +117,17 @@ impl Ledger {
         self.carriers.block_count()
     }
 
-    fn stand(&mut self, new: BlockId, parents: &[BlockId]) -> Result<(), Fail> {
+    fn stand(&mut self, new: BlockId, parents: &[BlockId]) -> Result<(), Fail>
+        ensures { OnOk result (self.new ≡ self.old + 1) }
+    {
         stand(&mut self.plain, new, parents)?;
         Ok(())
     }
 
     /// The next block carries these.
-    pub fn carry(&mut self, txs: &Txs) -> Result<(), Fail> {
+    pub fn carry(&mut self, txs: &Txs) -> Result<(), Fail>
+        ensures { self.new ≡ self.old }
+    {
         let number = self.carriers.block_count();
         if number >= self.plain.dag().len() || txs.as_slice().len() > 256 {
             return Err("no such block, or too many transactions".into());
@@ -144,13 +139,17 @@ impl Ledger {
     }
 
     /// Adds a block on others, which carries these.
-    pub fn add(&mut self, new: BlockId, parents: &[BlockId], txs: &Txs) -> Result<(), Fail> {
+    pub fn add(&mut self, new: BlockId, parents: &[BlockId], txs: &Txs) -> Result<(), Fail>
+        ensures { OnOk result (self.new ≡ self.old + 1) }
+    {
         self.stand(new, parents)?;
         self.carry(txs)
     }
 
     /// Decides on all carriers anew, and answers what turned.
-    pub fn rebuild(&mut self) -> Result<Vec<Flip>, Fail> {
+    pub fn rebuild(&mut self) -> Result<Vec<Flip>, Fail>
+        ensures { self.new ≡ self.old }
+    {
         let count = self.carriers.block_count();
         if count != self.plain.dag().len() {
             return Err("a block without its carriers".into());
@@ -167,7 +166,9 @@ impl Ledger {
 
     /// Decides by what changed since the last decision, and answers what turned. It tells these pairs
     /// first, and then those on which the votes turned.
-    pub fn update(&mut self, others: &[(u16, u16)]) -> Result<Vec<Flip>, Fail> {
+    pub fn update(&mut self, others: &[(u16, u16)]) -> Result<Vec<Flip>, Fail>
+        ensures { self.new ≡ self.old }
+    {
         let count = self.carriers.block_count();
         if count != self.plain.dag().len() {
             return Err("a block without its carriers".into());
@@ -187,7 +188,9 @@ impl Ledger {
     }
 
     /// Decides on all carriers by a new acceptance, and pays by a new purse.
-    pub fn anew(&mut self) -> Result<Anew, Fail> {
+    pub fn anew(&mut self) -> Result<Anew, Fail>
+        ensures { self.new ≡ self.old }
+    {
         let count = self.carriers.block_count();
         if count != self.plain.dag().len() {
             return Err("a block without its carriers".into());

@@ -14,7 +14,7 @@
 //!
 //! `arrival_rows`, `acceptance_rows`, `balance_rows`, `purse_rows` and `turn_rows` are tables of these.
 //! `engine` makes an engine and runs it, `beside` asks a ledger beside it, `plain` asks the plain votes,
-//! `drawn` draws graphs and `feeds` what their blocks carry, `blocks` makes blocks that carry
+//! `feeds` draws what the blocks of a drawn graph carry, `blocks` makes blocks that carry
 //! transactions, `payments` makes transactions, `left` compares what is left under each lock, and `rows`
 //! judges a table's row. `ledger` decides on carriers, in the order that `voted` has from the votes, and
 //! `changes` says what it is told.
@@ -42,8 +42,6 @@ mod changes;
 mod collisions;
 #[cfg(test)]
 mod contested;
-#[cfg(test)]
-mod drawn;
 #[cfg(test)]
 mod engine;
 #[cfg(test)]

@@ -11,21 +11,9 @@ use sp_dag::Dag;
 use sp_engine::Engine;
 use sp_ids::Memory;
 use sp_model::Word;
-use sp_plain::{Matrix, Plain, plain_votes};
+use sp_plain::{Matrix, Plain, first_blocks, plain_votes};
 use std::alloc::Global;
 use std::test::Fail;
-
-/// The row of all numbers below the count.
-fn row_below(count: u16) -> Row
-    requires { count ≤ 512 }
-    ensures { result ≡ range_with_len 0 count }
-{
-    let mut row = Row::empty();
-    for number in 0..count {
-        row.set(number);
-    }
-    row
-}
 
 /// The virtual votes of the first blocks, as many as the count, on each two of all.
 pub fn votes_of_first(plain: &mut Plain, count: u16) -> Result<Matrix, Memory>
@@ -34,9 +22,7 @@ pub fn votes_of_first(plain: &mut Plain, count: u16) -> Result<Matrix, Memory>
     ensures votes { IfOk result (HasVirts (graph_of plain.old) (range_with_len 0 count)
         (length plain.old.parents)) }
 {
-    // Tells the proof that the blocks stand in order.
-    let _blocks = plain.dag().len();
-    let members = row_below(count);
+    let members = first_blocks(plain.dag(), count);
     plain.votes(&members)
 }
 
@@ -45,7 +31,7 @@ pub fn votes_of_all(alloc: Global, dag: &Dag) -> Result<Matrix, Memory>
     ensures { IfOk result
         (HasVirts (graph_of dag.now) (numbers dag.now) (length dag.now.parents)) }
 {
-    let members = row_below(dag.len());
+    let members = first_blocks(dag, dag.len());
     plain_votes(alloc, dag, &members)
 }
 

@@ -4,7 +4,6 @@
 use crate::acceptance::{counts, listed};
 use crate::beside::{decide, ledger_of};
 use crate::blocks::Blocks;
-use crate::drawn::{Shape, order};
 use crate::engine::{engine_of, offer};
 use crate::feeds::feed;
 use crate::ledger::Ledger;
@@ -12,6 +11,7 @@ use crate::rows::holds;
 use crate::votes::engine_of_scene;
 use sp_engine::Engine;
 use sp_feed::Message;
+use sp_fixtures::drawn::{Shape, order};
 use sp_make::make;
 use sp_play::Scene;
 use std::alloc::Global;

@@ -2,13 +2,13 @@
 //! graph that it has: graphs that are drawn, whose blocks come in three orders to an engine of either
 //! profile, and the blocks of a made scenario.
 
-use crate::drawn::{Shape, graph, order};
 use crate::engine::{engine_in, engine_of, offer};
 use crate::plain::{all_agree, views_are_right};
 use crate::rows::holds;
 use sp_engine::Engine;
 use sp_feed::Message;
 use sp_fixtures::Numbered;
+use sp_fixtures::drawn::{Shape, graph, order};
 use sp_make::make;
 use sp_model::Profile;
 use sp_play::Scene;

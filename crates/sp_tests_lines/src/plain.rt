@@ -65,7 +65,9 @@ impl PlainNode {
     }
 
     /// The engine.
-    pub fn engine(&self) -> &Engine {
+    pub fn engine(&self) -> &Engine
+        ensures { result.now.kept ≡ self.now.kept }
+    {
         self.node.engine()
     }
 }

@@ -93,7 +93,9 @@ impl Served {
     }
 
     /// The engine.
-    pub fn engine(&self) -> &Engine {
+    pub fn engine(&self) -> &Engine
+        ensures { result.now.kept ≡ self.now.kept }
+    {
         self.node.engine()
     }
 

@@ -1,19 +1,12 @@
 //! A graph of plain votes that grows beside an engine, so that what the engine says can be compared
 //! with them after each arrival.
 
-ghost use Rattle.std.specs.Bool.{OnTrue};
-ghost use Rattle.std.specs.Prelude.{◌≡◌, All, IfOk, IsTrue, length};
-ghost use Rattle.sp_model.specs.Graph.{has};
-ghost use Rattle.sp_dag.specs.Numbered.{graph_of};
-ghost use Rattle.sp_plain.specs.Plain.{IsClosed};
-
 use crate::signs::{Votes, has_votes, signs_of};
-use sp_bits::Row;
-use sp_dag::Dag;
 use sp_engine::Engine;
+use sp_fixtures::graph::check_new;
 use sp_ids::BlockId;
 use sp_model::Profile;
-use sp_plain::Plain;
+use sp_plain::{Plain, first_blocks};
 use std::alloc::Global;
 use std::test::Fail;
 
@@ -23,46 +16,19 @@ pub(crate) fn beside(alloc: Global, engine: &Engine, profile: Profile) -> Result
     Ok(Plain::new(alloc, genesis.id, genesis.salt, profile)?)
 }
 
-fn are_in(dag: &Dag, ids: &[BlockId]) -> bool
-    ensures { OnTrue result (All (λ id. IsTrue (has dag.now.ids id)) ids.now) }
-{
-    ids.iter().all(|id| dag.number(id).is_some())
-}
-
-/// Adds a block on others that are there.
-fn stand(plain: &mut Plain, id: BlockId, salt: u64, parents: &[BlockId]) -> Result<(), Fail> {
-    let dag = plain.dag();
-    if dag.number(&id).is_some() || !are_in(dag, parents) {
-        return Err("known, or on an unknown parent".into());
-    }
-    if dag.len() >= 512 || parents.is_empty() {
-        return Err("too many blocks, or no parent".into());
-    }
-    plain.add(id, salt, parents)?;
-    Ok(())
-}
-
 /// Adds a block that the engine keeps.
 pub(crate) fn follow(plain: &mut Plain, engine: &Engine, id: BlockId) -> Result<(), Fail> {
     let block = engine.block(&id).ok_or("not kept")?;
-    stand(plain, id, block.salt, block.parents.as_slice())
-}
-
-/// All blocks of a graph.
-fn all_of(dag: &Dag) -> Row
-    ensures { IsClosed (graph_of dag.now) (length dag.now.parents) result }
-{
-    let count = dag.len();
-    let mut row = Row::empty();
-    for number in 0..count {
-        row.set(number);
-    }
-    row
+    let parents = block.parents.as_slice();
+    check_new(plain.dag(), &id, parents)?;
+    plain.add(id, block.salt, parents)?;
+    Ok(())
 }
 
 /// The plain votes of all blocks on each pair.
 fn votes_of_all(alloc: Global, plain: &mut Plain) -> Result<Votes, Fail> {
-    let members = all_of(plain.dag());
+    let dag = plain.dag();
+    let members = first_blocks(dag, dag.len());
     let matrix = plain.votes(&members)?;
     Ok(signs_of(alloc, plain.dag(), &members, &matrix)?)
 }
