@@ -15,13 +15,16 @@ earlier tx (Some n) = cond (nat_lt n tx) (Some n) None
 abbrev pub source_in : List Transaction → ℕ → Input → Option ℕ
 source_in txs tx input = earlier tx (position (nat_eq input.from.tx) (map id_of txs))
 
+-- whether there is such a number
 abbrev pub is_there : Option ℕ → Bool
 is_there None = false
 is_there (Some n) = true
 
+-- whether an input names a transaction of a lower number
 abbrev pub has_source_in : List Transaction → ℕ → Input → Bool
 has_source_in txs tx input = is_there (source_in txs tx input)
 
+-- the number of that one, and 0 where there is none
 abbrev pub source_or_none : List Transaction → ℕ → Input → ℕ
 source_or_none txs tx input = unwrap_or (source_in txs tx input) 0
 

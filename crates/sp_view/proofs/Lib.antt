@@ -25,6 +25,7 @@ pub mod Bests
 pub mod Derived
 pub mod Starting
 pub mod Following
+pub mod Risen
 pub mod Seen
 pub mod Alike
 pub mod Lone

@@ -17,12 +17,12 @@ use Rattle.sp_view.proofs.JoinedRows.{plus_one, minus_one}
 use Rattle.sp_view.proofs.Members.{row_distinct}
 use Rattle.sp_view.proofs.Several.{vote_before, votes_rise, votes_fall, AreAllUp, AreAllDown}
 
-not_down : (v : ℤ) → sgn v ≡ v → is_minus v ≡ false → pos 0 ≤ℤ v
+pub not_down : (v : ℤ) → sgn v ≡ v → is_minus v ≡ false → pos 0 ≤ℤ v
 not_down (negsuc zero) e m = absurd (false≢true (sym m))
 not_down (negsuc (suc n)) e m = (let s : negsuc 0 ≡ negsuc (suc n) = e in absurd (omega (arith, ints)))
 not_down (pos n) e m = omega (arith, ints)
 
-not_up : (v : ℤ) → sgn v ≡ v → is_plus v ≡ false → v ≤ℤ pos 0
+pub not_up : (v : ℤ) → sgn v ≡ v → is_plus v ≡ false → v ≤ℤ pos 0
 not_up (negsuc n) e p = omega (arith, ints)
 not_up (pos zero) e p = omega (arith, ints)
 not_up (pos (suc zero)) e p = absurd (false≢true (sym p))

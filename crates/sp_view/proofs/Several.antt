@@ -1,13 +1,13 @@
 -- Several blocks that join a set at once: which votes they change, and in which direction.
-use Rattle.std.proofs.Common.{◌≡◌, ◌≢◌, ℕ, Bool, true, false, cond, ◌||◌, List, [], ◌∷◌, refl, sym, ap, ◌∙◌, eqb, inl, inr, arith}
-use Rattle.std.specs.Prelude.{ℤ, pos, not, filter, ◌≤ℤ◌, ◌+ℤ◌, neg_ℤ}
+use Rattle.std.proofs.Common.{◌≡◌, ◌≢◌, ℕ, zero, suc, Bool, true, false, cond, ◌||◌, List, [], ◌∷◌, refl, sym, ap, ◌∙◌, eqb, inl, inr, arith}
+use Rattle.std.specs.Prelude.{ℤ, pos, negsuc, not, filter, ◌≤ℤ◌, ◌+ℤ◌, neg_ℤ}
 use Rattle.std.proofs.lemmas.Int.{ints}
 use Rattle.std.proofs.lemmas.Bool.{false≢true, eqb-true, eq-eqb, or_left, or_right, cases_Bool}
 use Rattle.sp_model.specs.Graph.{Graph, AreDistinct, IsDownset, has, in_past, future}
-use Rattle.sp_model.specs.Votes.{total, vote}
+use Rattle.sp_model.specs.Votes.{sgn, total, vote}
 use Rattle.sp_model.specs.Loose.{in_bar, is_loose}
 use Rattle.sp_model.proofs.Sets.{has-filter, has-filter_from}
-use Rattle.sp_model.proofs.Match.{distinct_filter}
+use Rattle.sp_model.proofs.Match.{distinct_filter, total_without}
 use Rattle.sp_model.proofs.Joined.{total_members, total_grows, sgn_grows}
 use Rattle.sp_model.proofs.Exchange.{vote_neg}
 use Rattle.sp_model.proofs.Pasts.{past_trans}
@@ -29,6 +29,15 @@ total_cond test f (x ∷ xs) = at (test x) (total_cond test f xs)
 
 same_le : (m n : ℤ) → m ≡ n → m ≤ℤ n
 same_le m n e = omega (arith, ints, e)
+
+sgn_above : (n : ℤ) → pos 1 ≤ℤ n → sgn n ≡ pos 1
+sgn_above (negsuc n) h = absurd (omega (arith, ints, h))
+sgn_above (pos zero) h = absurd (omega (arith, ints, h))
+sgn_above (pos (suc n)) h = refl
+
+sgn_least : (n : ℤ) → pos 0 ≤ℤ sgn n → pos 0 ≤ℤ n
+sgn_least (negsuc n) h = absurd (omega (arith, ints, h))
+sgn_least (pos n) h = omega (arith, ints)
 
 module _ (g : Graph) (s t : List ℕ) (down : IsDownset g s) (down' : IsDownset g t) (distinct : AreDistinct s) (distinct' : AreDistinct t)
     (into : (z : ℕ) → has s z ≡ true → has t z ≡ true) where
@@ -93,6 +102,45 @@ module _ (g : Graph) (s t : List ℕ) (down : IsDownset g s) (down' : IsDownset 
             loose_step z (has s z) member loose (omega (arith, ints, grows, same)) refl)
         | inr frozen ↦ frozen_step z (has s z) member up frozen refl
       ]
+
+  -- A loose vote for x or for neither becomes one for y where a block that joins, and that has the voter in its past, votes for y.
+  pub rises : (x y z b : ℕ) → has t z ≡ true → is_loose g z x y ≡ true → AreAllUp x y z → has t b ≡ true → has s b ≡ false → in_past g z b ≡ true
+      → vote g t b x y ≡ pos 1 → pos 0 ≤ℤ vote_before g s x y z → vote g t z x y ≡ pos 1
+  rises x y z b member loose up there new below one least =
+      loose_vote g t z x y down' member loose
+      ∙ sgn_above (total (λ w. vote g t w x y) (future g t z)) (omega (arith, ints, rest, old_split, new_split, old_none, one, same, sums (has s z) refl least))
+    where
+      above : has (future g t z) b ≡ true
+      above = has-filter_from (λ w. in_past g z w) t b there below
+
+      d : AreDistinct (future g t z)
+      d = distinct_filter (λ w. in_past g z w) t distinct'
+
+      others : List ℕ
+      others = filter (λ w. not (eqb w b)) (future g t z)
+
+      rest : total (vote_before g s x y) others ≤ℤ total (λ w. vote g t w x y) others
+      rest =
+          total_grows (vote_before g s x y) (λ w. vote g t w x y) others
+          (λ w h. (let into : has (future g t z) w ≡ true = (has-filter (λ w. not (eqb w b)) (future g t z) w h).0 in
+          votes_rise x y w (has-filter (λ w. in_past g z w) t w into).0 (above_up x y z w into up)))
+
+      old_split : total (vote_before g s x y) (future g t z) ≡ vote_before g s x y b +ℤ total (vote_before g s x y) others
+      old_split = total_without (vote_before g s x y) (future g t z) b d above
+
+      new_split : total (λ w. vote g t w x y) (future g t z) ≡ vote g t b x y +ℤ total (λ w. vote g t w x y) others
+      new_split = total_without (λ w. vote g t w x y) (future g t z) b d above
+
+      old_none : vote_before g s x y b ≡ pos 0
+      old_none = ap (λ (m : Bool). cond m (vote g s b x y) (pos 0)) new
+
+      same : total (vote_before g s x y) (future g t z) ≡ total (λ w. vote g s w x y) (future g s z)
+      same = sum_before x y z
+
+      sums : (m : Bool) → has s z ≡ m → pos 0 ≤ℤ cond m (vote g s z x y) (pos 0) → pos 0 ≤ℤ total (λ w. vote g s w x y) (future g s z)
+      sums true e least =
+          sgn_least (total (λ w. vote g s w x y) (future g s z)) (let told : vote g s z x y ≡ sgn (total (λ w. vote g s w x y) (future g s z)) = loose_vote g s z x y down e loose in omega (arith, ints, told, least))
+      sums false e least = (let none : total (λ w. vote g s w x y) (future g s z) ≡ pos 0 = none_before x y z e in omega (arith, ints, none))
 
   -- no frozen block that joins, and that is this one or has it in its past, votes for y
   abbrev pub AreAllDown : ℕ → ℕ → ℕ → Type 0

@@ -3,7 +3,7 @@
 
 ghost use Rattle.std.specs.Prelude.{◌≡◌, ◌<◌, ◌≤◌, ◌&&◌, ◌↔◌, [], ℕ, List, length, IsTrue, if◌then◌else◌, slice_get, unwrap_or, Some, pos, negsuc};
 ghost use Rattle.sp_bits.specs.Places.{difference, IsRow};
-ghost use Rattle.sp_model.specs.Graph.{has};
+ghost use Rattle.sp_model.specs.Graph.{has, in_past};
 ghost use Rattle.sp_model.specs.Joining.{Joins};
 ghost use Rattle.sp_model.specs.Votes.{vote};
 ghost use Rattle.sp_dag.specs.Numbered.{graph_of, pairs_of};
@@ -54,6 +54,7 @@ pub(crate) fn asked(
     requires pair { slice_get (pairs_of dag.now) place.now.pair ≡ Some (x, place.now.second) }
     requires live { (r : ℕ) → holds (Some entry.now) r ≤ count_of pool.now r }
     ensures within { (z : ℕ) → IsTrue (has (unwrap_or result []) z) → IsTrue (has members.now z) }
+    ensures below { (z : ℕ) → IsTrue (has (unwrap_or result []) z) → IsTrue (in_past (graph_of dag.now) z b) }
     ensures kept { (before : List ℕ) (x y : ℕ) →
         slice_get (pairs_of dag.now) place.now.pair ≡ Some (x, y) →
         Joins (graph_of dag.now) b before members.now → IsRow before →

@@ -1,7 +1,8 @@
 //! The rows of a pair that was inside a set before a block joined, and what comes to the sum of its votes, where that is known.
 
-ghost use Rattle.std.specs.Prelude.{◌≡◌, ◌<◌, ◌+◌, ◌^◌, ℕ, length, IfSome, slice_get, Some};
+ghost use Rattle.std.specs.Prelude.{◌≡◌, ◌≢◌, ◌<◌, ◌+◌, ◌^◌, ℕ, length, IsTrue, IfSome, slice_get, Some, pos};
 ghost use Rattle.sp_dag.specs.Numbered.{graph_of, pairs_of};
+ghost use Rattle.sp_model.specs.Graph.{has, in_past};
 ghost use Rattle.sp_model.specs.Votes.{vote};
 ghost use Rattle.sp_view.specs.Gained.{IsGain};
 ghost use Rattle.sp_view.specs.Idle.{IsPlace};
@@ -31,8 +32,9 @@ pub(crate) struct Joined {
     pub(crate) gain: Option<i32>,
 }
 
-// Those of a pair on which the votes of `todo` are asked anew, and on which the vote of the block is given. By the sum before,
-// where one is kept, the vote of genesis is told, if it alone is asked. The entry is saved before it changes.
+// Those of a pair on which the votes of `todo`, which the block has in its past, are asked anew, and on which the block's own
+// vote is given, which isn't 0. By the sum before, where one is kept, the vote of genesis is told, if it alone is asked. The
+// entry is saved before it changes.
 fn opened_entry(
     dag: &Dag,
     frozen: &Frozen,
@@ -55,8 +57,10 @@ fn opened_entry(
     requires sum { (x y : ℕ) → slice_get (pairs_of dag.now) pair ≡ Some (x, y) →
         IsSum (graph_of dag.now) before.now x y sum }
     requires few { pair < length saved.old → (r : ℕ) → count_of pool.old r + 2 < 2 ^ 32 }
+    requires below { (z : ℕ) → IsTrue (has todo.now z) → IsTrue (in_past (graph_of dag.now) z b) }
     requires own { (x y : ℕ) → slice_get (pairs_of dag.now) pair ≡ Some (x, y) →
         own ≡ vote (graph_of dag.now) members.now b x y }
+    requires some { own ≢ pos 0 }
     ensures rows { IsNew dag.now before.now members.now pair pool.new entry result.rows }
     ensures step { IsSavingStep pool.old pool.new pair (Some entry) (Some result.rows) saved.old saved.new }
     ensures gain { (x y : ℕ) → slice_get (pairs_of dag.now) pair ≡ Some (x, y) →
@@ -81,7 +85,8 @@ fn opened_entry(
         }
         None => {
             saved.save(pool, pair, &entry);
-            let rows = asked_entry(dag, frozen, pool, before, members, b, pair, entry, todo);
+            let up = own > 0;
+            let rows = asked_entry(dag, frozen, pool, before, members, b, pair, entry, todo, up);
             Joined { rows, gain: None }
         }
     }

@@ -38,7 +38,7 @@ pub(crate) fn bound_on(dag: &Dag, x: u16, y: u16) -> Row
 
 // The loose members that vote +1 and -1 on a pair, by the frozen voters and the kept loose ones,
 // where the votes of `todo` alone are open.
-fn settled_rows(
+pub(crate) fn settled_rows(
     dag: &Dag,
     members: &Row,
     frozen_plus: &Row,

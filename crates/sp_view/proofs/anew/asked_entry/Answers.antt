@@ -17,8 +17,8 @@ written-plus-requires-clause-room c = λ ne.
     let pair = get_or (pairs_of c.args.dag.now) c.args.pair (0, 0) in
     let at : slice_get (pairs_of c.args.dag.now) c.args.pair ≡ Some (pair.0, pair.1) = some_pair (pairs_of c.args.dag.now) c.args.pair c.requires.listed in
     let sides : AreSides g c.args.before.now pair.0 pair.1 (row_of c.args.pool.now c.args.entry.0) (row_of c.args.pool.now c.args.entry.1) = c.requires.rows.sides pair.0 pair.1 at in
-    let new : AreSides g c.args.members.now pair.0 pair.1 c.asked_rows-new.result.plus c.asked_rows-new.result.minus =
-    c.asked_rows-new.ensures pair.0 pair.1 at (c.requires.anew.opened pair.0 pair.1 at, c.requires.anew.kept pair.0 pair.1 at) in
+    let new : AreSides g c.args.members.now pair.0 pair.1 c.risen_rows-new.result.plus c.risen_rows-new.result.minus =
+    c.risen_rows-new.ensures pair.0 pair.1 at in
     omega (
       arith,
       c.requires.rows.room pair.0 pair.1 at,
@@ -31,8 +31,8 @@ written-minus-requires-clause-room c = λ ne.
     let pair = get_or (pairs_of c.args.dag.now) c.args.pair (0, 0) in
     let at : slice_get (pairs_of c.args.dag.now) c.args.pair ≡ Some (pair.0, pair.1) = some_pair (pairs_of c.args.dag.now) c.args.pair c.requires.listed in
     let sides : AreSides g c.args.before.now pair.0 pair.1 (row_of c.args.pool.now c.args.entry.0) (row_of c.args.pool.now c.args.entry.1) = c.requires.rows.sides pair.0 pair.1 at in
-    let new : AreSides g c.args.members.now pair.0 pair.1 c.asked_rows-new.result.plus c.asked_rows-new.result.minus =
-    c.asked_rows-new.ensures pair.0 pair.1 at (c.requires.anew.opened pair.0 pair.1 at, c.requires.anew.kept pair.0 pair.1 at) in
+    let new : AreSides g c.args.members.now pair.0 pair.1 c.risen_rows-new.result.plus c.risen_rows-new.result.minus =
+    c.risen_rows-new.ensures pair.0 pair.1 at in
     let second = second_waits c.args.pool.now c.written-plus.new.pool c.args.entry.0 c.args.entry.1 c.written-plus.result c.written-plus.ensures.written c.requires.rows.counted in
     let other : minus g c.args.before.now pair.0 pair.1 ≢ minus g c.args.members.now pair.0 pair.1 = λ e. ne (new.minus_is ∙ sym e ∙ sym sides.minus_is ∙ sym second) in
     elim (cases_eq c.written-plus.result c.args.entry.0) [
@@ -60,13 +60,13 @@ returns-clause-rows c =
     let second = second_waits c.args.pool.now c.written-plus.new.pool c.args.entry.0 c.args.entry.1 c.written-plus.result c.written-plus.ensures.written c.requires.rows.counted in
     record {
       sides = λ x y at.
-          let new : AreSides (graph_of c.args.dag.now) c.args.members.now x y c.asked_rows-new.result.plus c.asked_rows-new.result.minus =
-          c.asked_rows-new.ensures x y at (c.requires.anew.opened x y at, c.requires.anew.kept x y at) in
+          let new : AreSides (graph_of c.args.dag.now) c.args.members.now x y c.risen_rows-new.result.plus c.risen_rows-new.result.minus =
+          c.risen_rows-new.ensures x y at in
           record { plus_is = first ∙ c.written-plus.ensures.row ∙ new.plus_is; minus_is = c.written-minus.ensures.row ∙ new.minus_is };
       kept = λ x y at.
           let sides : AreSides (graph_of c.args.dag.now) c.args.before.now x y (row_of c.args.pool.now c.args.entry.0) (row_of c.args.pool.now c.args.entry.1) = c.requires.rows.sides x y at in
-          let new : AreSides (graph_of c.args.dag.now) c.args.members.now x y c.asked_rows-new.result.plus c.asked_rows-new.result.minus =
-          c.asked_rows-new.ensures x y at (c.requires.anew.opened x y at, c.requires.anew.kept x y at) in
+          let new : AreSides (graph_of c.args.dag.now) c.args.members.now x y c.risen_rows-new.result.plus c.risen_rows-new.result.minus =
+          c.risen_rows-new.ensures x y at in
           (λ e. c.written-plus.ensures.kept (new.plus_is ∙ sym e ∙ sym sides.plus_is), λ e. c.written-minus.ensures.kept (new.minus_is ∙ sym e ∙ sym sides.minus_is ∙ sym second));
     }
 

@@ -1,6 +1,6 @@
 use Rattle.std.proofs.Common.{◌≡◌, ◌≢◌, ◌∙◌, ◌<◌, ℕ, Bool, true, false, List, [], Some, not, ◌&&◌, cond, ap, arith, length, subst, sym}
 use Rattle.std.specs.Prelude.{pos, negsuc, slice_get}
-use Rattle.std.proofs.lemmas.Bool.{false≢true}
+use Rattle.std.proofs.lemmas.Bool.{false≢true, and_parts}
 use Rattle.std.proofs.lemmas.Int.{ints}
 use Rattle.std.proofs.lemmas.Option.{slice_get_within}
 use Rattle.sp_bits.specs.Places.{difference, IsRow}
@@ -56,6 +56,22 @@ set-requires c =
     let less : c.args.x < c.args.place.now.second = kind.order in
     let within : c.args.place.now.second < length c.args.dag.now.parents = kind.within in
     omega (arith, less, within, c.len-blocks.ensures.numbered.small)
+
+pub returns-then-is_none-clause-below : goal.returns-then-is_none-clause-below
+returns-then-is_none-clause-below c = λ z h. absurd (false≢true h)
+
+pub returns-clause-below : goal.returns-clause-below
+returns-clause-below c =
+    let table : Numbered = c.args.dag.now in
+    let listed : c.args.place.now.pair < length (pairs_of table) = slice_get_within (pairs_of table) c.args.place.now.pair (c.args.x, c.args.place.now.second) c.requires.pair in
+    let told : (z : ℕ) → has c.without.new.self z ≡ ((in_past (graph_of table) z c.args.b && is_loose (graph_of table) z c.args.x c.args.place.now.second) && not (has c.side_of-settled.result z)) =
+    todo_told (graph_of table) c.args.b c.args.x c.args.place.now.second c.args.place.now.free c.side_of-settled.result c.future.result.now c.or_with.new.self c.set.new.self
+    (c.requires.place.free_is listed)
+    (λ z h. (let lower : z < c.args.b = ancestors_lower table z c.args.b c.len-blocks.ensures.numbered.order c.requires.below h in let within : c.args.b < length table.parents = c.requires.below in omega (arith, within, c.len-blocks.ensures.numbered.small)))
+    (λ z. ap (λ (l : List ℕ). has l z) c.future.ensures ∙ future_members table c.args.x z) c.or_with.ensures c.set.ensures c.without.new.self c.without.ensures in
+    λ z h.
+    (and_parts (in_past (graph_of table) z c.args.b) (is_loose (graph_of table) z c.args.x c.args.place.now.second)
+    (and_parts (in_past (graph_of table) z c.args.b && is_loose (graph_of table) z c.args.x c.args.place.now.second) (not (has c.side_of-settled.result z)) (sym (told z) ∙ h)).0).0
 
 pub returns-then-is_none-clause-within : goal.returns-then-is_none-clause-within
 returns-then-is_none-clause-within c = λ z h. absurd (false≢true h)

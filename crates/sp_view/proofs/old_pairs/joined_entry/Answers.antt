@@ -5,7 +5,7 @@ use Rattle.std.proofs.lemmas.Int.{to_z-of_z}
 use Rattle.sp_bits.specs.Places.{difference}
 use Rattle.sp_dag.specs.Numbered.{IsPair, Numbered, graph_of, pairs_of}
 use Rattle.sp_dag.proofs.Ranked.{pair_kind}
-use Rattle.sp_model.specs.Graph.{Graph, has}
+use Rattle.sp_model.specs.Graph.{Graph, has, in_past}
 use Rattle.sp_model.specs.Votes.{vote}
 use Rattle.sp_model.proofs.Joined.{tie_stays}
 use Rattle.sp_model.proofs.Loose.{vote_sign}
@@ -92,6 +92,15 @@ returns-in-None-clause-gain c = λ x y at.
           (c.requires.rows.sides x y at) kept z m refl)
           ∙ ap (λ (n : ℤ). sum_of g c.args.before.now x y +ℤ n) (sym own ∙ sym (to_z-of_z w32 _ f));
     }
+
+pub opened_entry-requires-clause-below : goal.opened_entry-requires-clause-below
+opened_entry-requires-clause-below c =
+    subst (λ (o : Option (List ℕ)). (z : ℕ) → has (unwrap_or o []) z ≡ true → in_past (graph_of c.args.dag.now) z c.args.b ≡ true) c.in-Some.is c.asked.ensures.below
+
+pub opened_entry-requires-clause-some : goal.opened_entry-requires-clause-some
+opened_entry-requires-clause-some c = λ none.
+    let f : FitsSigned w32 c.joining_vote-own.result = search rules in
+    c.if-own-eq0.false (ap (of_z w32) (sym (to_z-of_z w32 _ f) ∙ none))
 
 pub opened_entry-requires-clause-anew : goal.opened_entry-requires-clause-anew
 opened_entry-requires-clause-anew c =

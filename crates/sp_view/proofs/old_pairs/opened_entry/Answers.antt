@@ -8,7 +8,7 @@ use Rattle.sp_model.proofs.Loose.{vote_sign}
 use Rattle.sp_view.specs.Stored.{row_of}
 use Rattle.sp_view.proofs.Held.{keeps_itself, some_pair}
 use Rattle.sp_view.proofs.JoinedSums.{sum_small}
-use Rattle.sp_view.proofs.JoinedVotes.{sign_small}
+use Rattle.sp_view.proofs.JoinedVotes.{sign_small, up_told}
 use Rattle.sp_view.proofs.Keeping.{anew_saved, old_saved}
 use Rattle.sp_view.proofs.Turning.{after_small, before_small, both_votes, kept_small, own_small, root_before, told_by, turn_gain, turn_still}
 use Rattle.sp_view.proofs.old_pairs.opened_entry.Goals as goal
@@ -178,3 +178,10 @@ returns-else-turn-clause-step c = inl (c.save.new.pool, c.save.ensures, c.turned
 
 pub returns-in-None-clause-step : goal.returns-in-None-clause-step
 returns-in-None-clause-step c = inl (c.save-in-None.new.pool, c.save-in-None.ensures, c.asked_entry-rows.ensures.step)
+
+pub asked_entry-rows-requires-clause-vote : goal.asked_entry-rows-requires-clause-vote
+asked_entry-rows-requires-clause-vote c = λ x y at.
+    let f : FitsSigned w32 c.args.own = search rules in
+    up_told (vote (graph_of c.args.dag.now) c.args.members.now c.args.b x y) _ (to_z-of_z w32 _ f ∙ c.requires.own x y at)
+    (vote_sign (graph_of c.args.dag.now) c.args.members.now c.args.b x y c.requires.joined.joins.more_down c.requires.joined.joins.there)
+    (λ none. c.requires.some (c.requires.own x y at ∙ none))

@@ -94,55 +94,40 @@ turned_row-minus-requires-clause-room c = λ ne.
       )
     ]
 
+-- the rows of the larger set
+new_sides : (c : goal.After-turned_row-minus) → (x y : ℕ) → slice_get (pairs_of c.args.dag.now) c.args.pair ≡ Some (x, y)
+    → AreSides (graph_of c.args.dag.now) c.args.members.now x y (row_of c.turned_row-plus.new.pool c.turned_row-plus.result) (row_of c.turned_row-minus.new.pool c.turned_row-minus.result)
+new_sides c x y at =
+    let g : Graph = graph_of c.args.dag.now in
+    let f : FitsSigned w32 c.args.turn.now.before = search rules in
+    let f' : FitsSigned w32 c.args.turn.now.after = search rules in
+    let sides : AreSides g c.args.before.now x y (row_of c.args.pool.now c.args.entry.0) (row_of c.args.pool.now c.args.entry.1) = c.requires.rows.sides x y at in
+    let opened : AreOpen g c.args.members.now x y (has c.args.todo.now) = c.requires.anew.opened x y at in
+    let second = second_waits c.args.pool.now c.turned_row-plus.new.pool c.args.entry.0 c.args.entry.1 c.turned_row-plus.result c.turned_row-plus.ensures.written c.requires.rows.counted in
+    rooted_sides g c.args.members.now x y (row_of c.args.pool.now c.args.entry.0) (row_of c.args.pool.now c.args.entry.1) c.args.todo.now c.args.turn.now.after c.requires.joined.voting.asked
+    opened (c.requires.anew.kept x y at) c.requires.lone (c.requires.votes x y at).1
+    (row_of c.turned_row-plus.new.pool c.turned_row-plus.result) (row_of c.turned_row-minus.new.pool c.turned_row-minus.result) c.turned_row-plus.ensures.row c.turned_row-minus.ensures.row
+    (λ z. c.turned_row-plus.ensures.places z ∙ ap (λ (b : Bool). cond (eqb z 0) b (has (row_of c.args.pool.now c.args.entry.0) z))
+    (plus_is g c.args.before.now c.args.members.now x y (row_of c.args.pool.now c.args.entry.0) (row_of c.args.pool.now c.args.entry.1) c.args.turn.now.before c.args.turn.now.after _ _
+    c.requires.joined.joins.down c.requires.joined.joins.more_down sides c.requires.root (opened.member 0 (c.requires.lone.only 0)) (opened.loose 0 (c.requires.lone.only 0)) (c.requires.votes x y at)
+    (to_z-of_z w32 _ f) (to_z-of_z w32 _ f')))
+    (λ z. c.turned_row-minus.ensures.places z ∙ ap (λ (b : Bool). cond (eqb z 0) b (has (row_of c.turned_row-plus.new.pool c.args.entry.1) z))
+    (minus_is g c.args.before.now c.args.members.now x y (row_of c.args.pool.now c.args.entry.0) (row_of c.args.pool.now c.args.entry.1) c.args.turn.now.before c.args.turn.now.after _ _
+    c.requires.joined.joins.down c.requires.joined.joins.more_down sides c.requires.root (opened.member 0 (c.requires.lone.only 0)) (opened.loose 0 (c.requires.lone.only 0)) (c.requires.votes x y at)
+    (to_z-of_z w32 _ f) (to_z-of_z w32 _ f'))
+    ∙ ap (λ (l : List ℕ). cond (eqb z 0) (is_minus c.args.turn.now.after) (has l z)) second)
+
 pub returns-clause-rows : goal.returns-clause-rows
-returns-clause-rows c = record {
-  sides = λ x y at.
-      let g : Graph = graph_of c.args.dag.now in
-      let f : FitsSigned w32 c.args.turn.now.before = search rules in
-      let f' : FitsSigned w32 c.args.turn.now.after = search rules in
-      let sides : AreSides g c.args.before.now x y (row_of c.args.pool.now c.args.entry.0) (row_of c.args.pool.now c.args.entry.1) = c.requires.rows.sides x y at in
-      let opened : AreOpen g c.args.members.now x y (has c.args.todo.now) = c.requires.anew.opened x y at in
-      let stays = written_first c.args.pool.now c.turned_row-plus.new.pool c.turned_row-minus.new.pool c.args.entry.0 c.args.entry.1 c.turned_row-plus.result c.turned_row-minus.result c.turned_row-plus.ensures.written
-      c.turned_row-minus.ensures.written c.requires.rows.counted in
-      let second = second_waits c.args.pool.now c.turned_row-plus.new.pool c.args.entry.0 c.args.entry.1 c.turned_row-plus.result c.turned_row-plus.ensures.written c.requires.rows.counted in
-      let new : AreSides g c.args.members.now x y (row_of c.turned_row-plus.new.pool c.turned_row-plus.result) (row_of c.turned_row-minus.new.pool c.turned_row-minus.result) =
-      rooted_sides g c.args.members.now x y (row_of c.args.pool.now c.args.entry.0) (row_of c.args.pool.now c.args.entry.1) c.args.todo.now c.args.turn.now.after c.requires.joined.voting.asked
-      opened (c.requires.anew.kept x y at) c.requires.lone (c.requires.votes x y at).1
-      (row_of c.turned_row-plus.new.pool c.turned_row-plus.result) (row_of c.turned_row-minus.new.pool c.turned_row-minus.result) c.turned_row-plus.ensures.row c.turned_row-minus.ensures.row
-      (λ z. c.turned_row-plus.ensures.places z ∙ ap (λ (b : Bool). cond (eqb z 0) b (has (row_of c.args.pool.now c.args.entry.0) z))
-      (plus_is g c.args.before.now c.args.members.now x y (row_of c.args.pool.now c.args.entry.0) (row_of c.args.pool.now c.args.entry.1) c.args.turn.now.before c.args.turn.now.after _ _
-      c.requires.joined.joins.down c.requires.joined.joins.more_down sides c.requires.root (opened.member 0 (c.requires.lone.only 0)) (opened.loose 0 (c.requires.lone.only 0)) (c.requires.votes x y at)
-      (to_z-of_z w32 _ f) (to_z-of_z w32 _ f')))
-      (λ z. c.turned_row-minus.ensures.places z ∙ ap (λ (b : Bool). cond (eqb z 0) b (has (row_of c.turned_row-plus.new.pool c.args.entry.1) z))
-      (minus_is g c.args.before.now c.args.members.now x y (row_of c.args.pool.now c.args.entry.0) (row_of c.args.pool.now c.args.entry.1) c.args.turn.now.before c.args.turn.now.after _ _
-      c.requires.joined.joins.down c.requires.joined.joins.more_down sides c.requires.root (opened.member 0 (c.requires.lone.only 0)) (opened.loose 0 (c.requires.lone.only 0)) (c.requires.votes x y at)
-      (to_z-of_z w32 _ f) (to_z-of_z w32 _ f'))
-      ∙ ap (λ (l : List ℕ). cond (eqb z 0) (is_minus c.args.turn.now.after) (has l z)) second) in
-      record { plus_is = stays ∙ new.plus_is; minus_is = new.minus_is };
-  kept = λ x y at.
-      let g : Graph = graph_of c.args.dag.now in
-      let f : FitsSigned w32 c.args.turn.now.before = search rules in
-      let f' : FitsSigned w32 c.args.turn.now.after = search rules in
-      let sides : AreSides g c.args.before.now x y (row_of c.args.pool.now c.args.entry.0) (row_of c.args.pool.now c.args.entry.1) = c.requires.rows.sides x y at in
-      let opened : AreOpen g c.args.members.now x y (has c.args.todo.now) = c.requires.anew.opened x y at in
-      let stays = written_first c.args.pool.now c.turned_row-plus.new.pool c.turned_row-minus.new.pool c.args.entry.0 c.args.entry.1 c.turned_row-plus.result c.turned_row-minus.result c.turned_row-plus.ensures.written
-      c.turned_row-minus.ensures.written c.requires.rows.counted in
-      let second = second_waits c.args.pool.now c.turned_row-plus.new.pool c.args.entry.0 c.args.entry.1 c.turned_row-plus.result c.turned_row-plus.ensures.written c.requires.rows.counted in
-      let new : AreSides g c.args.members.now x y (row_of c.turned_row-plus.new.pool c.turned_row-plus.result) (row_of c.turned_row-minus.new.pool c.turned_row-minus.result) =
-      rooted_sides g c.args.members.now x y (row_of c.args.pool.now c.args.entry.0) (row_of c.args.pool.now c.args.entry.1) c.args.todo.now c.args.turn.now.after c.requires.joined.voting.asked
-      opened (c.requires.anew.kept x y at) c.requires.lone (c.requires.votes x y at).1
-      (row_of c.turned_row-plus.new.pool c.turned_row-plus.result) (row_of c.turned_row-minus.new.pool c.turned_row-minus.result) c.turned_row-plus.ensures.row c.turned_row-minus.ensures.row
-      (λ z. c.turned_row-plus.ensures.places z ∙ ap (λ (b : Bool). cond (eqb z 0) b (has (row_of c.args.pool.now c.args.entry.0) z))
-      (plus_is g c.args.before.now c.args.members.now x y (row_of c.args.pool.now c.args.entry.0) (row_of c.args.pool.now c.args.entry.1) c.args.turn.now.before c.args.turn.now.after _ _
-      c.requires.joined.joins.down c.requires.joined.joins.more_down sides c.requires.root (opened.member 0 (c.requires.lone.only 0)) (opened.loose 0 (c.requires.lone.only 0)) (c.requires.votes x y at)
-      (to_z-of_z w32 _ f) (to_z-of_z w32 _ f')))
-      (λ z. c.turned_row-minus.ensures.places z ∙ ap (λ (b : Bool). cond (eqb z 0) b (has (row_of c.turned_row-plus.new.pool c.args.entry.1) z))
-      (minus_is g c.args.before.now c.args.members.now x y (row_of c.args.pool.now c.args.entry.0) (row_of c.args.pool.now c.args.entry.1) c.args.turn.now.before c.args.turn.now.after _ _
-      c.requires.joined.joins.down c.requires.joined.joins.more_down sides c.requires.root (opened.member 0 (c.requires.lone.only 0)) (opened.loose 0 (c.requires.lone.only 0)) (c.requires.votes x y at)
-      (to_z-of_z w32 _ f) (to_z-of_z w32 _ f'))
-      ∙ ap (λ (l : List ℕ). cond (eqb z 0) (is_minus c.args.turn.now.after) (has l z)) second) in
-      (λ e. c.turned_row-plus.ensures.kept (new.plus_is ∙ sym e ∙ sym sides.plus_is), λ e. c.turned_row-minus.ensures.kept (new.minus_is ∙ sym e ∙ sym sides.minus_is ∙ sym second));
-}
+returns-clause-rows c =
+    let stays = written_first c.args.pool.now c.turned_row-plus.new.pool c.turned_row-minus.new.pool c.args.entry.0 c.args.entry.1 c.turned_row-plus.result c.turned_row-minus.result c.turned_row-plus.ensures.written
+    c.turned_row-minus.ensures.written c.requires.rows.counted in
+    let second = second_waits c.args.pool.now c.turned_row-plus.new.pool c.args.entry.0 c.args.entry.1 c.turned_row-plus.result c.turned_row-plus.ensures.written c.requires.rows.counted in
+    record {
+      sides = λ x y at. record { plus_is = stays ∙ (new_sides c x y at).plus_is; minus_is = (new_sides c x y at).minus_is };
+      kept = λ x y at.
+          let sides : AreSides (graph_of c.args.dag.now) c.args.before.now x y (row_of c.args.pool.now c.args.entry.0) (row_of c.args.pool.now c.args.entry.1) = c.requires.rows.sides x y at in
+          (λ e. c.turned_row-plus.ensures.kept ((new_sides c x y at).plus_is ∙ sym e ∙ sym sides.plus_is), λ e. c.turned_row-minus.ensures.kept ((new_sides c x y at).minus_is ∙ sym e ∙ sym sides.minus_is ∙ sym second));
+    }
 
 pub returns-clause-step : goal.returns-clause-step
 returns-clause-step c =
