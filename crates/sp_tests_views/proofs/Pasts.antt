@@ -1,6 +1,6 @@
 -- Graphs whose blocks have frozen votes, and sets of blocks that hold the past of each member.
 use Rattle.std.proofs.Common.{◌≡◌, ℕ, ◌<◌, true, List, [], ◌∷◌, ◌++◌, length, get_or, zero, suc, Some, sym, ap, subst, ◌∙◌, arith}
-use Rattle.std.specs.Prelude.{slice_get}
+use Rattle.std.specs.Prelude.{ℤ, slice_get}
 use Rattle.std.specs.List.{list_all}
 use Rattle.sp_bits.specs.Places.{IsRow}
 use Rattle.sp_dag.specs.Numbered.{Numbered, graph_of, pairs_of, AreInOrder, IsNumbered, IsPair, with_next}
@@ -12,8 +12,10 @@ use Rattle.sp_plain.specs.Plain.{IsClosed}
 use Rattle.sp_plain.proofs.Downsets.{past_below, past_closed}
 use Rattle.sp_rows.specs.Pool.{Pool}
 use Rattle.sp_view.specs.Settled.{IsAsked}
+use Rattle.sp_view.specs.Summed.{AreSums}
 use Rattle.sp_view.specs.Views.{AreListed, IsView, Viewed}
 use Rattle.sp_view.proofs.Bests.{within_from}
+use Rattle.sp_view.proofs.KeptSums.{sums_stay}
 use Rattle.sp_view.proofs.Listing.{view_listed}
 use Rattle.sp_view.proofs.Staying.{view_stays}
 use Rattle.sp_tests_views.specs.Voting.{CanVote, IsBased}
@@ -72,6 +74,10 @@ module _ (table more : Numbered) (id salt : ℕ) (parents : List ℕ) (is : more
 
   pub view_beside : (view : Viewed) (pool : Pool) → IsView table view pool → IsView more view pool
   view_beside view pool h = subst (λ (t : Numbered). IsView t view pool) (sym is) (view_stays table id salt parents view pool numbered in_order h)
+
+  pub sums_beside : (view : Viewed) (pool : Pool) (sums : List ℤ) → IsView table view pool → AreSums table view.members sums → AreSums more view.members sums
+  sums_beside view pool sums h are =
+      subst (λ (t : Numbered). AreSums t view.members sums) (sym is) (sums_stay table id salt parents view.members sums numbered in_order h.asked h.below are)
 
 -- each of one id is there
 pub each_there : (ids : List ℕ) (id k d : ℕ) → has ids id ≡ true → k < 1 → has ids (get_or (id ∷ []) k d) ≡ true

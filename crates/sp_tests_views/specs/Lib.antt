@@ -1,2 +1,3 @@
 pub mod Voting
 pub mod Summing
+pub mod Keeping

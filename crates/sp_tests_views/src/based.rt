@@ -1,11 +1,12 @@
 //! A graph that grows with its frozen votes, apart from an engine.
 
-ghost use Rattle.std.specs.Prelude.{◌≡◌, ◌<◌, ◌+◌, ℕ, length, IfOk, IsTrue, OnOk};
+ghost use Rattle.std.specs.Prelude.{◌≡◌, ◌<◌, ◌+◌, ℕ, ℤ, List, length, IfOk, IsTrue, OnOk};
 ghost use Rattle.sp_model.specs.Graph.{has};
 ghost use Rattle.sp_dag.specs.Numbered.{graph_of};
 ghost use Rattle.sp_frozen.specs.Voters.{HoldsFrozen};
 ghost use Rattle.sp_rows.specs.Pool.{Pool};
 ghost use Rattle.sp_view.specs.Settled.{IsAsked};
+ghost use Rattle.sp_view.specs.Summed.{AreSums};
 ghost use Rattle.sp_view.specs.Views.{Viewed, IsView};
 ghost use Rattle.sp_tests_views.specs.Voting.{AreTwo, IsBased};
 
@@ -73,6 +74,9 @@ impl Based {
         ensures based { OnOk result (IsBased self.new.dag self.new.frozen) }
         ensures views { OnOk result ((view : Viewed) (pool : Pool) →
             IsView self.old.dag view pool → IsView self.new.dag view pool) }
+        ensures sums { OnOk result ((view : Viewed) (pool : Pool) (sums : List ℤ) →
+            IsView self.old.dag view pool → AreSums self.old.dag view.members sums →
+            AreSums self.new.dag view.members sums) }
     {
         let new = id(name);
         let on = id(parent);

@@ -10,8 +10,8 @@
 //!
 //! The tests: `small` has graphs worked out by hand, `drawn` graphs that are drawn, `ties` the voters in
 //! these that settle ties, `hostile` shapes of 60 blocks, `orders` what is said in the end in several
-//! orders of arrival, `layer` a block on 64 others, `summed` sums that grow with a view, `shared` two views of
-//! a small graph that share rows, and `refused` what is left where memory is refused.
+//! orders of arrival, `layer` a block on 64 others, `summed` sums that grow with a view, `restored` views that are
+//! put back, `shared` two views of a small graph that share rows, and `refused` what is left where memory is refused.
 #![tactic(auto)]
 
 #[cfg(test)]
@@ -36,6 +36,8 @@ mod orders;
 mod places;
 #[cfg(test)]
 mod refused;
+#[cfg(test)]
+mod restored;
 #[cfg(test)]
 mod rows;
 #[cfg(test)]

@@ -189,7 +189,7 @@ fn said_of(
 }
 
 /// The view of the same set as another one, derived from nothing over a pool without rows.
-fn derived(
+pub(crate) fn derived(
     alloc: Global,
     dag: &Dag,
     frozen: &Frozen,

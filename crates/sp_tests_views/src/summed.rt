@@ -63,20 +63,20 @@ impl Summed {
         )?;
         Ok(())
     }
+}
 
-    /// Whether the signs of the sums are these votes, where there are votes.
-    fn has_signs(&self, dag: &Dag, votes: &[Option<i8>]) -> bool
-        requires { length (pairs_of dag.now) ≤ length self.now.sums }
-    {
-        for pair in 0..dag.pair_count() {
-            if let Some(Some(vote)) = votes.get(pair as usize)
-                && self.sums.virtual_vote(pair) != *vote
-            {
-                return false;
-            }
+/// Whether the signs of sums are these votes, where there are votes.
+pub(crate) fn has_signs(sums: &Sums, dag: &Dag, votes: &[Option<i8>]) -> bool
+    requires { length (pairs_of dag.now) ≤ length sums.now }
+{
+    for pair in 0..dag.pair_count() {
+        if let Some(Some(vote)) = votes.get(pair as usize)
+            && sums.virtual_vote(pair) != *vote
+        {
+            return false;
         }
-        true
     }
+    true
 }
 
 /// The vote on a pair, 0 where there is none.
@@ -124,7 +124,7 @@ fn is_right_with(based: &Based, summed: &mut Summed, b: u16) -> Result<bool, Fai
     let after = plain_votes(based, summed)?;
     let turned = summed.sums.turned(&based.dag, &older)?;
     Ok(
-        summed.has_signs(&based.dag, &after)
+        has_signs(&summed.sums, &based.dag, &after)
             && has_votes(
                 &based.dag,
                 &based.frozen,
@@ -163,7 +163,7 @@ fn grown(alloc: Global, parents: &[u8]) -> Result<Based, Fail>
 }
 
 /// The graphs: two chains in turns, one chain after another, and a tree.
-const GRAPHS: &[&[u8]] = &[
+pub(crate) const GRAPHS: &[&[u8]] = &[
     &[0, 0, 1, 2, 3, 4, 5, 6],
     &[0, 1, 2, 0, 4, 5, 6],
     &[0, 0, 0, 1, 1, 2, 4, 4, 6, 3],
