@@ -1,4 +1,4 @@
--- Beside a block that joins: the blocks of its past that a pair's second block doesn't bind, and those of them that are asked anew.
+-- Beside a block that joins: the blocks of its past that a pair's second block doesn't bind, and those of them whose votes may change.
 use Rattle.std.proofs.Common.{◌≡◌, ℕ, ◌<◌, ◌≤◌, Bool, true, false, ◌||◌, ◌&&◌, List, Some, length, not, refl, sym, ap, ◌∙◌, eqb, inl, inr, arith}
 use Rattle.std.specs.Prelude.{slice_get}
 use Rattle.std.proofs.lemmas.Bool.{and_parts, cases_lt}
@@ -34,7 +34,7 @@ free_told g b y below above one two below_is above_is small e e' z =
     turn true false true = refl
     turn true false false = refl
 
--- ---- those that are asked anew
+-- ---- those whose votes may change
 
 module _ (g : Graph) (b x y : ℕ) (free agree above one two : List ℕ) (free_is : (z : ℕ) → has free z ≡ (in_past g z b && not (in_bar g y z)))
     (small : (z : ℕ) → in_past g z b ≡ true → z < 512) (above_is : (z : ℕ) → has above z ≡ in_past g x z)

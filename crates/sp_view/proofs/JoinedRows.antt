@@ -1,4 +1,4 @@
--- A block that joins a set: which loose voters of a pair are asked anew, and which are kept.
+-- A block that joins a set: the votes of which loose voters of a pair may change, and which are kept.
 use Rattle.std.proofs.Common.{◌≡◌, ◌≢◌, ℕ, zero, suc, ◌<◌, Bool, true, false, cond, ◌&&◌, List, [], refl, sym, ap, ◌∙◌, eqb}
 use Rattle.std.specs.Prelude.{not, ℤ, pos, negsuc, filter}
 use Rattle.std.proofs.lemmas.Bool.{false≢true, eqb-true, eq-eqb, and_parts}
@@ -162,7 +162,7 @@ module _ (g : Graph) (b : ℕ) (s t : List ℕ) (x y : ℕ) (ups downs : List �
           row_small s z row (and_parts (has s z) (is_loose g z x y && votes (vote g s z x y)) (sym (has-filter (λ z. is_loose g z x y && votes (vote g s z x y)) s z) ∙ ap (λ (l : List ℕ). has l z) (sym is) ∙ h)).0
 
 module _ (g : Graph) (s t : List ℕ) (x y : ℕ) (ups downs : List ℕ) (row : IsRow s) (asked : IsAsked g t) (sides : AreSides g s x y ups downs) where
-  -- where none is asked anew, the rows are those before
+  -- where none may change, the rows are those before
   pub unasked_sides : AreKept g t x y (has []) (difference ups []) (difference downs []) → AreSides g t x y ups downs
   unasked_sides kept = record {
     plus_is = sides.plus_is ∙ stay is_plus (ap (λ (l : List ℕ). difference l []) sides.plus_is) kept.plus_is;
@@ -193,7 +193,7 @@ module _ (g : Graph) (s t : List ℕ) (x y : ℕ) (ups downs : List ℕ) (row : 
               ∙ sym (has_difference side [] k (λ h. row_small s k row (and_parts (has s k) (is_loose g k x y && votes (vote g s k x y)) (sym (at k) ∙ h)).0))
               ∙ ap (λ (l : List ℕ). has l k) (sym e) ∙ is k
 
--- those that are asked anew are loose members
+-- those whose votes may change are loose members
 pub open_joined : (g : Graph) (b : ℕ) (t : List ℕ) (x y : ℕ) (agree todo : List ℕ) → IsAsked g t → has t b ≡ true
     → ((z : ℕ) → has todo z ≡ ((in_past g z b && is_loose g z x y) && not (has agree z))) → AreOpen g t x y (has todo)
 open_joined g b t x y agree todo asked there is = record {

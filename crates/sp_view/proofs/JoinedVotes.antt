@@ -120,7 +120,7 @@ module _ (g : Graph) (b : ℕ) (s t : List ℕ) (x y : ℕ) (j : Joins g b s t) 
         total_without (λ z. vote g s z x y) s k j.distinct member,
       )
 
-  -- ---- votes that aren't asked anew
+  -- ---- votes that stay
 
   pub kept_votes : (ups downs todo : List ℕ) → IsRow s → AreSides g s x y ups downs → AreKept g t x y (has todo) (difference ups todo) (difference downs todo)
       → (z : ℕ) → has s z ≡ true → has todo z ≡ false → vote g t z x y ≡ vote g s z x y

@@ -1,4 +1,4 @@
--- A block that joins a set and votes for one side: those of the asked voters that didn't vote for the other side now vote as it does.
+-- A block that joins a set and votes for one side: of the voters whose votes may change, those that didn't vote for the other side now vote as it does.
 use Rattle.std.proofs.Common.{◌≡◌, ◌≢◌, ℕ, ◌<◌, Bool, true, false, cond, ◌||◌, ◌&&◌, List, refl, sym, ap, ◌∙◌, eqb, inl, inr, arith}
 use Rattle.std.specs.Prelude.{not, ℤ, pos, negsuc, filter, ◌≤ℤ◌, neg_ℤ}
 use Rattle.std.proofs.lemmas.Bool.{false≢true, eqb-true, eq-eqb, and_parts, cases_Bool}
@@ -60,7 +60,7 @@ module _ (g : Graph) (b : ℕ) (s t : List ℕ) (j : Joins g b s t) where
 
 -- ---- rows of voters
 
--- The voters of `for` were `agree`, and those of `no` were `opposed`, beside the asked ones. Of the asked voters those that weren't opposed are known to vote `for`.
+-- The voters of `for` were `agree`, and those of `no` were `opposed`, beside those of `todo`. Of these the ones that weren't opposed are known to vote `for`.
 module _ (g : Graph) (t : List ℕ) (x y : ℕ) (for no : ℤ → Bool) (agree opposed todo left : List ℕ) (asked : IsAsked g t) (agree_row : IsRow agree) (opposed_row : IsRow opposed)
     (opened : AreOpen g t x y (has todo)) (left_is : left ≡ meet todo opposed)
     (one_side : (v : ℤ) → for v ≡ true → no v ≡ false)
@@ -113,7 +113,7 @@ module _ (g : Graph) (t : List ℕ) (x y : ℕ) (for no : ℤ → Bool) (agree o
       at true true eo ep = rw (left_at z, eo, ep, opened.member z eo, opened.loose z eo) refl
       at true false eo ep = rw (left_at z, eo, ep, opened.member z eo, opened.loose z eo, one_side (vote g t z x y) (turned z eo ep)) refl
 
--- ---- the asked voters in the past of the block that joins
+-- ---- the voters in the past of the block that joins
 
 module _ (g : Graph) (b : ℕ) (s t : List ℕ) (x y : ℕ) (j : Joins g b s t) (other : x ≢ y) (asked : IsAsked g t) (ups downs todo : List ℕ) (ups_row : IsRow ups) (downs_row : IsRow downs)
     (below : (z : ℕ) → has todo z ≡ true → in_past g z b ≡ true) (sides : AreSides g s x y ups downs) (opened : AreOpen g t x y (has todo))
@@ -121,7 +121,7 @@ module _ (g : Graph) (b : ℕ) (s t : List ℕ) (x y : ℕ) (j : Joins g b s t) 
   before : (z : ℕ) → has todo z ≡ true → has s z ≡ true
   before z h = there_before g b s t j z (opened.member z h) (below z h)
 
-  -- an asked voter that isn't in the row of a side didn't vote for it
+  -- one of them that isn't in the row of a side didn't vote for it
   not_so : (votes : ℤ → Bool) (side : List ℕ) → side ≡ filter (λ z. is_loose g z x y && votes (vote g s z x y)) s → (z : ℕ) → has todo z ≡ true → has side z ≡ false → votes (vote g s z x y) ≡ false
   not_so votes side is z h out =
       sym (ap (λ (m : Bool). m && (is_loose g z x y && votes (vote g s z x y))) (before z h) ∙ ap (λ (l : Bool). l && votes (vote g s z x y)) (opened.loose z h))

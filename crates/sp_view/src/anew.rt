@@ -1,5 +1,6 @@
-//! The rows of an old pair where the votes of some voters are asked anew. Where one block joins, some of these votes are
-//! known without a question.
+//! The rows of an old pair where the votes of some voters may change. Where several blocks join at once, all of these are
+//! asked anew. Where one joins, those that voted for neither side vote as it does, and only those that voted against it are
+//! asked.
 
 ghost use Rattle.std.specs.Prelude.{◌≡◌, ◌≢◌, ◌<◌, ◌≤◌, ℕ, List, length, IsTrue, if◌then◌else◌, slice_get, Some, pos, negsuc};
 ghost use Rattle.sp_bits.specs.Places.{difference};
@@ -58,7 +59,7 @@ pub(crate) fn asked_rows(
     )
 }
 
-// Those of the asked voters whose votes are known where a block joins, which votes +1 on the pair, or else -1, and has them in its
+// The votes of those of `todo` that are known where a block joins, which votes +1 on the pair, or else -1, and has them in its
 // past: each one that didn't vote against it now votes as it does. The votes of all others stay open.
 fn risen(sides: &Sides, todo: &Row, up: bool) -> Known
     ensures within { (z : ℕ) → IsTrue (has result.todo z) → IsTrue (has todo.now z) }
@@ -93,7 +94,7 @@ fn risen(sides: &Sides, todo: &Row, up: bool) -> Known
 }
 
 // The voters of a pair that was inside the set before the block joined, which has those of `todo` in its past and votes +1, or
-// else -1, where their votes are asked anew.
+// else -1, where their votes may change. Those of them are asked that voted against it.
 fn risen_rows(
     dag: &Dag,
     frozen: &Frozen,
@@ -131,8 +132,8 @@ fn risen_rows(
     )
 }
 
-// Writes the rows of a pair that was inside the set before the block joined, where the votes of `todo` are asked anew. The block
-// votes +1, or else -1.
+// Writes the rows of a pair that was inside the set before the block joined, where the votes of `todo` may change. The block
+// votes +1, or else -1, and those of them are asked that voted against it.
 pub(crate) fn asked_entry(
     dag: &Dag,
     frozen: &Frozen,

@@ -1,5 +1,6 @@
-//! Which votes on a pair a block that joins the set asks anew: those of the loose voters in its past
-//! that don't vote as it does. Where there are none, the pair stays as it is.
+//! Which votes on a pair may change when a block joins the set: those of the loose voters in its past that don't vote
+//! as it does. Where there are none, the pair stays as it is. Of the others those that voted for neither side are told by
+//! its vote, and only those that voted against it are asked (`anew.rt`).
 
 ghost use Rattle.std.specs.Prelude.{◌≡◌, ◌<◌, ◌≤◌, ◌&&◌, ◌↔◌, [], ℕ, List, length, IsTrue, if◌then◌else◌, slice_get, unwrap_or, Some, pos, negsuc};
 ghost use Rattle.sp_bits.specs.Places.{difference, IsRow};
@@ -34,8 +35,9 @@ pub(crate) fn is_none(row: &Row) -> bool
     row.highest().is_none()
 }
 
-// The voters of an old pair whose votes are asked anew when block `b` joins, which votes +1 on it, or else -1. Where
-// there are none, the pair stays as it is. The pair's first block is given.
+// The voters of an old pair whose votes may change when block `b` joins, which votes +1 on it, or else -1. Where there are
+// none, the pair stays as it is. The pair's first block is given. Those of them that voted for neither side are told then (`risen`
+// in `anew.rt`), and only those that voted against `b` are asked.
 pub(crate) fn asked(
     dag: &Dag,
     pool: &RowPool,

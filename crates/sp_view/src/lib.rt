@@ -1,5 +1,6 @@
 //! Views: the votes of sets of present blocks, pair by pair, as rows that views share. A view grows
-//! by one block at a time; only the votes that the block can change are asked anew.
+//! by one block at a time; only votes that the block may turn are asked anew, those of voters in its past that voted
+//! against its own.
 #![tactic(auto)]
 
 mod anew;

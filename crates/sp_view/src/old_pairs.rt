@@ -32,8 +32,8 @@ pub(crate) struct Joined {
     pub(crate) gain: Option<i32>,
 }
 
-// Those of a pair on which the votes of `todo`, which the block has in its past, are asked anew, and on which the block's own
-// vote is given, which isn't 0. By the sum before, where one is kept, the vote of genesis is told, if it alone is asked. The
+// Those of a pair on which the votes of `todo`, which the block has in its past, may change, and on which the block's own vote
+// is given, which isn't 0. By the sum before, where one is kept, the vote of genesis is told, if no other vote may change. The
 // entry is saved before it changes.
 fn opened_entry(
     dag: &Dag,

@@ -101,8 +101,7 @@ pub(crate) fn new_rows(
     )
 }
 
-// The loose voters of a pair in a set that a block joined, from those before, where the votes of
-// `todo` are asked anew.
+// The loose voters of a pair in a set that grew, from those before, where the votes of `todo` are asked anew.
 pub(crate) fn joined_rows(
     dag: &Dag,
     members: &Row,

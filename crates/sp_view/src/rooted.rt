@@ -1,5 +1,5 @@
 //! Genesis among the voters of a pair. It is in the past of each other member, so that it votes the sign of the sum of
-//! all other votes. Where it alone is asked anew and the sum of all votes is kept, its vote is told from that.
+//! all other votes. Where no other vote may change and the sum of all votes is kept, its vote is told from that.
 
 ghost use Rattle.std.specs.Prelude.{◌≡◌, ◌==◌, ◌≤◌, ◌≤ℤ◌, ◌+ℤ◌, ◌-ℤ◌, ℕ, ℤ, pos, negsuc, IfSome, IsSome, Some, if◌then◌else◌};
 ghost use Rattle.sp_bits.specs.Places.{difference, IsRow};
@@ -37,7 +37,7 @@ fn sign(sum: i32) -> i32
 }
 
 // The votes of genesis where a block joined whose own vote is given, by the sum of all votes before. There is no answer where
-// other voters are asked, or where no sum is kept.
+// other votes may change, or where no sum is kept.
 pub(crate) fn root_turn(todo: &Row, sum: Option<i32>, own: i32) -> Option<Turn>
     requires small { IfSome sum (λ sum. (negsuc 1023 ≤ℤ sum) × (sum ≤ℤ pos 1024)) }
     requires sign { (negsuc 0 ≤ℤ own) × (own ≤ℤ pos 1) }

@@ -1,4 +1,4 @@
-//! How the rows of a pair are written where genesis alone is asked and its vote turns. It stands in the row of +1 where it voted
+//! How the rows of a pair are written where genesis' vote alone turns. It stands in the row of +1 where it voted
 //! so, and in that of -1, so each row is known to change or to stay, and none is compared.
 
 ghost use Rattle.std.specs.Prelude.{◌≡◌, ◌≢◌, ◌<◌, ◌==◌, ℕ, length, IsTrue, if◌then◌else◌, slice_get, Some};
@@ -38,8 +38,8 @@ fn turned_row(pool: &mut RowPool, id: RowName, was_in: bool, is_in: bool) -> Row
     replaced(pool, id, &row)
 }
 
-// The rows of a pair that was inside the set before the block joined, where genesis alone is asked anew, whose votes before
-// and after are given.
+// The rows of a pair that was inside the set before the block joined, where genesis' vote alone may change; that before and
+// that after are given.
 pub(crate) fn turned_entry(
     dag: &Dag,
     frozen: &Frozen,

@@ -22,7 +22,7 @@ one_differs : (up : Bool) → cond up (pos 1) (negsuc 0) ≢ pos 0
 one_differs true = λ e. omega (arith, ints)
 one_differs false = λ e. omega (arith, ints)
 
--- what is asked anew is open, and all else is kept
+-- each vote that may change is open, and all else is kept
 kept_of : (table : Numbered) (b : ℕ) (members : List ℕ) (i x' y' : ℕ) (ups downs agree todo : List ℕ) (up : Bool) → IsAsked (graph_of table) members → has members b ≡ true
     → slice_get (pairs_of table) i ≡ Some (x', y') → agree ≡ cond up ups downs
     → ((z : ℕ) → has todo z ≡ ((in_past (graph_of table) z b && is_loose (graph_of table) z x' y') && not (has agree z)))
