@@ -40,6 +40,7 @@ pub mod Genesis
 pub mod Turning
 pub mod Idling
 pub mod Patched
+pub mod Padding
 pub mod Free
 pub mod Stepping
 pub mod Keeping

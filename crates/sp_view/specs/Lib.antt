@@ -13,5 +13,6 @@ pub mod Ends
 pub mod Adding
 pub mod SoFar
 pub mod Saved
+pub mod Padded
 pub mod Keeping
 pub mod Steps

@@ -1,7 +1,7 @@
 //! The entries of a view as they were before they first changed, so that the view can be put back as it was at the
-//! price of what changed.
+//! price of what changed. Room for them is taken at once, but it is filled only up to the last one that is saved.
 
-ghost use Rattle.std.specs.Prelude.{◌≡◌, ◌<◌, ◌≤◌, ◌+◌, ◌^◌, ℕ, [], None, Some, length, take, IfOk, vec_len};
+ghost use Rattle.std.specs.Prelude.{◌≡◌, ◌<◌, ◌≤◌, ◌+◌, ◌^◌, ℕ, [], None, Some, length, IfOk, vec_len};
 ghost use Rattle.sp_view.specs.Keeping.{IsSave};
 ghost use Rattle.sp_view.specs.Saved.{either, patched};
 ghost use Rattle.sp_view.specs.Stored.{count_of, row_of};
@@ -20,15 +20,22 @@ use std::marker::Model;
 #[derive(Drop)]
 pub struct Saved {
     alloc: Global,
+    // How many entries may be saved.
+    count: usize,
+    // The saved ones and those between them, up to the last saved one.
     list: Vec<Option<(RowName, RowName)>>,
 }
 
 impl Model for Saved {
-    ghost use Rattle.std.specs.Prelude.{ℕ, List, Option};
+    ghost use Rattle.std.specs.Prelude.{ℕ, ◌≤◌, List, Option, vec_len, vec_capacity};
+    ghost use Rattle.sp_view.specs.Padded.{padded};
 
     ghost Value = { List (Option (ℕ × ℕ)) };
 
-    ghost view = { λ saved. saved.list.items };
+    ghost view = { λ saved. padded saved.count saved.list.items };
+
+    ghost invariant = { λ saved.
+        (vec_len saved.list ≤ saved.count) × (saved.count ≤ vec_capacity saved.list) };
 }
 
 // The saved entry in place of the one that stands there, which is let go, if one is saved.
@@ -59,7 +66,8 @@ fn put_back_all(
     requires long { length saved.now ≤ vec_len entries.old }
     requires live { (r : ℕ) → held saved.now r + held entries.old.items r ≤ count_of pool.old r }
     ensures long { vec_len entries.new ≡ vec_len entries.old }
-    ensures put { take (length saved.now) entries.new.items ≡ patched saved.now entries.old.items }
+    ensures put { (i : ℕ) → entry_at entries.new.items i
+        ≡ either (entry_at saved.now i) (entry_at entries.old.items i) }
     ensures counts { (r : ℕ) → count_of pool.new r + (held entries.old.items r + held saved.now r)
         ≡ count_of pool.old r + held entries.new.items r }
     ensures rows { (r : ℕ) → 0 < count_of pool.new r → row_of pool.new r ≡ row_of pool.old r }
@@ -76,6 +84,7 @@ impl Saved {
     {
         Saved {
             alloc,
+            count: 0,
             list: Vec::new(alloc),
         }
     }
@@ -86,9 +95,8 @@ impl Saved {
         ensures none { IfOk result (λ saved. (i : ℕ) → entry_at saved i ≡ None) }
         ensures held { IfOk result (λ saved. (r : ℕ) → held saved r ≡ 0) }
     {
-        let mut list = Vec::with_capacity(alloc, count)?;
-        grow(&mut list, count);
-        Ok(Saved { alloc, list })
+        let list = Vec::with_capacity(alloc, count)?;
+        Ok(Saved { alloc, count, list })
     }
 
     // Saves an entry, if it may be saved and isn't yet: its rows have one holder more.
@@ -98,9 +106,11 @@ impl Saved {
         ensures { IsSave pool.old pool.new pair (Some entry.now) self.old self.new }
     {
         let place = pair as usize;
-        if self.list.len() <= place {
+        if self.count <= place {
             return;
         }
+        let long = self.list.len().max(place + 1);
+        grow(&mut self.list, long);
         if self.list[place].is_some() {
             return;
         }
@@ -117,10 +127,9 @@ impl Saved {
             ≡ count_of pool.old r + held entries.new.items r }
         ensures rows { (r : ℕ) → 0 < count_of pool.new r → row_of pool.new r ≡ row_of pool.old r }
     {
-        let count = self.list.len();
         put_back_all(pool, entries, &self.list);
-        give_from(pool, entries, count);
-        entries.truncate(count);
+        give_from(pool, entries, self.count);
+        entries.truncate(self.count);
     }
 
     /// Lets the saved entries go: each of their rows has one holder less for each entry that holds it.

@@ -1,6 +1,6 @@
 use Rattle.std.proofs.Common.{◌≡◌, ◌≤◌, ◌<◌, ◌+◌, ℕ, take, length}
 use Rattle.std.specs.Prelude.{vec_len}
-use Rattle.sp_view.specs.Saved.{patched}
+use Rattle.sp_view.specs.Saved.{either}
 use Rattle.sp_view.specs.Stored.{count_of, row_of}
 use Rattle.sp_view.specs.Views.{entry_at, held}
 use Rattle.sp_view.proofs.saved.put_back_all.Given as goal
@@ -9,7 +9,7 @@ abbrev pub invariant-entries : goal.invariant-entries
 invariant-entries l = record {
   long : vec_len l.entries ≡ vec_len l.fn.entries;
   within : l.i ≤ length l.saved;
-  put : take l.i l.entries.items ≡ take l.i (patched l.saved l.fn.entries.items);
+  put : (j : ℕ) → j < l.i → entry_at l.entries.items j ≡ either (entry_at l.saved j) (entry_at l.fn.entries.items j);
   rest : (j : ℕ) → l.i ≤ j → entry_at l.entries.items j ≡ entry_at l.fn.entries.items j;
   counts : (r : ℕ) → count_of l.pool r + (held l.fn.entries.items r + held (take l.i l.saved) r) ≡ count_of l.fn.pool r + held l.entries.items r;
   rows : (r : ℕ) → 0 < count_of l.pool r → row_of l.pool r ≡ row_of l.fn.pool r;
