@@ -1,4 +1,5 @@
 pub mod Chains
+pub mod Frees
 pub mod Keeps
 pub mod LiveRows
 pub mod Lives

@@ -1,10 +1,10 @@
 -- The live rows, where one of them changes.
-use Rattle.std.proofs.Common.{◌≡◌, ℕ, zero, suc, ◌+◌, ◌<◌, ◌≤◌, ◌==◌, Bool, true, false, cond, not, List, [], ◌∷◌, ◌++◌, length, set, get_or, refl, sym, ap, ◌∙◌, arith}
+use Rattle.std.proofs.Common.{◌≡◌, ℕ, zero, suc, ◌+◌, ◌<◌, ◌≤◌, ◌==◌, Bool, true, false, cond, not, List, [], ◌∷◌, ◌++◌, length, set, get_or, replicate, refl, sym, ap, ◌∙◌, arith}
 use Rattle.std.specs.List.{sum_by}
 use Rattle.std.proofs.lemmas.Bool.{le-ltb, lt-ltb, eq-eqb, ne_eqb, eqb-true, eqb-false}
 use Rattle.std.proofs.lemmas.List.Sums.{sum_by-set, sum_by-cons}
 use Rattle.sp_rows.specs.Pool.{Counted, count_of, words_of, with_row, without_row, AreRows}
-use Rattle.sp_rows.specs.Kept.{live_rows}
+use Rattle.sp_rows.specs.Kept.{live_rows, one_if, live_of}
 
 abbrev row : ℕ → ℕ → List ℕ → Counted
 row id count words = record { id = id; count = count; words = words }
@@ -110,10 +110,11 @@ module _ (w w' : ℕ → List ℕ) (id : ℕ) (others : (k : ℕ) → (k ≡ id 
       by true = refl
       by false = sym (ap (λ (c : Bool). cond (not c) (row from count (w from) ∷ without_row rest id) (without_row rest id)) (ne_eqb from id (λ e. omega arith)))
 
--- one more row that isn't live
-pub live_rows-more : (w : ℕ → List ℕ) (from : ℕ) (counts : List ℕ) → live_rows w from (counts ++ 0 ∷ []) ≡ live_rows w from counts
-live_rows-more w from [] = refl
-live_rows-more w from (count ∷ counts) = ap (λ (l : List Counted). cond (count == 0) l (row from count (w from) ∷ l)) (live_rows-more w (from + 1) counts)
+-- more rows that aren't live
+pub live_rows-more : (w : ℕ → List ℕ) (from : ℕ) (counts : List ℕ) (n : ℕ) → live_rows w from (counts ++ replicate n 0) ≡ live_rows w from counts
+live_rows-more w from [] zero = refl
+live_rows-more w from [] (suc n) = live_rows-more w (from + 1) [] n
+live_rows-more w from (count ∷ counts) n = ap (λ (l : List Counted). cond (count == 0) l (row from count (w from) ∷ l)) (live_rows-more w (from + 1) counts n)
 
 count_of-before : (w : ℕ → List ℕ) (from : ℕ) (counts : List ℕ) (id : ℕ) → id < from → count_of (live_rows w from counts) id ≡ 0
 count_of-before w from [] id le = refl
@@ -167,11 +168,7 @@ words_of-live w from (count ∷ counts) id (suc i) at some = by (count == 0) (wo
     by false h = ap (λ (c : Bool). cond c (w from) (words_of rest id)) (ne_eqb from id (λ e. omega arith)) ∙ h
 
 -- how many there are
-one_if : ℕ → ℕ
-one_if count = cond (count == 0) 0 1
-
-length-live : (w : ℕ → List ℕ) (from : ℕ) (counts : List ℕ) → length (live_rows w from counts) ≡ sum_by one_if counts
-unfolding one_if
+pub length-live : (w : ℕ → List ℕ) (from : ℕ) (counts : List ℕ) → length (live_rows w from counts) ≡ live_of counts
 length-live w from [] = refl
 length-live w from (count ∷ counts) = by (count == 0) (length-live w (from + 1) counts) ∙ sym (sum_by-cons one_if count counts)
   where
@@ -182,12 +179,10 @@ length-live w from (count ∷ counts) = by (count == 0) (length-live w (from + 1
     by true h = omega (arith, h)
     by false h = omega (arith, h)
 
-one_if-some : (count : ℕ) → 0 < count → one_if count ≡ 1
-unfolding one_if
+pub one_if-some : (count : ℕ) → 0 < count → one_if count ≡ 1
 one_if-some count h = ap (λ (c : Bool). cond c 0 1) (ne_eqb count 0 (λ e. omega arith))
 
-one_if-none : (count : ℕ) → count ≡ 0 → one_if count ≡ 0
-unfolding one_if
+pub one_if-none : (count : ℕ) → count ≡ 0 → one_if count ≡ 0
 one_if-none count h = rw h refl
 
 module _ (w w' : ℕ → List ℕ) (counts : List ℕ) (i : ℕ) (le : i < length counts) where

@@ -1,6 +1,8 @@
--- How a pool keeps its rows: the words of all rows in chunks, a count for each row that there is, and the free rows in a chain. A
--- free row has the number of the next free one in its first word.
-use Rattle.std.specs.Prelude.{◌≡◌, ℕ, zero, suc, ◌+◌, ◌*◌, ◌/◌, ◌%◌, ◌^◌, ◌<◌, ◌≤◌, ◌==◌, cond, List, [], ◌∷◌, length, slice_index_or, slice_set}
+-- How a pool keeps its rows: the words of all rows in chunks, and a count for each row that there is. The free rows before a
+-- number are in a chain, each of which has the number of the next one in its first word.
+use Rattle.std.specs.Prelude.{◌≡◌, ℕ, zero, suc, ◌+◌, ◌*◌, ◌/◌, ◌%◌, ◌^◌, ◌<◌, ◌≤◌, ◌==◌, cond, List, [], ◌∷◌, take, length, slice_index_or, slice_set}
+use Rattle.std.specs.List.{sum_by}
+use Rattle.sp_rows.specs.declared.free.Free.{Free}
 use Rattle.sp_rows.specs.Rows.{row_of, with_row_of}
 use Rattle.sp_rows.specs.Pool.{Counted}
 
@@ -26,6 +28,12 @@ pub record Grows (old new : List (List ℕ)) : Type 0 where
   pub same : (id : ℕ) → id < 256 * length old → words_at new id ≡ words_at old id
   pub whole : AreWhole old → AreWhole new
 
+-- the chunks have the rows that they had, but for one
+pub record Differs (old new : List (List ℕ)) (id : ℕ) : Type 0 where
+  pub whole : AreWhole new
+  pub long : length new ≡ length old
+  pub others : (k : ℕ) → (k ≡ id → ⊥) → words_at new k ≡ words_at old k
+
 -- the rows whose count isn't 0, of those that begin with the row `from`
 abbrev pub live_rows : (ℕ → List ℕ) → ℕ → List ℕ → List Counted
 live_rows words from [] = []
@@ -36,22 +44,30 @@ abbrev pub IsPassed : (ℕ → ℕ) → ℕ → ℕ → ℕ → Type 0
 IsPassed next id first zero = Unit {0}
 IsPassed next id first (suc n) = (id ≡ first → ⊥) × IsPassed next id (next first) n
 
--- so many rows in the chain, from the first on, are free, and no row is there twice
-abbrev pub IsChain : (ℕ → ℕ) → List ℕ → ℕ → ℕ → Type 0
-IsChain next counts first zero = Unit {0}
-IsChain next counts first (suc n) = (first < length counts) × (slice_index_or counts first 0 ≡ 0) × IsPassed next first (next first) n × IsChain next counts (next first) n
+-- so many rows in the chain, from the first on, are free ones before `from`, and no row is there twice
+abbrev pub IsChain : (ℕ → ℕ) → List ℕ → ℕ → ℕ → ℕ → Type 0
+IsChain next counts from first zero = Unit {0}
+IsChain next counts from first (suc n) = (first < from) × (slice_index_or counts first 0 ≡ 0) × IsPassed next first (next first) n × IsChain next counts from (next first) n
+
+-- 1 for a count that isn't 0
+abbrev pub one_if : ℕ → ℕ
+one_if count = cond (count == 0) 0 1
+
+-- how many of these counts aren't 0
+abbrev pub live_of : List ℕ → ℕ
+live_of counts = sum_by one_if counts
+
+-- the chain has all free rows before `from`
+pub record IsFree (chunks : List (List ℕ)) (counts : List ℕ) (free : Free) : Type 0 where
+  pub within : free.from ≤ length counts
+  pub passed : free.linked + live_of (take free.from counts) ≡ free.from
+  pub chain : IsChain (link_at chunks) counts free.from free.first free.linked
 
 -- what a pool keeps
-pub record IsKept (chunks : List (List ℕ)) (counts : List ℕ) (first spare live : ℕ) : Type 0 where
+pub record IsKept (chunks : List (List ℕ)) (counts : List ℕ) (free : Free) (spare live : ℕ) : Type 0 where
   pub whole : AreWhole chunks
   pub room : length counts ≤ 256 * length chunks
   pub few : length counts ≤ 2 ^ 31
   pub all : live + spare ≡ length counts
   pub counted : live ≡ length (live_rows (words_at chunks) 0 counts)
-  pub free : IsChain (link_at chunks) counts first spare
-
--- so many more rows are kept, which are free, and the live rows stay
-abbrev pub IsMore : List (List ℕ) → List ℕ → ℕ → ℕ → List (List ℕ) → List ℕ → ℕ → Type 0
-IsMore chunks counts first more chunks' counts' first' =
-    (spare live : ℕ) → IsKept chunks counts first spare live
-    → IsKept chunks' counts' first' (spare + more) live × (live_rows (words_at chunks') 0 counts' ≡ live_rows (words_at chunks) 0 counts)
+  pub frees : IsFree chunks counts free

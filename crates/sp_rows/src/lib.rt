@@ -4,6 +4,7 @@
 
 mod chunk;
 mod chunks;
+mod free;
 mod pool;
 mod raw;
 
@@ -12,6 +13,8 @@ mod raw;
 pub use chunk::Chunk;
 #[doc(hidden)]
 pub use chunks::Chunks;
+#[doc(hidden)]
+pub use free::Free;
 pub use pool::{RowId, RowPool};
 #[doc(hidden)]
 pub use raw::{Owned, Start};

@@ -1,17 +1,19 @@
-//! The pool of counted rows: which rows there are, how often each is counted, and which come next.
-//! A free row has the number of the next free one in its own first word, so that taking and giving
-//! rows needs no memory.
+//! The pool of counted rows: which rows there are, how often each is counted, and how many more can be taken.
 
-ghost use Rattle.std.specs.Prelude.{◌≡◌, ◌+◌, ◌-◌, ◌*◌, ◌^◌, ◌<◌, ◌≤◌, ◌↔◌, [], ℕ, length, IsTrue, IsOk, OnOk, OnErr};
+ghost use Rattle.std.specs.Prelude.{◌≡◌, ◌+◌, ◌-◌, ◌*◌, ◌^◌, ◌<◌, ◌≤◌, ◌↔◌, [], ℕ, ◌++◌, length, replicate, IsTrue, IsOk, OnOk, OnErr};
 ghost use Rattle.std.specs.Borrow.{sem};
 ghost use Rattle.std.specs.Vec.{vec_len, vec_capacity};
-ghost use Rattle.sp_rows.specs.Kept.{IsMore};
 ghost use Rattle.sp_rows.specs.Pool.{count_of, words_of, with_count, taken, given, IsLive, AreRows};
 
 use crate::chunks::Chunks;
+use crate::free::Free;
 use sp_ids::Memory;
 use std::alloc::Global;
 use std::marker::Model;
+
+// Of so many rows one at least is in the chain of free ones before all are handed out by number again, so that a row
+// that is given back costs a bounded number of steps.
+const LOOSE: usize = 64;
 
 /// A row of a pool, by its number. It means nothing in another pool.
 #[derive(Clone, Copy, Debug, PartialEq, Eq)]
@@ -23,8 +25,7 @@ pub struct RowPool {
     chunks: Chunks,
     // How often each row is counted; a free one isn't.
     counts: Vec<u32>,
-    // The first free row, where there is one.
-    first: u64,
+    free: Free,
     spare: usize,
     live: usize,
     alloc: Global,
@@ -36,7 +37,7 @@ impl Drop for RowPool {
         let RowPool {
             chunks: _,
             counts: _,
-            first: _,
+            free: _,
             spare: _,
             live: _,
             alloc: _,
@@ -53,7 +54,7 @@ impl Model for RowPool {
 
     ghost view = { λ p. record { rows = live_rows (words_at p.chunks) 0 p.counts.items; spare = p.spare } };
 
-    ghost invariant = { λ p. IsKept p.chunks p.counts.items p.first p.spare p.live };
+    ghost invariant = { λ p. IsKept p.chunks p.counts.items p.free p.spare p.live };
 }
 
 impl RowPool {
@@ -67,7 +68,7 @@ impl RowPool {
         RowPool {
             chunks: Chunks::new(alloc),
             counts: Vec::new(alloc),
-            first: 0,
+            free: Free::all(),
             spare: 0,
             live: 0,
             alloc,
@@ -75,8 +76,10 @@ impl RowPool {
     }
 
     /// Makes room, so that at least so many more rows can be taken, in time in proportion to the
-    /// rows that are new and those that there are, whose counts may move. Memory is answered where
-    /// it was refused; the pool is then as it was.
+    /// rows that are new and those that there are, whose counts may move. Where a 64th of the rows
+    /// has been given back since they were handed out by number, they are so again: rows that are
+    /// taken one behind the other then lie side by side. Memory is answered where it was refused;
+    /// the pool is then as it was.
     pub fn reserve(&mut self, n: u32) -> Result<(), Memory>
         requires { length self.old.rows + n ≤ 2 ^ 31 }
         ensures ok { OnOk result (n ≤ self.new.spare) }
@@ -85,25 +88,36 @@ impl RowPool {
         ensures rows { self.new.rows ≡ self.old.rows }
         ensures spare { self.old.spare ≤ self.new.spare }
     {
+        self.unlink();
         if n as usize <= self.spare {
             return Ok(());
         }
         let more = n as usize - self.spare;
         self.chunks.make_room(self.alloc, self.counts.len() + more)?;
         self.counts.reserve(more)?;
-        self.first = add_rows(&mut self.chunks, &mut self.counts, self.first, more);
+        add_rows(&mut self.counts, more);
         self.spare += more;
         Ok(())
     }
 
-    /// A row that wasn't live, all zero and counted once, in a bounded number of steps.
+    // Hands out all free rows by number again, where many are in the chain.
+    fn unlink(&mut self)
+        ensures { self.new ≡ self.old }
+    {
+        if self.free.linked > self.counts.len() / LOOSE {
+            self.free = Free::all();
+        }
+    }
+
+    /// A row that wasn't live, all zero and counted once. Between two calls of `reserve` all calls
+    /// together pass over the rows that there are once, and each takes a bounded number of steps
+    /// besides.
     pub fn take(&mut self) -> RowId
         requires { 0 < self.old.spare }
         ensures fresh { count_of self.old.rows result.0 ≡ 0 }
         ensures taken { self.new ≡ taken self.old result.0 }
     {
-        let id = self.first as u32;
-        self.first = self.chunks.link(id);
+        let id = self.free.next(&self.chunks, &self.counts);
         self.chunks.clear(id);
         self.counts[id as usize] = 1;
         self.spare -= 1;
@@ -129,8 +143,7 @@ impl RowPool {
     {
         self.counts[row.0 as usize] -= 1;
         if self.counts[row.0 as usize] == 0 {
-            self.chunks.set_link(row.0, self.first);
-            self.first = row.0 as u64;
+            self.free.give(&mut self.chunks, row.0);
             self.spare += 1;
             self.live -= 1;
         }
@@ -187,19 +200,12 @@ impl RowPool {
     }
 }
 
-// Makes so many more rows, each of which is free and leads to the one before it, and answers the
-// last of them, which comes first from then on.
-fn add_rows(chunks: &mut Chunks, counts: &mut Vec<u32>, from: u64, more: usize) -> u64
-    requires room { vec_len counts.old + more ≤ vec_capacity counts.old }
-    requires chunks { (length counts.old.items + more ≤ 256 * length chunks.old) × (length counts.old.items + more ≤ 2 ^ 31) }
-    ensures { IsMore chunks.old counts.old.items from more chunks.new counts.new.items result }
+// So many more rows, which aren't counted.
+fn add_rows(counts: &mut Vec<u32>, more: usize)
+    requires { vec_len counts.old + more ≤ vec_capacity counts.old }
+    ensures { counts.new.items ≡ counts.old.items ++ replicate more 0 }
 {
-    let mut first = from;
     'rows: for _ in 0..more {
-        let id = counts.len();
         counts.push_reserved(0);
-        chunks.set_link(id as u32, first);
-        first = id as u64;
     }
-    first
 }

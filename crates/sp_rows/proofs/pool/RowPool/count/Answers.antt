@@ -8,13 +8,13 @@ pub index-requires : goal.index-requires
 index-requires c =
     let p = c.self.inside in let id = c.args.row.0 in
     let had = subst (λ (rows : List Counted). 0 < count_of rows id) (sym (ap (λ pool. pool.rows) c.self.view_is)) c.requires in
-    omega (arith, live-within p.chunks p.counts.items p.first p.spare p.live c.self.invariant id had, p.counts.ok.0)
+    omega (arith, live-within p.chunks p.counts.items p.free p.spare p.live c.self.invariant id had, p.counts.ok.0)
 
 pub returns : goal.returns
 returns c =
     let p = c.self.inside in let id = c.args.row.0 in
     let had = subst (λ (rows : List Counted). 0 < count_of rows id) (sym (ap (λ pool. pool.rows) c.self.view_is)) c.requires in
-    let within = live-within p.chunks p.counts.items p.first p.spare p.live c.self.invariant id had in
+    let within = live-within p.chunks p.counts.items p.free p.spare p.live c.self.invariant id had in
     c.index.ensures ∙ get_or_default_zero p.counts.items id c.index.result.now within
-    ∙ sym (live-count p.chunks p.counts.items p.first p.spare p.live c.self.invariant id)
+    ∙ sym (live-count p.chunks p.counts.items p.free p.spare p.live c.self.invariant id)
     ∙ ap (λ pool. count_of pool.rows id) c.self.view_is

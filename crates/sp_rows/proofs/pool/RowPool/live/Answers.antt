@@ -6,4 +6,4 @@ use Rattle.sp_rows.proofs.pool.RowPool.live.Goals as goal
 pub returns-clause-rows : goal.returns-clause-rows
 returns-clause-rows c =
     let p = c.self.inside in
-    subst (λ (rows : List Counted). AreRows 0 rows) (ap (λ pool. pool.rows) c.self.view_is) (AreRows-kept p.chunks p.counts.items p.first p.spare p.live c.self.invariant)
+    subst (λ (rows : List Counted). AreRows 0 rows) (ap (λ pool. pool.rows) c.self.view_is) (AreRows-kept p.chunks p.counts.items p.free p.spare p.live c.self.invariant)

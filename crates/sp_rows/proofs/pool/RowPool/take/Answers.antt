@@ -1,26 +1,36 @@
-use Rattle.std.proofs.Common.{◌<◌, ◌*◌, ap, sym, ◌∙◌, arith, replicate, length}
+use Rattle.std.proofs.Common.{◌≡◌, ◌<◌, ◌*◌, ℕ, List, ap, sym, ◌∙◌, subst, arith, get_or, set, replicate, length}
 use Rattle.sp_rows.specs.Pool.{Pool, count_of, taken}
-use Rattle.sp_rows.specs.Kept.{with_words_at}
-use Rattle.sp_rows.proofs.Keeps.{first-within, first-free, taken-kept, taken-pool, Differs-with}
+use Rattle.sp_rows.specs.Kept.{with_words_at, live_of, IsFree}
+use Rattle.sp_rows.proofs.Keeps.{live-count, some-free, taken-kept, taken-pool, Differs-with}
 use Rattle.sp_rows.proofs.pool.RowPool.take.Goals as goal
+
+pub next-id-requires-clause-some : goal.next-id-requires-clause-some
+next-id-requires-clause-some c =
+    let p = c.self.inside in
+    subst (λ (l : List ℕ). live_of l < length l) (sym c.deref.ensures.value)
+    (some-free p.chunks p.counts.items p.free p.spare p.live c.self.invariant (omega (arith, c.requires, ap (λ pool. pool.spare) c.self.view_is)))
 
 pub invariant_of-self : goal.invariant_of-self
 invariant_of-self c =
-    let p = c.self.inside in let kept = c.self.invariant in
+    let p = c.self.inside in let kept = c.self.invariant in let id = c.next-id.result in
     let some : 0 < p.spare = omega (arith, c.requires, ap (λ pool. pool.spare) c.self.view_is) in
-    let within = first-within p.chunks p.counts.items p.first p.spare p.live kept some in
-    let stored : p.first < 256 * length p.chunks = omega (arith, within, kept.room) in
-    rw (c.clear.ensures, c.link-self-inside.ensures)
-    (taken-kept p.chunks p.counts.items p.first p.spare p.live kept (with_words_at p.chunks p.first (replicate 8 0)) (Differs-with p.chunks p.first (replicate 8 0) kept.whole stored) some)
+    let within = subst (λ (l : List ℕ). id < length l) c.deref.ensures.value c.next-id.ensures.within in
+    let none = subst (λ (l : List ℕ). get_or l id 0 ≡ 0) c.deref.ensures.value c.next-id.ensures.none in
+    let stored : id < 256 * length p.chunks = omega (arith, within, kept.room) in
+    let new = with_words_at p.chunks id (replicate 8 0) in
+    let differs = Differs-with p.chunks id (replicate 8 0) kept.whole stored in
+    let frees = subst (λ (l : List ℕ). IsFree new (set l id 1) c.next-id.new.self) c.deref.ensures.value (c.next-id.ensures.free new differs) in
+    rw c.clear.ensures (taken-kept p.chunks p.counts.items p.free p.spare p.live kept new id c.next-id.new.self differs within none some frees)
 
 pub returns-clause-fresh : goal.returns-clause-fresh
 returns-clause-fresh c =
-    let p = c.self.inside in
-    let some : 0 < p.spare = omega (arith, c.requires, ap (λ pool. pool.spare) c.self.view_is) in
-    sym (ap (λ pool. count_of pool.rows p.first) c.self.view_is) ∙ first-free p.chunks p.counts.items p.first p.spare p.live c.self.invariant some
+    let p = c.self.inside in let id = c.next-id.result in
+    let none = subst (λ (l : List ℕ). get_or l id 0 ≡ 0) c.deref.ensures.value c.next-id.ensures.none in
+    sym (ap (λ pool. count_of pool.rows id) c.self.view_is) ∙ live-count p.chunks p.counts.items p.free p.spare p.live c.self.invariant id ∙ none
 
 pub returns-clause-taken : goal.returns-clause-taken
 returns-clause-taken c =
-    let p = c.self.inside in
-    let some : 0 < p.spare = omega (arith, c.requires, ap (λ pool. pool.spare) c.self.view_is) in
-    taken-pool p.chunks p.counts.items p.first p.spare p.live c.self.invariant c.clear.new.self c.clear.ensures some ∙ ap (λ (pool : Pool). taken pool p.first) c.self.view_is
+    let p = c.self.inside in let id = c.next-id.result in
+    let within = subst (λ (l : List ℕ). id < length l) c.deref.ensures.value c.next-id.ensures.within in
+    taken-pool p.chunks p.counts.items p.free p.spare p.live c.self.invariant c.clear.new.self id c.clear.ensures within
+    ∙ ap (λ (pool : Pool). taken pool id) c.self.view_is
