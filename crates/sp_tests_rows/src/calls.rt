@@ -1,4 +1,4 @@
-//! 600 calls over rows of three chunks, after each of which the pool is compared with a plain list.
+//! 900 calls over rows of three chunks, after each of which the pool is compared with a plain list.
 
 use crate::plain::{Plain, compare, give, share, take};
 use sp_rows::RowPool;
@@ -6,7 +6,7 @@ use std::process::Abort;
 use std::test::Fail;
 
 /// How many rows are reserved, which lie in three chunks, and how many calls are made.
-const CALLS: u32 = 600;
+const CALLS: u32 = 900;
 
 #[derive(Clone, Copy, Debug, PartialEq, Eq)]
 enum Call {
@@ -21,8 +21,8 @@ fn call_at(number: u32) -> Call {
     match number % 10 {
         2 => Call::Share,
         5 => Call::Give,
-        7 if number > 500 => Call::Give,
-        _ if number > 560 => Call::Give,
+        7 if number > 800 => Call::Give,
+        _ if number > 860 => Call::Give,
         _ => Call::Take,
     }
 }
@@ -54,7 +54,7 @@ fn make(
 }
 
 #[test]
-fn six_hundred_calls(rt: HostRuntime) -> Result<(), Fail> {
+fn nine_hundred_calls(rt: HostRuntime) -> Result<(), Fail> {
     let alloc = rt.alloc();
     let mut pool = RowPool::new(alloc);
     pool.reserve(CALLS).ok().ok_or("memory")?;

@@ -20,6 +20,34 @@ fn a_row_that_was_given_is_taken_with_zeros(rt: HostRuntime) -> Result<(), Fail>
     Ok(())
 }
 
+/// How many rows are taken, given back in another order, and taken again.
+const MANY: u32 = 300;
+
+#[test]
+fn rows_that_were_given_are_taken_by_number(rt: HostRuntime) -> Result<(), Fail> {
+    let mut pool = RowPool::new(rt.alloc());
+    let mut rows = Vec::new(rt.alloc());
+    pool.reserve(MANY).ok().ok_or("memory")?;
+    for number in 0..MANY {
+        let row = take(&rt, &mut pool, number);
+        assert_eq!(rt; row.id.0, number);
+        rows.push(row.id)?;
+    }
+    for step in 0..MANY {
+        let id = *rows.get(step as usize * 7 % MANY as usize).ok_or("row")?;
+        assert!(rt; pool.is_live(id));
+        pool.give(id);
+    }
+    compare(&rt, &pool, &[], MANY as usize);
+    assert!(rt; pool.live() == 0);
+    pool.reserve(MANY).ok().ok_or("memory")?;
+    for number in 0..MANY {
+        let row = take(&rt, &mut pool, number);
+        assert_eq!(rt; row.id.0, number);
+    }
+    Ok(())
+}
+
 /// How many rows are asked for, one after the other, and how many can be taken then.
 const ROOM: &[(u32, usize)] = &[
     (0, 0),
