@@ -18,4 +18,4 @@ pub use block::{Block, check_work};
 pub use draft::{Draft, draft_bytes, seek_nonce};
 pub use fault::{BlockFault, ReadBlockFault};
 pub use list::{Blocks, Parents};
-pub use read::read_block;
+pub use read::{read_block, read_block_with_ids};

@@ -1,6 +1,6 @@
 //! Reading a block field by field.
 
-ghost use Rattle.std.specs.Prelude.{◌≡◌, ◌↔◌, Err, IfErr, IfOk, IsTrue, List, length};
+ghost use Rattle.std.specs.Prelude.{◌≡◌, ◌↔◌, ◌++◌, ◌∷◌, [], Err, IfErr, IfOk, IsTrue, List, length, map};
 ghost use Rattle.sp_form.specs.Bytes.{IsBytes};
 ghost use Rattle.sp_form.specs.Form.{map_fault};
 ghost use Rattle.sp_form.specs.Reading.{Gives, IsCause, read};
@@ -216,13 +216,16 @@ impl<'a> BlockReader<'a> {
         Ok((tx, TxId::of(text)))
     }
 
-    /// The next transaction, judged against the earlier ones, which then has it, too.
+    /// The next transaction, judged against the earlier ones, which then has it, too. Its id is put
+    /// behind the others.
     fn carried(
         &mut self,
         alloc: Global,
         genesis: bool,
         seen: &mut Seen,
+        ids: &mut Vec<TxId>,
     ) -> Result<Tx, ReadBlockFault>
+        ensures ids { IfOk result (λ tx. ids.new.items ≡ ids.old.items ++ id_of tx ∷ []) }
         ensures read { (earlier : List Transaction) → Saw seen.old earlier
             → Gives (λ tx. (tx, self.new)) result (read (carried_form genesis earlier) self.old) }
         ensures saw { (earlier : List Transaction) → Saw seen.old earlier
@@ -233,27 +236,41 @@ impl<'a> BlockReader<'a> {
             Err(fault) => Err(ReadBlockFault::Fault(fault)),
             Ok(()) => {
                 seen.add(&tx, id)?;
+                ids.push(id)?;
                 Ok(tx)
             }
         }
     }
 
-    /// So many transactions.
-    fn txs(&mut self, alloc: Global, genesis: bool, count: u16) -> Result<Txs, ReadBlockFault>
-        ensures { Gives (λ txs. (txs, self.new)) result (read (txs_form genesis count) self.old) }
+    /// So many transactions. Their ids are put behind the others.
+    fn txs(
+        &mut self,
+        alloc: Global,
+        genesis: bool,
+        count: u16,
+        ids: &mut Vec<TxId>,
+    ) -> Result<Txs, ReadBlockFault>
+        ensures ids { IfOk result (λ txs. ids.new.items ≡ ids.old.items ++ map id_of txs) }
+        ensures read { Gives (λ txs. (txs, self.new)) result (read (txs_form genesis count) self.old) }
     {
         let mut txs = Vec::new(alloc);
         let mut seen = Seen::new(alloc);
         'txs: for _ in 0..count {
-            let tx = self.carried(alloc, genesis, &mut seen)?;
+            let tx = self.carried(alloc, genesis, &mut seen, ids)?;
             txs.push(tx)?;
         }
         Ok(Txs::of(txs))
     }
 
-    /// All that a block's bytes spell.
-    pub(crate) fn block(&mut self, alloc: Global, genesis: bool) -> Result<Content, ReadBlockFault>
-        ensures { Gives (λ content. (parts_in content, self.new)) result (block_steps genesis self.old) }
+    /// All that a block's bytes spell. The ids of its transactions are put behind the others.
+    pub(crate) fn block(
+        &mut self,
+        alloc: Global,
+        genesis: bool,
+        ids: &mut Vec<TxId>,
+    ) -> Result<Content, ReadBlockFault>
+        ensures ids { IfOk result (λ content. ids.new.items ≡ ids.old.items ++ map id_of content.txs) }
+        ensures read { Gives (λ content. (parts_in content, self.new)) result (block_steps genesis self.old) }
     {
         let _version = self.version()?;
         let salt = self.word()?;
@@ -261,7 +278,7 @@ impl<'a> BlockReader<'a> {
         let count = self.parent_count(genesis)?;
         let parents = self.parents(alloc, count)?;
         let count = self.tx_count()?;
-        let txs = self.txs(alloc, genesis, count)?;
+        let txs = self.txs(alloc, genesis, count, ids)?;
         Ok(Content {
             salt,
             nonce,

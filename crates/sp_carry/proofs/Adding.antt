@@ -1,9 +1,10 @@
 -- The carriers of a block, one after another.
-use Rattle.std.proofs.Common.{◌≡◌, ℕ, ◌+◌, ◌<◌, ◌≤◌, List, [], ◌∷◌, ◌++◌, length, take, get_or, Result, Ok, Err, sym, ap, ◌∙◌, arith, subst}
+use Rattle.std.proofs.Common.{◌≡◌, ℕ, ◌+◌, ◌<◌, ◌≤◌, List, [], ◌∷◌, ◌++◌, length, map, take, get_or, Result, Ok, Err, sym, ap, ◌∙◌, arith, subst}
 use Rattle.std.specs.Prelude.{OnErr}
-use Rattle.std.proofs.lemmas.List.{take_more, length-take-le}
+use Rattle.std.proofs.lemmas.List.{map_push, take_more, length-take-le}
 use Rattle.sp_dag.specs.Numbered.{Numbered}
 use Rattle.sp_tx.specs.Parts.{Transaction}
+use Rattle.sp_tx.specs.Spending.{id_of}
 use Rattle.sp_carry.specs.declared.table.Table.{Table}
 use Rattle.sp_carry.specs.Carried.{Carried, with_carrier, with_carriers}
 use Rattle.sp_carry.specs.Growth.{HasRoom}
@@ -41,3 +42,10 @@ carried_more table k txs i tx old new lt is kept now =
 pub partly_there : (table : Numbered) (k : Carried) (txs : List Transaction) (i : ℕ) (old new : Table) → Keeps old (with_carriers table k (take i txs))
     → Keeps new (carried_of old) → (count : ℕ) × Keeps new (with_carriers table k (take count txs))
 partly_there table k txs i old new kept now = (i, subst (Keeps new) (kept_is old (with_carriers table k (take i txs)) kept) now)
+
+-- the next one's id is there
+pub ids_more : (txs : List Transaction) (i : ℕ) (tx : Transaction) (id : ℕ) (ids new : List ℕ) → i < length txs → tx ≡ get_or txs i tx → id ≡ id_of tx
+    → ids ≡ map id_of (take i txs) → new ≡ ids ++ id ∷ [] → new ≡ map id_of (take (i + 1) txs)
+ids_more txs i tx id ids new lt is is_id were now =
+    now ∙ ap (λ (l : List ℕ). l ++ id ∷ []) were ∙ ap (λ (n : ℕ). map id_of (take i txs) ++ n ∷ []) is_id ∙ sym (map_push id_of (take i txs) tx)
+    ∙ ap (map id_of) (sym (take_more txs i tx lt ∙ ap (λ (x : Transaction). take i txs ++ x ∷ []) (sym is)))

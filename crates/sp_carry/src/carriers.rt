@@ -1,6 +1,6 @@
 //! The public type: what the crates above see of transactions and carriers.
 
-ghost use Rattle.std.specs.Prelude.{◌≡◌, ◌<◌, ◌≤◌, AllPairs, length, take, IfOk, IfSome, OnOk, OnErr, Some, slice_get};
+ghost use Rattle.std.specs.Prelude.{◌≡◌, ◌<◌, ◌≤◌, AllPairs, length, map, take, IfOk, IfSome, OnOk, OnErr, Some, slice_get};
 ghost use Rattle.sp_tx.specs.Spending.{id_of};
 ghost use Rattle.sp_carry.specs.Lookups.{spenders_in};
 ghost use Rattle.sp_carry.specs.Carried.{carriers_in, cut_to, nothing, number_of, rows_of_first, tx_at, with_block, IsCarried};
@@ -77,6 +77,17 @@ fn rows_below(rows: &[Carrier], blocks: u16) -> usize
     left
 }
 
+// The ids of these transactions.
+fn ids_of(alloc: Global, txs: &[Tx]) -> Result<Vec<TxId>, Memory>
+    ensures { IfOk result (λ ids. ids.items ≡ map id_of txs.now) }
+{
+    let mut ids = Vec::with_capacity(alloc, txs.len())?;
+    'txs: for tx in txs {
+        ids.push(sp_tx::id(alloc, tx)?)?;
+    }
+    Ok(ids)
+}
+
 impl Carriers {
     /// Those of no block.
     pub fn new(alloc: Global) -> Carriers
@@ -94,6 +105,26 @@ impl Carriers {
     /// sound as the definition says, over the blocks in its past; a transaction whose id is known
     /// is the one that is known.
     ///
+    /// The time is that of each transaction's id, and then that of `add_with_ids`.
+    ///
+    /// # Errors
+    ///
+    /// Memory was refused; all is as before.
+    pub fn add(&mut self, dag: &Dag, number: u16, txs: &Txs) -> Result<(), Memory>
+        requires next { self.old.blocks ≡ number }
+        requires there { number < length dag.now.parents }
+        requires few { length txs.now ≤ 256 }
+        ensures ok { OnOk result (self.new ≡ with_block dag.now self.old txs.now) }
+        ensures err { OnErr result (self.new ≡ self.old) }
+    {
+        let ids = ids_of(self.alloc, txs.as_slice())?;
+        self.add_with_ids(dag, number, txs, ids.as_slice())
+    }
+
+    /// Adds the carriers of the next block of the graph, which has these transactions. Each is
+    /// sound as the definition says, over the blocks in its past; a transaction whose id is known
+    /// is the one that is known. The transactions have these ids, so none is hashed.
+    ///
     /// The time is that of a look-up for each transaction and two for each of its inputs, of one step for each
     /// carrier of a transaction that an input names, and of one for each other transaction that spends
     /// what an input does, or, where the transaction is new, for each carrier of that one.
@@ -101,7 +132,14 @@ impl Carriers {
     /// # Errors
     ///
     /// Memory was refused; all is as before.
-    pub fn add(&mut self, dag: &Dag, number: u16, txs: &Txs) -> Result<(), Memory>
+    pub fn add_with_ids(
+        &mut self,
+        dag: &Dag,
+        number: u16,
+        txs: &Txs,
+        ids: &[TxId],
+    ) -> Result<(), Memory>
+        requires ids { ids.now ≡ map id_of txs.now }
         requires next { self.old.blocks ≡ number }
         requires there { number < length dag.now.parents }
         requires few { length txs.now ≤ 256 }
@@ -118,6 +156,7 @@ impl Carriers {
             self.alloc,
             dag,
             txs.as_slice(),
+            ids,
         ) {
             Ok(()) => {
                 add_rows(&self.table, &mut self.rivals, first);

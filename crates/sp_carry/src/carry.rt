@@ -1,6 +1,7 @@
 //! Carriers of the next block, one by one, and how the last ones are taken back.
 
-ghost use Rattle.std.specs.Prelude.{◌≡◌, ◌<◌, ◌≤◌, ◌+◌, ◌^◌, ℕ, length, take, vec_capacity, OnOk, OnErr};
+ghost use Rattle.std.specs.Prelude.{◌≡◌, ◌<◌, ◌≤◌, ◌+◌, ◌^◌, ℕ, length, map, take, vec_capacity, OnOk, OnErr};
+ghost use Rattle.sp_tx.specs.Spending.{id_of};
 ghost use Rattle.sp_dag.specs.Numbered.{IsNumbered};
 ghost use Rattle.sp_carry.specs.Carried.{Carried, with_carrier, with_carriers, AreLinked};
 ghost use Rattle.sp_carry.specs.Growth.{front, AreInTurn, HasRoom};
@@ -12,20 +13,20 @@ use crate::table::Table;
 use crate::worth::is_sound;
 use sp_bits::Row;
 use sp_dag::Dag;
-use sp_ids::Memory;
+use sp_ids::{Memory, TxId};
 use sp_tx::Tx;
 use std::alloc::{AllocError, Global};
 
 impl Table {
     // One more carrier in the next block. After `Memory` all is as before.
-    fn carry(&mut self, alloc: Global, dag: &Dag, tx: &Tx) -> Result<(), Memory>
+    fn carry(&mut self, alloc: Global, dag: &Dag, tx: &Tx, id: TxId) -> Result<(), Memory>
+        requires is { id ≡ id_of tx.now }
         requires kept { IsKept self.old }
         requires room { HasRoom dag.now 1 (carried_of self.old) }
         requires numbered { IsNumbered dag.now }
         ensures ok { OnOk result (Keeps self.new (with_carrier dag.now (carried_of self.old) tx.now)) }
         ensures err { OnErr result (Keeps self.new (carried_of self.old)) }
     {
-        let id = sp_tx::id(alloc, tx)?;
         let block = self.blocks;
         match self.tx_of(&id) {
             Some(number) => {
@@ -53,16 +54,24 @@ impl Table {
         }
     }
 
-    // The next block's carriers. After `Memory` some of them are there.
-    pub(crate) fn carry_all(&mut self, alloc: Global, dag: &Dag, txs: &[Tx]) -> Result<(), Memory>
+    // The next block's carriers, of transactions that have these ids. After `Memory` some of them are
+    // there.
+    pub(crate) fn carry_all(
+        &mut self,
+        alloc: Global,
+        dag: &Dag,
+        txs: &[Tx],
+        ids: &[TxId],
+    ) -> Result<(), Memory>
+        requires ids { ids.now ≡ map id_of txs.now }
         requires kept { IsKept self.old }
         requires room { HasRoom dag.now (length txs.now) (carried_of self.old) }
         requires numbered { IsNumbered dag.now }
         ensures ok { OnOk result (Keeps self.new (with_carriers dag.now (carried_of self.old) txs.now)) }
         ensures err { OnErr result ((count : ℕ) × Keeps self.new (with_carriers dag.now (carried_of self.old) (take count txs.now))) }
     {
-        'txs: for tx in txs {
-            self.carry(alloc, dag, tx)?;
+        'txs: for place in 0..txs.len() {
+            self.carry(alloc, dag, &txs[place], ids[place])?;
         }
         Ok(())
     }
@@ -107,8 +116,8 @@ fn make_room(rows: &mut Vec<Row>, sources: &mut Vec<Few>, count: usize) -> Resul
     sources.reserve(count.saturating_sub(sources.len()))
 }
 
-// The next block's carriers, and room for a row and a list of each transaction. After `Memory` some of
-// the carriers are there.
+// The next block's carriers, of transactions that have these ids, and room for a row and a list of each
+// transaction. After `Memory` some of the carriers are there.
 pub(crate) fn carry_with_room(
     table: &mut Table,
     rows: &mut Vec<Row>,
@@ -116,7 +125,9 @@ pub(crate) fn carry_with_room(
     alloc: Global,
     dag: &Dag,
     txs: &[Tx],
+    ids: &[TxId],
 ) -> Result<(), Memory>
+    requires ids { ids.now ≡ map id_of txs.now }
     requires kept { IsKept table.old }
     requires room { HasRoom dag.now (length txs.now) (carried_of table.old) }
     requires numbered { IsNumbered dag.now }
@@ -127,7 +138,7 @@ pub(crate) fn carry_with_room(
     ensures same_sources { sources.new.items ≡ sources.old.items }
     ensures err { OnErr result ((count : ℕ) × Keeps table.new (with_carriers dag.now (carried_of table.old) (take count txs.now))) }
 {
-    table.carry_all(alloc, dag, txs)?;
+    table.carry_all(alloc, dag, txs, ids)?;
     match make_room(rows, sources, table.txs.len()) {
         Ok(()) => Ok(()),
         Err(_) => Err(Memory),

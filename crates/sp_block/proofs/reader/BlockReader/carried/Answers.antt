@@ -11,6 +11,6 @@ pub returns-in-Err-clause-read : goal.returns-in-Err-clause-read
 returns-in-Err-clause-read c = λ earlier saw.
     carried_breaks c.args.genesis earlier c.args.self.now c.in_ok-tx.tx c.tx.new.self c.in-Err.fault c.in_ok-tx.ensures.read (c.in-Err.ensures earlier saw)
 
-pub returns-in_ok-add-in-Ok-clause-read : goal.returns-in_ok-add-in-Ok-clause-read
-returns-in_ok-add-in-Ok-clause-read c = λ earlier saw.
+pub returns-in_ok-push-in-Ok-clause-read : goal.returns-in_ok-push-in-Ok-clause-read
+returns-in_ok-push-in-Ok-clause-read c = λ earlier saw.
     carried_taken c.args.genesis earlier c.args.self.now c.in_ok-tx.tx c.tx.new.self c.in_ok-tx.ensures.read (c.in-Ok.ensures earlier saw)

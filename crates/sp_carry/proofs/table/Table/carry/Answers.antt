@@ -15,7 +15,7 @@ pub returns-in-Some-clause-ok : goal.returns-in-Some-clause-ok
 returns-in-Some-clause-ok c =
     let k = carried_of c.args.self.now in
     let found : number_of k (id_of c.args.tx.now) ≡ Some c.in-Some.number =
-    ap (number_of k) (sym c.in_ok-id.ensures) ∙ sym c.tx_of.ensures ∙ c.in-Some.is in
+    ap (number_of k) (sym c.requires.is) ∙ sym c.tx_of.ensures ∙ c.in-Some.is in
     on_ok c.carry_known.result c.carry_known.ensures.ok
     (subst (Keeps c.carry_known.new.self)
     (carried_known c.args.dag.now k c.args.tx.now c.in-Some.number c.is_sound-sound.result found

@@ -5,14 +5,14 @@ use Rattle.sp_carry.proofs.table.Table.carry_all.Goals as goal
 
 pub carry-requires-clause-room : goal.carry-requires-clause-room
 carry-requires-clause-room c =
-    room_at c.args.dag.now (carried_of c.args.self.now) c.args.txs.now c.txs.tx-index c.txs.self c.requires.room (omega arith) c.txs.invariant
+    room_at c.args.dag.now (carried_of c.args.self.now) c.args.txs.now c.txs.place c.txs.self c.requires.room (omega arith) c.txs.invariant
 
 pub returns-in_err-carry-clause-err : goal.returns-in_err-carry-clause-err
 returns-in_err-carry-clause-err c =
     always_err c.from_residual.result
-    (partly_there c.args.dag.now (carried_of c.args.self.now) c.args.txs.now c.txs.tx-index c.txs.self c.carry.new.self c.txs.invariant c.in_err-carry.ensures.err)
+    (partly_there c.args.dag.now (carried_of c.args.self.now) c.args.txs.now c.txs.place c.txs.self c.carry.new.self c.txs.invariant c.in_err-carry.ensures.err)
 
 pub txs-preserved : goal.txs-preserved
 txs-preserved c =
-    carried_more c.args.dag.now (carried_of c.args.self.now) c.args.txs.now c.txs.tx-index c.tx-item.result c.txs.self c.carry.new.self (omega arith)
-    c.tx-item.is c.txs.invariant c.in_ok-carry.ensures.ok
+    carried_more c.args.dag.now (carried_of c.args.self.now) c.args.txs.now c.txs.place c.index-txs-place.result c.txs.self c.carry.new.self (omega arith)
+    c.index-txs-place.is c.txs.invariant c.in_ok-carry.ensures.ok

@@ -4,4 +4,4 @@ use Rattle.sp_carry.specs.Kept.{carried_of, Keeps}
 use Rattle.sp_carry.proofs.table.Table.carry_all.Given as goal
 
 abbrev pub invariant-txs : goal.invariant-txs
-invariant-txs l = Keeps l.self (with_carriers l.dag (carried_of l.initial.self) (take l.tx-index l.txs))
+invariant-txs l = Keeps l.self (with_carriers l.dag (carried_of l.initial.self) (take l.place l.txs))

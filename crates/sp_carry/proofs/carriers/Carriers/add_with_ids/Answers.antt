@@ -8,7 +8,7 @@ use Rattle.sp_carry.proofs.Cutting.{counted_value, IsPartly, partly_read, restor
 use Rattle.sp_carry.proofs.Linked.{kept_is}
 use Rattle.sp_carry.proofs.Rowed.{rowed, rows_back, rows_before, IsRowed}
 use Rattle.sp_carry.proofs.Sourced.{sources_back, sources_grown, sources_short}
-use Rattle.sp_carry.proofs.carriers.Carriers.add.Goals as goal
+use Rattle.sp_carry.proofs.carriers.Carriers.add_with_ids.Goals as goal
 
 block_carried : (c : goal.After-add_rows-arg-in-Ok-1) → IsRowed (carried_of c.self.inside.table) (carried_of c.carry_with_room.new.table)
 block_carried c =
