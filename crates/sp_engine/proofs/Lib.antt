@@ -56,3 +56,4 @@ pub mod AllKept
 pub mod NamedCoins
 pub mod NamedOutputs
 pub mod Leaving
+mod ToldIds

@@ -6,3 +6,4 @@ pub mod Causes
 pub mod Votes
 pub mod Engine
 pub mod AnyOrder
+pub mod Told

@@ -165,8 +165,9 @@ impl Engine {
         ensures one { IfOk result (λ answer. (id : ℕ) → answer ≡ Kept id 1 →
             GrewByOne self.old self.new) }
     {
-        match valid_block(self.alloc, self.bits, bytes)? {
-            Ok(block) => self.keep(block),
+        let mut tx_ids = Vec::new(self.alloc);
+        match valid_block(self.alloc, self.bits, bytes, &mut tx_ids)? {
+            Ok(block) => self.keep(block, tx_ids.as_slice()),
             Err(refusal) => Ok(Answer::Refused(refusal)),
         }
     }

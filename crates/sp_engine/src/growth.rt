@@ -11,6 +11,7 @@ ghost use Rattle.sp_money.specs.Locks.{locks_of};
 ghost use Rattle.sp_accept.specs.Acceptance.{first_blocks};
 ghost use Rattle.sp_accept.specs.Flips.{flips_of};
 ghost use Rattle.sp_engine.specs.Engine.{AreNumbered, first_carried, first_numbered, GoesOn, IsAccepting, IsPaying, IsWider};
+ghost use Rattle.sp_engine.specs.Told.{AreTold};
 ghost use Rattle.sp_engine.specs.Votes.{AreJoining, AreVoted, Grew, HaveJoined, IsAsBefore, Tallied};
 
 use crate::acceptance::update;
@@ -19,7 +20,7 @@ use crate::votes::{Before, Votes};
 use sp_accept::Accepted;
 use sp_carry::{Carriers, Flip};
 use sp_dag::Dag;
-use sp_ids::{BlockId, Memory};
+use sp_ids::{BlockId, Memory, TxId};
 use sp_money::Purse;
 use sp_pool::Pool;
 
@@ -38,8 +39,11 @@ fn decide(
     accepted: &mut Accepted,
     purse: &mut Purse,
     ids: &[BlockId],
+    arrived: &BlockId,
+    tx_ids: &[TxId],
     before: &mut Before,
 ) -> Result<Vec<Flip>, Memory>
+    requires told { AreTold pool.now arrived.now tx_ids.now }
     requires numbered { AreNumbered pool.now dag.old }
     requires joined { (old : Tallied) × HaveJoined dag.old before.old.blocks old votes.old before.old.saved
         × (before.old.tips + 1 ≡ length old.views) × (before.old.sums ≡ old.sums) }
@@ -87,6 +91,8 @@ fn decide(
         before.tips,
         &mut before.saved,
         ids,
+        arrived,
+        tx_ids,
     )?;
     // Tells the proof what numbered blocks are.
     let _blocks = dag.len();
@@ -133,7 +139,8 @@ fn take_back(
 
 /// Adds the kept blocks of these ids, which become present one after another, their votes and their
 /// carriers, decides on the carriers that may have changed, and turns in the purse what turned. Every
-/// call that may be refused memory comes before the first view from before is let go.
+/// call that may be refused memory comes before the first view from before is let go. The transactions
+/// of the block that arrived have these ids.
 ///
 /// # Errors
 ///
@@ -146,7 +153,10 @@ pub(crate) fn grow(
     accepted: &mut Accepted,
     purse: &mut Purse,
     ids: &[BlockId],
+    arrived: &BlockId,
+    tx_ids: &[TxId],
 ) -> Result<(), Memory>
+    requires told { AreTold pool.now arrived.now tx_ids.now }
     requires numbered { AreNumbered pool.now dag.old }
     requires voted { AreVoted dag.old votes.old }
     requires accepting { IsAccepting pool.now dag.old carriers.old accepted.old }
@@ -181,6 +191,8 @@ pub(crate) fn grow(
         accepted,
         purse,
         ids,
+        arrived,
+        tx_ids,
         &mut before,
     ) {
         Ok(flips) => {

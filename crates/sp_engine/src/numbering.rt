@@ -1,21 +1,50 @@
 //! The numbering of the blocks that become present, in their order, with their votes and carriers.
 
-ghost use Rattle.std.specs.Prelude.{◌≡◌, ◌≤◌, ◌+◌, ◌++◌, ◌∷◌, [], ℕ, List, length, IfOk, OnErr, OnOk};
+ghost use Rattle.std.specs.Prelude.{◌≡◌, ◌<◌, ◌≤◌, ◌+◌, ◌++◌, ◌∷◌, [], ℕ, List, length, map, IfOk, IsTrue, OnErr, OnOk};
+ghost use Rattle.sp_tx.specs.Spending.{id_of};
 ghost use Rattle.sp_pool.specs.Kept.{IsNext, Releases};
+ghost use Rattle.sp_carry.specs.Carried.{with_block};
 ghost use Rattle.sp_accept.specs.Acceptance.{Acceptance, IsRight};
 ghost use Rattle.sp_accept.specs.Changes.{carriers_below, TellsChanges};
 ghost use Rattle.sp_engine.specs.Engine.{AreCarried, AreNumbered, first_carried, first_numbered, GoesOn};
+ghost use Rattle.sp_engine.specs.Told.{AreTold};
 ghost use Rattle.sp_engine.specs.Votes.{AreJoining, HaveJoined, Tallied};
 
 use crate::votes::Votes;
 use sp_carry::Carriers;
 use sp_dag::Dag;
-use sp_ids::{BlockId, Memory};
+use sp_ids::{BlockId, Memory, TxId};
 use sp_pool::Pool;
+use sp_tx::Txs;
 use sp_view::Saved;
+
+/// Adds the carriers of the next block, which has these transactions. Where their ids are known, they
+/// are these.
+fn carry(
+    dag: &Dag,
+    carriers: &mut Carriers,
+    number: u16,
+    txs: &Txs,
+    tx_ids: &[TxId],
+    known: bool,
+) -> Result<(), Memory>
+    requires next { carriers.old.blocks ≡ number }
+    requires there { number < length dag.now.parents }
+    requires few { length txs.now ≤ 256 }
+    requires ids { IsTrue known → tx_ids.now ≡ map id_of txs.now }
+    ensures ok { OnOk result (carriers.new ≡ with_block dag.now carriers.old txs.now) }
+    ensures err { OnErr result (carriers.new ≡ carriers.old) }
+{
+    if known {
+        carriers.add_with_ids(dag, number, txs, tx_ids)
+    } else {
+        carriers.add(dag, number, txs)
+    }
+}
 
 /// Adds the kept block of this id, which is the earliest one that is ready, its votes and its
 /// carriers. The views of so many tips from before stay, and what the view of all blocks was is saved.
+/// The transactions of the block that arrived have these ids.
 fn add_one(
     pool: &Pool,
     dag: &mut Dag,
@@ -24,7 +53,10 @@ fn add_one(
     tips: usize,
     saved: &mut Saved,
     id: &BlockId,
+    arrived: &BlockId,
+    tx_ids: &[TxId],
 ) -> Result<(), Memory>
+    requires told { AreTold pool.now arrived.now tx_ids.now }
     requires numbered { AreNumbered pool.now dag.old }
     requires joined { (n : ℕ) × (old : Tallied) × HaveJoined dag.old n old votes.old saved.old
         × (tips + 1 ≡ length old.views) }
@@ -61,7 +93,7 @@ fn add_one(
             // Tells the proof what numbered blocks are.
             let _more = dag.len();
             votes.add(dag, tips, saved)?;
-            carriers.add(dag, number, &block.txs)?;
+            carry(dag, carriers, number, &block.txs, tx_ids, id == arrived)?;
             // Tells the proof what carriers are.
             let _added = carriers.block_count();
             Ok(())
@@ -72,6 +104,7 @@ fn add_one(
 
 /// Adds the kept blocks of these ids, which become present one after another, their votes and their
 /// carriers. The views of so many tips from before stay, and what the view of all blocks was is saved.
+/// The transactions of the block that arrived have these ids.
 ///
 /// # Errors
 ///
@@ -84,7 +117,10 @@ pub(crate) fn add_all(
     tips: usize,
     saved: &mut Saved,
     ids: &[BlockId],
+    arrived: &BlockId,
+    tx_ids: &[TxId],
 ) -> Result<(), Memory>
+    requires told { AreTold pool.now arrived.now tx_ids.now }
     requires numbered { AreNumbered pool.now dag.old }
     requires joined { (n : ℕ) × (old : Tallied) × HaveJoined dag.old n old votes.old saved.old
         × (tips + 1 ≡ length old.views) }
@@ -112,7 +148,7 @@ pub(crate) fn add_all(
         carriers_below carriers.new.rows n ≡ carriers_below carriers.old.rows n) }
 {
     for id in ids {
-        add_one(pool, dag, votes, carriers, tips, saved, id)?;
+        add_one(pool, dag, votes, carriers, tips, saved, id, arrived, tx_ids)?;
     }
     Ok(())
 }

@@ -1,7 +1,8 @@
 //! What becomes of a valid block that arrives: it is known, there is no room for it, or it is kept.
 
-ghost use Rattle.std.specs.Prelude.{◌≡◌, ◌++◌, ◌∷◌, [], ℕ, IfOk, OnOk, OnErr, IsFalse};
+ghost use Rattle.std.specs.Prelude.{◌≡◌, ◌++◌, ◌∷◌, [], ℕ, map, IfOk, OnOk, OnErr, IsFalse};
 ghost use Rattle.sp_ids.specs.Bits.{BeginsWithZeros};
+ghost use Rattle.sp_tx.specs.Spending.{id_of};
 ghost use Rattle.sp_block.specs.Block.{IsOther};
 ghost use Rattle.sp_pool.specs.Kept.{keep, standing_of};
 ghost use Rattle.sp_pool.specs.declared.answers.Standing.{Standing};
@@ -13,12 +14,14 @@ use crate::answer::Answer;
 use crate::engine::Engine;
 use crate::growth::grow;
 use sp_block::Block;
-use sp_ids::{BlockId, Memory};
+use sp_ids::{BlockId, Memory, TxId};
 use sp_pool::{Offer, Standing};
 
 impl Engine {
-    /// Keeps a valid block where its id is new and there is room for it, and answers what became of it.
-    pub(super) fn keep(&mut self, block: Block) -> Result<Answer, Memory>
+    /// Keeps a valid block, whose transactions have these ids, where its id is new and there is room
+    /// for it, and answers what became of it.
+    pub(super) fn keep(&mut self, block: Block, tx_ids: &[TxId]) -> Result<Answer, Memory>
+        requires ids { tx_ids.now ≡ map id_of block.txs }
         requires other { IsOther block }
         requires work { BeginsWithZeros block.id self.old.bits }
         ensures answer { IfOk result (λ answer. answer ≡
@@ -36,16 +39,17 @@ impl Engine {
         match self.pool.standing(&id) {
             Standing::Known => Ok(Answer::Known { id }),
             Standing::Full => Ok(Answer::Full),
-            Standing::Fresh => self.take(block),
+            Standing::Fresh => self.take(block, tx_ids),
         }
     }
 
-    /// Keeps a valid block of a new id, for which there is room.
+    /// Keeps a valid block of a new id, for which there is room. Its transactions have these ids.
     ///
     /// # Errors
     ///
     /// `Memory` where there was none; the engine is as before, but that more rows may be spare.
-    pub fn take(&mut self, block: Block) -> Result<Answer, Memory>
+    fn take(&mut self, block: Block, tx_ids: &[TxId]) -> Result<Answer, Memory>
+        requires ids { tx_ids.now ≡ map id_of block.txs }
         requires other { IsOther block }
         requires work { BeginsWithZeros block.id self.old.bits }
         requires fresh { standing_of self.old.kept block.id ≡ Standing.Fresh }
@@ -72,6 +76,8 @@ impl Engine {
                     &mut self.accepted,
                     &mut self.purse,
                     ids,
+                    &id,
+                    tx_ids,
                 );
                 match grown {
                     Ok(()) => Ok(Answer::Kept { id, present }),

@@ -1,4 +1,6 @@
-use Rattle.std.proofs.Common.{◌≡◌, ◌<◌, ◌∙◌, map, sym, ap, length, arith}
+use Rattle.std.proofs.Common.{◌≡◌, ◌<◌, ◌∙◌, ℕ, map, sym, ap, length, arith, eqb, rules}
+use Rattle.std.specs.Prelude.{find}
+use Rattle.sp_tx.specs.Spending.{id_of}
 use Rattle.std.specs.Option.{option_copied}
 use Rattle.sp_block.specs.Block.{ReadBlock}
 use Rattle.std.specs.List.{list_all}
@@ -56,19 +58,19 @@ returns-clause-numbered c =
     AreNumbered-more kept c.args.dag.now c.add.new.self c.args.id.now c.block-in-Some.inside.salt c.as_slice.result.now c.kept-kept.ensures.blocks c.len-blocks.ensures.numbered
     c.requires.numbered c.requires.next is is_salt c.in_ok-number-in-Some.ensures.ok
 
-pub add-requires-in-Some-2-clause-few : goal.add-requires-in-Some-2-clause-few
-add-requires-in-Some-2-clause-few c = few_txs _ c.block-in-Some.invariant
+pub carry-requires-clause-few : goal.carry-requires-clause-few
+carry-requires-clause-few c = few_txs _ c.block-in-Some.invariant
 
 pub returns-clause-carried : goal.returns-clause-carried
 returns-clause-carried c =
-    AreCarried-more c.args.pool.now c.args.dag.now c.add.new.self c.args.carriers.now c.add-in-Some-2.new.self c.args.id.now c.block-in-Some.inside.salt c.as_slice.result.now c.in-Some.block.now
+    AreCarried-more c.args.pool.now c.args.dag.now c.add.new.self c.args.carriers.now c.carry.new.carriers c.args.id.now c.block-in-Some.inside.salt c.as_slice.result.now c.in-Some.block.now
     c.len-blocks.ensures.numbered c.len-more.ensures.numbered c.requires.carried (sym c.block.ensures ∙ ap option_copied c.in-Some.is) c.in_ok-number-in-Some.ensures.ok
-    c.block_count-added.ensures.carried (c.in_ok-add-in-Some-2.ensures.ok ∙ ap (λ (b : ReadBlock). with_block c.add.new.self c.args.carriers.now b.txs) c.block-in-Some.view_is)
+    c.block_count-added.ensures.carried (c.in_ok-carry-in-Some.ensures.ok ∙ ap (λ (b : ReadBlock). with_block c.add.new.self c.args.carriers.now b.txs) c.block-in-Some.view_is)
 
 pub returns-clause-more : goal.returns-clause-more
 returns-clause-more c =
-    block_goes c.add.new.self c.args.carriers.now c.add-in-Some-2.new.self c.in-Some.block.now.txs
-    (c.in_ok-add-in-Some-2.ensures.ok ∙ ap (λ (b : ReadBlock). with_block c.add.new.self c.args.carriers.now b.txs) c.block-in-Some.view_is)
+    block_goes c.add.new.self c.args.carriers.now c.carry.new.carriers c.in-Some.block.now.txs
+    (c.in_ok-carry-in-Some.ensures.ok ∙ ap (λ (b : ReadBlock). with_block c.add.new.self c.args.carriers.now b.txs) c.block-in-Some.view_is)
 
 pub add-requires-in-Some-clause-joining : goal.add-requires-in-Some-clause-joining
 add-requires-in-Some-clause-joining c = (
@@ -87,21 +89,21 @@ returns-clause-joined c = λ n old joined tips.
 
 pub returns-clause-right : goal.returns-clause-right
 returns-clause-right c = λ a right.
-    let added = c.in_ok-add-in-Some-2.ensures.ok ∙ ap (λ (b : ReadBlock). with_block c.add.new.self c.args.carriers.now b.txs) c.block-in-Some.view_is in
+    let added = c.in_ok-carry-in-Some.ensures.ok ∙ ap (λ (b : ReadBlock). with_block c.add.new.self c.args.carriers.now b.txs) c.block-in-Some.view_is in
     let long : c.args.carriers.now.blocks ≡ length c.args.dag.now.parents = carried_count c.args.pool.now c.args.dag.now c.args.carriers.now c.len-blocks.ensures.numbered c.requires.carried in
-    block_right c.args.dag.now c.add.new.self c.args.id.now c.block-in-Some.inside.salt (map (number_of c.args.dag.now.ids) c.as_slice.result.now) c.args.carriers.now c.add-in-Some-2.new.self
+    block_right c.args.dag.now c.add.new.self c.args.id.now c.block-in-Some.inside.salt (map (number_of c.args.dag.now.ids) c.as_slice.result.now) c.args.carriers.now c.carry.new.carriers
     c.in-Some.block.now.txs a c.in_ok-number-in-Some.ensures.ok
     c.len-blocks.ensures.numbered c.len-more.ensures.numbered.order c.requires.carried.carried c.block_count-added.ensures.carried (omega (arith, long)) added right
 
 pub returns-clause-longer : goal.returns-clause-longer
 returns-clause-longer c =
-    block_longer c.add.new.self c.args.carriers.now c.add-in-Some-2.new.self c.in-Some.block.now.txs
-    (c.in_ok-add-in-Some-2.ensures.ok ∙ ap (λ (b : ReadBlock). with_block c.add.new.self c.args.carriers.now b.txs) c.block-in-Some.view_is)
+    block_longer c.add.new.self c.args.carriers.now c.carry.new.carriers c.in-Some.block.now.txs
+    (c.in_ok-carry-in-Some.ensures.ok ∙ ap (λ (b : ReadBlock). with_block c.add.new.self c.args.carriers.now b.txs) c.block-in-Some.view_is)
 
 pub returns-clause-below : goal.returns-clause-below
 returns-clause-below c = λ n le.
-    block_below c.add.new.self c.args.carriers.now c.add-in-Some-2.new.self c.in-Some.block.now.txs n
-    (c.in_ok-add-in-Some-2.ensures.ok ∙ ap (λ (b : ReadBlock). with_block c.add.new.self c.args.carriers.now b.txs) c.block-in-Some.view_is) le
+    block_below c.add.new.self c.args.carriers.now c.carry.new.carriers c.in-Some.block.now.txs n
+    (c.in_ok-carry-in-Some.ensures.ok ∙ ap (λ (b : ReadBlock). with_block c.add.new.self c.args.carriers.now b.txs) c.block-in-Some.view_is) le
 
 pub returns-in_err-add-in-Some-clause-err : goal.returns-in_err-add-in-Some-clause-err
 returns-in_err-add-in-Some-clause-err c = on_err c.from_residual-in_err-add-in-Some.result (λ n old joined _.
@@ -109,8 +111,8 @@ returns-in_err-add-in-Some-clause-err c = on_err c.from_residual-in_err-add-in-S
     (joined_stays c.args.dag.now c.add.new.self c.args.id.now c.block-in-Some.inside.salt (map (number_of c.args.dag.now.ids) c.as_slice.result.now) n old c.args.votes.now c.args.saved.now
     c.in_ok-number-in-Some.ensures.ok c.len-blocks.ensures.numbered c.len-more.ensures.numbered.order joined))
 
-pub returns-in_err-add-in-Some-2-clause-err : goal.returns-in_err-add-in-Some-2-clause-err
-returns-in_err-add-in-Some-2-clause-err c = on_err c.from_residual-in_err-add-in-Some-2.result (λ n old joined tips.
+pub returns-in_err-carry-in-Some-clause-err : goal.returns-in_err-carry-in-Some-clause-err
+returns-in_err-carry-in-Some-clause-err c = on_err c.from_residual-in_err-carry-in-Some.result (λ n old joined tips.
     (c.in_ok-add-in-Some.ensures.joined n old
     (joined_stays c.args.dag.now c.add.new.self c.args.id.now c.block-in-Some.inside.salt (map (number_of c.args.dag.now.ids) c.as_slice.result.now) n old c.args.votes.now c.args.saved.now
     c.in_ok-number-in-Some.ensures.ok c.len-blocks.ensures.numbered c.len-more.ensures.numbered.order joined) tips).joining)
@@ -119,8 +121,8 @@ pub returns-in_err-add-in-Some-clause-front : goal.returns-in_err-add-in-Some-cl
 returns-in_err-add-in-Some-clause-front c = λ n le.
     ap (λ (d : Numbered). cut_to d n) c.in_ok-number-in-Some.ensures.ok ∙ first_stays c.args.dag.now c.args.id.now c.block-in-Some.inside.salt c.as_slice.result.now n c.len-blocks.ensures.numbered.long c.len-blocks.ensures.numbered.salts_long le
 
-pub returns-in_err-add-in-Some-2-clause-front : goal.returns-in_err-add-in-Some-2-clause-front
-returns-in_err-add-in-Some-2-clause-front c = λ n le.
+pub returns-in_err-carry-in-Some-clause-front : goal.returns-in_err-carry-in-Some-clause-front
+returns-in_err-carry-in-Some-clause-front c = λ n le.
     ap (λ (d : Numbered). cut_to d n) c.in_ok-number-in-Some.ensures.ok ∙ first_stays c.args.dag.now c.args.id.now c.block-in-Some.inside.salt c.as_slice.result.now n c.len-blocks.ensures.numbered.long c.len-blocks.ensures.numbered.salts_long le
 
 pub returns-clause-front : goal.returns-clause-front
@@ -129,5 +131,11 @@ returns-clause-front c = λ n le.
 
 pub returns-clause-first : goal.returns-clause-first
 returns-clause-first c = λ n le.
-    ap (λ (k : Carried). carried.cut_to k n) (c.in_ok-add-in-Some-2.ensures.ok ∙ ap (λ (b : ReadBlock). with_block c.add.new.self c.args.carriers.now b.txs) c.block-in-Some.view_is)
+    ap (λ (k : Carried). carried.cut_to k n) (c.in_ok-carry-in-Some.ensures.ok ∙ ap (λ (b : ReadBlock). with_block c.add.new.self c.args.carriers.now b.txs) c.block-in-Some.view_is)
     ∙ cut_before c.add.new.self c.args.carriers.now c.in-Some.block.now.txs n c.requires.carried.carried le
+
+pub carry-requires-clause-ids : goal.carry-requires-clause-ids
+carry-requires-clause-ids c = λ same.
+    let is : c.args.id.now ≡ c.args.arrived.now = search rules in
+    c.requires.told c.in-Some.block.now (ap (λ (z : ℕ). find (λ (x : ReadBlock). eqb x.id z) c.args.pool.now) (sym is) ∙ sym c.block.ensures ∙ ap option_copied c.in-Some.is)
+    ∙ sym (ap (λ (b : ReadBlock). map id_of b.txs) c.block-in-Some.view_is)

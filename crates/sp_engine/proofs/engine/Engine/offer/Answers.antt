@@ -4,12 +4,12 @@ use Rattle.sp_engine.specs.Engine.{Ledger}
 use Rattle.sp_engine.proofs.Judged.{answer_valid, if_ok, kept_refused, kept_valid, on_ok, refused, refused_is_no_growth}
 use Rattle.sp_engine.proofs.engine.Engine.offer.Goals as goal
 
-pub returns-in-Err-clause-answer : goal.returns-in-Err-clause-answer
-returns-in-Err-clause-answer c =
+pub returns-clause-answer : goal.returns-clause-answer
+returns-clause-answer c =
     refused c.args.self.now.bits c.args.self.now.kept c.args.bytes.now c.in-Err.refusal (ap (λ (l : Ledger). valid_in l.bits c.args.bytes.now) (sym c.self.view_is) ∙ sym c.in_ok-block.ensures.found ∙ c.in-Err.is)
 
-pub returns-in-Err-clause-kept : goal.returns-in-Err-clause-kept
-returns-in-Err-clause-kept c =
+pub returns-clause-kept : goal.returns-clause-kept
+returns-clause-kept c =
     kept_refused c.args.self.now.bits c.args.self.now.kept c.args.bytes.now c.in-Err.refusal (ap (λ (l : Ledger). valid_in l.bits c.args.bytes.now) (sym c.self.view_is) ∙ sym c.in_ok-block.ensures.found ∙ c.in-Err.is)
 
 pub returns-in-Ok-clause-answer : goal.returns-in-Ok-clause-answer
@@ -31,8 +31,8 @@ returns-in-Ok-clause-idle c = c.keep.ensures.idle
 pub returns-in-Ok-clause-one : goal.returns-in-Ok-clause-one
 returns-in-Ok-clause-one c = c.keep.ensures.one
 
-pub returns-in-Err-clause-idle : goal.returns-in-Err-clause-idle
-returns-in-Err-clause-idle c = λ _. (refl, refl)
+pub returns-clause-idle : goal.returns-clause-idle
+returns-clause-idle c = λ _. (refl, refl)
 
-pub returns-in-Err-clause-one : goal.returns-in-Err-clause-one
-returns-in-Err-clause-one c = λ id kept. refused_is_no_growth c.in-Err.refusal id kept
+pub returns-clause-one : goal.returns-clause-one
+returns-clause-one c = λ id kept. refused_is_no_growth c.in-Err.refusal id kept

@@ -5,6 +5,7 @@ use Rattle.sp_engine.specs.Arrivals.{joined}
 use Rattle.sp_engine.specs.Engine.{Ledger}
 use Rattle.sp_engine.specs.declared.answer.Answer.TheVariants.{Kept, Held}
 use Rattle.sp_engine.proofs.Arriving.{comes_accepting, comes_answer, comes_engine, comes_fitting, comes_numbered, comes_order, comes_of, held_is_no_growth, joins_of, kept_is, stands_again, waits_answer, waits_engine, waits_of}
+use Rattle.sp_engine.proofs.ToldIds.{comes_told}
 use Rattle.sp_engine.proofs.engine.Engine.take.Goals as goal
 
 pub grow-grown-requires-clause-numbered : goal.grow-grown-requires-clause-numbered
@@ -91,3 +92,8 @@ invariant_of-self-in-Err c =
     let came = comes_of c.self.view_is c.self.invariant c.block.view_is c.block.invariant c.requires.other c.requires.fresh in
     let back = c.withdraw.ensures c.self.inside.pool c.args.block (kept_is c.offer.new.self c.in_ok-ids.ensures.kept came) in
     stands_again back c.in-Err.ensures.dag c.in-Err.ensures.votes c.in-Err.ensures.carriers c.in-Err.ensures.accepted c.in-Err.ensures.purse c.self.invariant
+
+pub grow-grown-requires-clause-told : goal.grow-grown-requires-clause-told
+grow-grown-requires-clause-told c =
+    let came = comes_of c.self.view_is c.self.invariant c.block.view_is c.block.invariant c.requires.other c.requires.fresh in
+    comes_told c.offer.new.self c.block.inside.id c.args.tx_ids.now (ap (λ (b : ReadBlock). b.id) c.block.view_is) c.in_ok-ids.ensures.kept came c.requires.ids
