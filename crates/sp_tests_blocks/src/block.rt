@@ -4,8 +4,9 @@
 use crate::block_parts::{HEAD, Part, RICH, fields_of};
 use crate::block_rows::{PARENT_COUNT, ROWS, Row, SHORT, TOO_LONG, TX_COUNT, TX_SHORT, VERSION};
 use crate::pieces::{LOCK, LOW, ONE, joined};
-use sp_block::{ReadBlockFault, read_block};
+use sp_block::{ReadBlockFault, read_block, read_block_with_ids};
 use sp_fixtures::flat;
+use sp_ids::TxId;
 use std::alloc::{AllocError, Global};
 use std::test::Fail;
 
@@ -66,6 +67,20 @@ fn longest(alloc: Global) -> Result<Vec<u8>, AllocError> {
     let last = flat(alloc, &[&[34], &[5; 34]])?;
     bytes.extend_from_slice(&sixteen(alloc, 107, &preimage, &last)?)?;
     Ok(bytes)
+}
+
+#[test]
+fn ids_are_told_behind_those_from_before(rt: HostRuntime) -> Result<(), Fail> {
+    let alloc = rt.alloc();
+    let first = TxId::of(b"first");
+    let mut ids = Vec::from_slice(alloc, &[first])?;
+    let block = read_block_with_ids(alloc, &longest(alloc)?, false, &mut ids)?;
+    assert_eq!(rt; ids.len(), 109);
+    assert!(rt; ids.first() == Some(&first));
+    for (tx, id) in block.txs.as_slice().iter().zip(ids.iter().skip(1)) {
+        assert_eq!(rt; sp_tx::id(alloc, tx)?, *id);
+    }
+    Ok(())
 }
 
 /// What is read of the longest block, and of one byte more.

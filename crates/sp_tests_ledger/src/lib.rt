@@ -2,7 +2,8 @@
 //! calls. They stand in a crate of their own because a crate with tests is proved twice.
 //!
 //! `rivals` tests which carriers conflict, and `collisions` that outpoints which crowd a table by hash
-//! don't make the look-ups of carriers slow. `turns` tests which transactions turn as blocks come.
+//! don't make the look-ups of carriers slow, and `told` that carriers are the same where the ids of their
+//! transactions are told. `turns` tests which transactions turn as blocks come.
 //! `votes` tests what an engine says of each two blocks, `settled` what it says where blocks settle ties,
 //! `vectors` what it says of graphs whose words were worked out apart, and `shared_rows` the rows that its
 //! views share.
@@ -74,6 +75,8 @@ mod settled;
 mod shared_rows;
 #[cfg(test)]
 mod spent_twice;
+#[cfg(test)]
+mod told;
 #[cfg(test)]
 mod turn_rows;
 #[cfg(test)]
