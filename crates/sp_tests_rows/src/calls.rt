@@ -5,7 +5,8 @@ use sp_rows::RowPool;
 use std::process::Abort;
 use std::test::Fail;
 
-/// How many rows are reserved, which lie in three chunks, and how many calls are made.
+/// How many rows are reserved, which lie in four chunks, and how many calls are made. At the end 560 rows are live, in
+/// the first three of these.
 const CALLS: u32 = 900;
 
 #[derive(Clone, Copy, Debug, PartialEq, Eq)]
