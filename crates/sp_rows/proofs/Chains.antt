@@ -26,3 +26,8 @@ IsPassed-live next counts from x first (suc n) chain live =
 pub IsPassed-behind : (next : ℕ → ℕ) (counts : List ℕ) (from x first n : ℕ) → IsChain next counts from first n → from ≤ x → IsPassed next x first n
 IsPassed-behind next counts from x first zero chain le = tt
 IsPassed-behind next counts from x first (suc n) chain le = (λ e. omega (arith, e, le, chain.0), IsPassed-behind next counts from x (next first) n chain.3 le)
+
+-- a chain of rows before one number is one of rows before a later number
+pub IsChain-later : (next : ℕ → ℕ) (counts : List ℕ) (from from' first n : ℕ) → from ≤ from' → IsChain next counts from first n → IsChain next counts from' first n
+IsChain-later next counts from from' first zero le chain = tt
+IsChain-later next counts from from' first (suc n) le chain = (omega (arith, le, chain.0), chain.1, chain.2, IsChain-later next counts from from' (next first) n le chain.3)

@@ -6,7 +6,7 @@ use Rattle.std.proofs.lemmas.List.{length-set, length-take, get_or-take, get_or_
 use Rattle.std.proofs.lemmas.List.Sums.{sum_by-set, sum_by_more}
 use Rattle.sp_rows.specs.declared.free.Free.{Free}
 use Rattle.sp_rows.specs.Kept.{link_at, Grows, Differs, IsPassed, IsChain, one_if, live_of, IsFree}
-use Rattle.sp_rows.proofs.Chains.{IsChain-moves, IsPassed-live, IsPassed-behind}
+use Rattle.sp_rows.proofs.Chains.{IsChain-moves, IsChain-later, IsPassed-live, IsPassed-behind}
 use Rattle.sp_rows.proofs.Lives.{one_if-some, one_if-none}
 
 -- a count that isn't 0 is one of the list
@@ -24,22 +24,6 @@ live_of-before : (counts : List ℕ) (from id count : ℕ) → id < from → id 
 live_of-before counts from id count before within =
     let at : id < length (take from counts) = omega (arith, length-take from counts, before, within) in
     omega (arith, ap live_of (take-set-lt from counts id count before), sum_by-set one_if (take from counts) id count 0 at, ap one_if (get_or-take from counts id 0 before))
-
--- no row is free before `from`, and the one there isn't either
-pub live_of-next : (counts : List ℕ) (at : ℕ) → at < length counts → live_of (take at counts) ≡ at → (get_or counts at 0 ≡ 0 → ⊥) → live_of (take (at + 1) counts) ≡ at + 1
-live_of-next counts at within passed some = omega (arith, sum_by_more one_if counts at 0 within, passed, one_if-some (get_or counts at 0) (positive (get_or counts at 0) some))
-  where
-    positive : (n : ℕ) → (n ≡ 0 → ⊥) → 0 < n
-    positive zero h = absurd (h refl)
-    positive (suc n) h = omega arith
-
--- where fewer rows are live than there are, some row is free from there on
-pub live_of-within : (counts : List ℕ) (at : ℕ) → at ≤ length counts → live_of (take at counts) ≡ at → live_of counts < length counts → at < length counts
-live_of-within counts at le passed some = by (cases_lt at (length counts))
-  where
-    by : (at < length counts) ⊎ (length counts ≤ at) → at < length counts
-    by (inl lt) = lt
-    by (inr ge) = absurd (let all = ap live_of (take_all at counts ge) in omega (arith, all, passed, some, le, ge))
 
 -- at first
 pub IsFree-all : (chunks : List (List ℕ)) (counts : List ℕ) → IsFree chunks counts (record { from = 0; first = 0; linked = 0 })
@@ -86,6 +70,10 @@ module _ (chunks chunks' : List (List ℕ)) (counts : List ℕ) (free : Free) (i
       same (inl before) = omega (arith, live_of-before counts free.from id count before (some-within counts id had), one_if-some (get_or counts id 0) had, one_if-some count some)
       same (inr behind) = ap live_of (take-set-le free.from counts id count behind)
 
+  -- where none is left from `from` on, the chain has some
+  pub IsFree-some : length counts ≤ free.from → live_of counts < length counts → 0 < free.linked
+  IsFree-some none some = (let all = ap live_of (take_all free.from counts none) in omega (arith, all, is.passed, is.within, none, some))
+
   -- the first row of the chain
   head : 0 < free.linked
       → (free.first < free.from) × (get_or counts free.first 0 ≡ 0) × IsPassed (link_at chunks) free.first (link_at chunks free.first) (free.linked - 1)
@@ -122,22 +110,33 @@ module _ (chunks chunks' : List (List ℕ)) (counts : List ℕ) (free : Free) (i
             (λ k other lt. get_or-set_other counts free.first k 1 0 other) (link_at chunks free.first) (free.linked - 1) at.2 at.3).0;
       }
 
-  -- the lowest row that isn't counted is taken, where there is no chain
-  pub IsFree-reached : (at : ℕ) → free.linked ≡ 0 → at < length counts → live_of (take at counts) ≡ at
-      → IsFree chunks' (set counts at 1) (record { from = at + 1; first = free.first; linked = free.linked })
-  IsFree-reached at none within passed = record {
-    within = omega (arith, within, length-set counts at 1);
-    passed = omega (
-      arith,
-      none,
-      sum_by_more one_if (set counts at 1) at 0 (omega (arith, within, length-set counts at 1)),
-      ap one_if (get_or-set_same counts at 1 0 within),
-      one_if-some 1 (omega arith),
-      ap live_of (take-set counts at 1),
-      passed,
-    );
-    chain = subst (λ (n : ℕ). IsChain (link_at chunks') (set counts at 1) (at + 1) free.first n) (sym none) tt;
+  -- all rows up to a later number are passed, where each is counted
+  pub IsFree-passed : (at : ℕ) → free.from ≤ at → at ≤ length counts → live_of (take at counts) + free.from ≡ live_of (take free.from counts) + at
+      → IsFree chunks counts (record { from = at; first = free.first; linked = free.linked })
+  IsFree-passed at le within passed = record {
+    within = within;
+    passed = omega (arith, is.passed, passed);
+    chain = IsChain-later (link_at chunks) counts free.from at free.first free.linked le is.chain;
   }
+
+  -- the lowest row from `from` on, which isn't counted, is taken
+  pub IsFree-reached : free.from < length counts → get_or counts free.from 0 ≡ 0 → Differs chunks chunks' free.from
+      → IsFree chunks' (set counts free.from 1) (record { from = free.from + 1; first = free.first; linked = free.linked })
+  IsFree-reached within none differs =
+      let at = free.from in
+      let passed = IsPassed-behind (link_at chunks) counts at at free.first free.linked is.chain (omega arith) in
+      record {
+        within = omega (arith, within, length-set counts at 1);
+        passed = omega (
+          arith,
+          is.passed,
+          sum_by_more one_if (set counts at 1) at 0 (omega (arith, within, length-set counts at 1)),
+          ap one_if (get_or-set_same counts at 1 0 within),
+          one_if-some 1 (omega arith),
+          ap live_of (take-set counts at 1),
+        );
+        chain = IsChain-later (link_at chunks') (set counts at 1) at (at + 1) free.first free.linked (omega arith) (moved at 1 differs passed).0;
+      }
 
   -- a row is counted no more, and comes first in the chain
   pub IsFree-linked : (id : ℕ) → id < free.from → Differs chunks chunks' id → link_at chunks' id ≡ free.first → 0 < get_or counts id 0

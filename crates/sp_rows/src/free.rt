@@ -1,5 +1,6 @@
 //! Which rows are free. They are handed out by number where that costs no more than a bounded number of steps for each row
-//! that is given back: rows that are taken one behind the other then lie side by side, and are read sooner.
+//! that is given back: rows that are taken one behind the other then lie side by side, and are read sooner. A row that was
+//! given back is taken again only where none is left behind the last one that was taken by number, for the same reason.
 
 ghost use Rattle.std.specs.Prelude.{◌≡◌, ◌+◌, ◌*◌, ◌^◌, ◌<◌, ◌≤◌, ℕ, List, take, length, slice_index_or, slice_set};
 ghost use Rattle.sp_rows.specs.Kept.{AreWhole, Differs, IsFree, live_of};
@@ -30,8 +31,8 @@ impl Free {
         }
     }
 
-    /// The free row that is taken next: the one that was given back last of those in the chain, or else the lowest one. It
-    /// isn't free from then on.
+    /// The free row that is taken next: the lowest one that isn't in the chain, or else the one of the chain that was given
+    /// back last. It isn't free from then on.
     pub(crate) fn next(&mut self, chunks: &Chunks, counts: &[u32]) -> u32
         requires free { IsFree chunks.now counts.now self.old }
         requires room { length counts.now ≤ 256 * length chunks.now }
@@ -42,15 +43,16 @@ impl Free {
         ensures free { (chunks' : List (List ℕ)) → Differs chunks.now chunks' result →
             IsFree chunks' (slice_set counts.now result 1) self.new }
     {
-        if self.linked > 0 {
-            let id = self.first as u32;
-            self.first = chunks.link(id);
-            self.linked -= 1;
-            return id;
-        }
         let id = first_uncounted(counts, self.from);
-        self.from = id + 1;
-        id as u32
+        if id < counts.len() {
+            self.from = id + 1;
+            return id as u32;
+        }
+        self.from = id;
+        let id = self.first as u32;
+        self.first = chunks.link(id);
+        self.linked -= 1;
+        id
     }
 
     /// A row that isn't counted any more is free.
@@ -70,17 +72,16 @@ impl Free {
     }
 }
 
-// The first row from this one on that isn't counted, where all before it are.
+// The first row from this one on that isn't counted, or how many rows there are where each of them is counted.
 fn first_uncounted(counts: &[u32], from: usize) -> usize
-    requires within { from ≤ length counts.now }
-    requires passed { live_of (take from counts.now) ≡ from }
-    requires some { live_of counts.now < length counts.now }
-    ensures within { result < length counts.now }
-    ensures none { slice_index_or counts.now result 0 ≡ 0 }
-    ensures passed { live_of (take result counts.now) ≡ result }
+    requires { from ≤ length counts.now }
+    ensures behind { from ≤ result }
+    ensures within { result ≤ length counts.now }
+    ensures none { result < length counts.now → slice_index_or counts.now result 0 ≡ 0 }
+    ensures passed { live_of (take result counts.now) + from ≡ live_of (take from counts.now) + result }
 {
     let mut at = from;
-    'rows: while counts[at] != 0 {
+    'rows: while at < counts.len() && counts[at] != 0 {
         at += 1;
     }
     at

@@ -76,10 +76,10 @@ impl RowPool {
     }
 
     /// Makes room, so that at least so many more rows can be taken, in time in proportion to the
-    /// rows that are new and those that there are, whose counts may move. Where a 64th of the rows
-    /// has been given back since they were handed out by number, they are so again: rows that are
-    /// taken one behind the other then lie side by side. Memory is answered where it was refused;
-    /// the pool is then as it was.
+    /// rows that are new and those that there are, whose counts may move. Where the chain of rows
+    /// that were given back has more than a 64th of all rows, they are handed out by number again,
+    /// from the first row on: those that are taken one behind the other then lie side by side.
+    /// Memory is answered where it was refused; the pool is then as it was.
     pub fn reserve(&mut self, n: u32) -> Result<(), Memory>
         requires { length self.old.rows + n ≤ 2 ^ 31 }
         ensures ok { OnOk result (n ≤ self.new.spare) }

@@ -48,6 +48,33 @@ fn rows_that_were_given_are_taken_by_number(rt: HostRuntime) -> Result<(), Fail>
     Ok(())
 }
 
+/// Of ten rows two are given back, and taken again, the last one first, behind all that were never taken.
+const GIVEN: &[u32] = &[3, 5];
+const TAKEN: &[u32] = &[10, 11, 12, 13, 5, 3];
+
+#[test]
+fn rows_that_were_given_are_taken_where_no_other_is_left(rt: HostRuntime) -> Result<(), Fail> {
+    let mut pool = RowPool::new(rt.alloc());
+    let mut rows = Vec::new(rt.alloc());
+    pool.reserve(14).ok().ok_or("memory")?;
+    for number in 0..10 {
+        let row = take(&rt, &mut pool, number);
+        assert_eq!(rt; row.id.0, number);
+        rows.push(row.id)?;
+    }
+    for number in GIVEN {
+        let id = *rows.get(*number as usize).ok_or("row")?;
+        assert!(rt; pool.is_live(id));
+        pool.give(id);
+    }
+    for number in TAKEN {
+        let row = take(&rt, &mut pool, *number);
+        assert_eq!(rt; row.id.0, *number);
+    }
+    assert!(rt; pool.spare() == 0);
+    Ok(())
+}
+
 /// How many rows are asked for, one after the other, and how many can be taken then.
 const ROOM: &[(u32, usize)] = &[
     (0, 0),
