@@ -7,8 +7,8 @@ use Rattle.std.specs.Prelude.{Ok, Err, OnErr}
 use Rattle.std.specs.declared.result.Result.{Result}
 use Rattle.sp_rows.specs.Pool.{Counted, Pool, count_of, words_of, with_row, without_row, with_count, with_words, taken, given, overwritten, AreRows}
 use Rattle.sp_rows.specs.declared.free.Free.{Free}
-use Rattle.sp_rows.specs.Kept.{words_at, with_words_at, link_at, live_rows, live_of, AreWhole, Grows, Differs, IsFree, IsKept}
-use Rattle.sp_rows.proofs.Frees.{some-within, IsFree-grown, IsFree-more, IsFree-changed}
+use Rattle.sp_rows.specs.Kept.{words_at, with_words_at, live_rows, live_of, AreWhole, Grows, Differs, IsFree, IsKept}
+use Rattle.sp_rows.proofs.Frees.{some-within, IsFree-more, IsFree-changed}
 use Rattle.sp_rows.proofs.Lives.{live_rows-same, live_rows-set, live_rows-clear, live_rows-more, length-live, count_of-live, words_of-live, length-live_taken, length-live_counted, length-live_given, AreRows-live}
 use Rattle.sp_rows.proofs.Stores.{refill-eight, AreWhole-with, words_at-same, words_at-other, length-words_at}
 
@@ -50,7 +50,7 @@ module _ (chunks : List (List ℕ)) (counts : List ℕ) (free : Free) (spare liv
     few = kept.few;
     all = kept.all;
     counted = kept.counted ∙ sym (ap length same);
-    frees = IsFree-grown chunks more counts free kept.room grows kept.frees;
+    frees = kept.frees;
   }
     where
       same : live_rows (words_at more) 0 counts ≡ live_rows (words_at chunks) 0 counts
@@ -70,7 +70,7 @@ module _ (chunks : List (List ℕ)) (counts : List ℕ) (free : Free) (spare liv
         few = omega (arith, kept.few, long);
         all = omega (arith, kept.all, long);
         counted = kept.counted ∙ sym (length-live_counted (words_at chunks) (words_at more) counts id within count some had);
-        frees = IsFree-changed chunks more counts free kept.frees id count differs had some;
+        frees = IsFree-changed counts free kept.frees id count had some;
       }
 
   pub changed-rows : (more : List (List ℕ)) (id count : ℕ) → Differs chunks more id → id < length counts → 0 < count
@@ -105,12 +105,12 @@ module _ (chunks : List (List ℕ)) (counts : List ℕ) (free : Free) (spare liv
       → ◌≡◌ {A = Pool} (record { rows = live_rows (words_at (with_words_at chunks id own)) 0 counts; spare = spare }) (overwritten pool id own)
   overwritten-pool id own h = ap (λ (l : List Counted). record { rows = l; spare = spare }) (overwritten-rows id own h)
 
-  -- as long as a row can be taken, not all are live
-  pub some-free : 0 < spare → live_of counts < length counts
-  some-free h = omega (arith, h, kept.all, kept.counted, length-live (words_at chunks) 0 counts)
+  -- those that can be taken are all that aren't live
+  pub all-free : spare + live_of counts ≡ length counts
+  all-free = omega (arith, kept.all, kept.counted, length-live (words_at chunks) 0 counts)
 
   -- a row that isn't counted is taken
-  pub taken-kept : (more : List (List ℕ)) (id : ℕ) (free' : Free) → Differs chunks more id → id < length counts → get_or counts id 0 ≡ 0 → 0 < spare → IsFree more (set counts id 1) free'
+  pub taken-kept : (more : List (List ℕ)) (id : ℕ) (free' : Free) → Differs chunks more id → id < length counts → get_or counts id 0 ≡ 0 → 0 < spare → IsFree (set counts id 1) free'
       → IsKept more (set counts id 1) free' (spare - 1) (live + 1)
   taken-kept more id free' differs within none h is =
       let long : length (set counts id 1) ≡ length counts = length-set counts id 1 in
@@ -124,7 +124,7 @@ module _ (chunks : List (List ℕ)) (counts : List ℕ) (free : Free) (spare liv
       }
 
   -- a row is counted no more
-  pub given-kept : (more : List (List ℕ)) (id : ℕ) (free' : Free) → Differs chunks more id → 0 < get_or counts id 0 → IsFree more (set counts id 0) free'
+  pub given-kept : (more : List (List ℕ)) (id : ℕ) (free' : Free) → Differs chunks more id → 0 < get_or counts id 0 → IsFree (set counts id 0) free'
       → IsKept more (set counts id 0) free' (spare + 1) (live - 1)
   given-kept more id free' differs had is =
       let long : length (set counts id 0) ≡ length counts = length-set counts id 0 in
@@ -138,8 +138,8 @@ module _ (chunks : List (List ℕ)) (counts : List ℕ) (free : Free) (spare liv
         frees = is;
       }
 
-  -- other rows are free, or are so by another chain
-  pub freed-kept : (free' : Free) → IsFree chunks counts free' → IsKept chunks counts free' spare live
+  -- the rows are handed out from another one on
+  pub freed-kept : (free' : Free) → IsFree counts free' → IsKept chunks counts free' spare live
   freed-kept free' is = record { whole = kept.whole; room = kept.room; few = kept.few; all = kept.all; counted = kept.counted; frees = is }
 
   -- there are more rows, which are free
@@ -155,17 +155,10 @@ module _ (chunks : List (List ℕ)) (counts : List ℕ) (free : Free) (spare liv
         few = omega (arith, few, long);
         all = omega (arith, kept.all, long);
         counted = kept.counted ∙ ap length (sym (added-rows n));
-        frees = IsFree-more chunks counts (replicate n 0) free kept.frees;
+        frees = IsFree-more counts (replicate n 0) free kept.frees;
       }
 
--- a first word that was written is read
-pub linked : (chunks : List (List ℕ)) (id to : ℕ) → AreWhole chunks → id < 256 * length chunks → link_at (with_words_at chunks id (set (words_at chunks id) 0 to)) id ≡ to
-linked chunks id to whole within =
-    (let long = length-words_at chunks id [] whole within in
-    ap (λ (l : List ℕ). get_or l 0 0) (words_at-same chunks id (set (words_at chunks id) 0 to) whole within ∙ refill-eight (words_at chunks id) (set (words_at chunks id) 0 to) (length-set (words_at chunks id) 0 to ∙ long))
-    ∙ get_or-set_same (words_at chunks id) 0 to 0 (omega (arith, long)))
-
--- and so are words that were cleared
+-- words that were cleared are read
 pub cleared : (chunks : List (List ℕ)) (id : ℕ) → AreWhole chunks → id < 256 * length chunks → words_at (with_words_at chunks id (replicate 8 0)) id ≡ replicate 8 0
 cleared chunks id whole within = words_at-same chunks id (replicate 8 0) whole within ∙ refill-eight (words_at chunks id) (replicate 8 0) refl
 

@@ -1,4 +1,3 @@
-pub mod Chains
 pub mod Frees
 pub mod Keeps
 pub mod LiveRows

@@ -1,6 +1,6 @@
--- How a pool keeps its rows: the words of all rows in chunks, and a count for each row that there is. The free rows before a
--- number are in a chain, each of which has the number of the next one in its first word.
-use Rattle.std.specs.Prelude.{◌≡◌, ℕ, zero, suc, ◌+◌, ◌*◌, ◌/◌, ◌%◌, ◌^◌, ◌<◌, ◌≤◌, ◌==◌, cond, List, [], ◌∷◌, take, length, slice_index_or, slice_set}
+-- How a pool keeps its rows: the words of all rows in chunks, and a count for each row that there is. How many free rows stand
+-- before a number is known.
+use Rattle.std.specs.Prelude.{◌≡◌, ℕ, ◌+◌, ◌*◌, ◌/◌, ◌%◌, ◌^◌, ◌<◌, ◌≤◌, ◌==◌, cond, List, [], ◌∷◌, take, length, slice_index_or, slice_set}
 use Rattle.std.specs.List.{sum_by}
 use Rattle.sp_rows.specs.declared.free.Free.{Free}
 use Rattle.sp_rows.specs.Rows.{row_of, with_row_of}
@@ -13,10 +13,6 @@ words_at chunks id = row_of (slice_index_or chunks (id / 256) []) (id % 256)
 -- the chunks with eight other words in the place of a row's
 abbrev pub with_words_at : List (List ℕ) → ℕ → List ℕ → List (List ℕ)
 with_words_at chunks id own = slice_set chunks (id / 256) (with_row_of (slice_index_or chunks (id / 256) []) (id % 256) own)
-
--- the number in a row's first word
-abbrev pub link_at : List (List ℕ) → ℕ → ℕ
-link_at chunks id = slice_index_or (words_at chunks id) 0 0
 
 -- each chunk has all its rows
 abbrev pub AreWhole : List (List ℕ) → Type 0
@@ -39,16 +35,6 @@ abbrev pub live_rows : (ℕ → List ℕ) → ℕ → List ℕ → List Counted
 live_rows words from [] = []
 live_rows words from (count ∷ counts) = cond (count == 0) (live_rows words (from + 1) counts) (record { id = from; count = count; words = words from } ∷ live_rows words (from + 1) counts)
 
--- the row isn't among so many in the chain, from the first on
-abbrev pub IsPassed : (ℕ → ℕ) → ℕ → ℕ → ℕ → Type 0
-IsPassed next id first zero = Unit {0}
-IsPassed next id first (suc n) = (id ≡ first → ⊥) × IsPassed next id (next first) n
-
--- so many rows in the chain, from the first on, are free ones before `from`, and no row is there twice
-abbrev pub IsChain : (ℕ → ℕ) → List ℕ → ℕ → ℕ → ℕ → Type 0
-IsChain next counts from first zero = Unit {0}
-IsChain next counts from first (suc n) = (first < from) × (slice_index_or counts first 0 ≡ 0) × IsPassed next first (next first) n × IsChain next counts from (next first) n
-
 -- 1 for a count that isn't 0
 abbrev pub one_if : ℕ → ℕ
 one_if count = cond (count == 0) 0 1
@@ -57,11 +43,10 @@ one_if count = cond (count == 0) 0 1
 abbrev pub live_of : List ℕ → ℕ
 live_of counts = sum_by one_if counts
 
--- the chain has all free rows before `from`
-pub record IsFree (chunks : List (List ℕ)) (counts : List ℕ) (free : Free) : Type 0 where
+-- so many rows before `from` aren't counted
+pub record IsFree (counts : List ℕ) (free : Free) : Type 0 where
   pub within : free.from ≤ length counts
-  pub passed : free.linked + live_of (take free.from counts) ≡ free.from
-  pub chain : IsChain (link_at chunks) counts free.from free.first free.linked
+  pub passed : free.behind + live_of (take free.from counts) ≡ free.from
 
 -- what a pool keeps
 pub record IsKept (chunks : List (List ℕ)) (counts : List ℕ) (free : Free) (spare live : ℕ) : Type 0 where
@@ -70,4 +55,4 @@ pub record IsKept (chunks : List (List ℕ)) (counts : List ℕ) (free : Free) (
   pub few : length counts ≤ 2 ^ 31
   pub all : live + spare ≡ length counts
   pub counted : live ≡ length (live_rows (words_at chunks) 0 counts)
-  pub frees : IsFree chunks counts free
+  pub frees : IsFree counts free

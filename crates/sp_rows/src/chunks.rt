@@ -1,6 +1,6 @@
 //! Chunks as one store of rows, by number. A chunk is never given back before the last of them is.
 
-ghost use Rattle.std.specs.Prelude.{◌≡◌, ◌<◌, ◌≤◌, ◌*◌, ◌^◌, ◌++◌, ◌∷◌, [], ℕ, length, replicate, OnOk, OnErr, slice_set};
+ghost use Rattle.std.specs.Prelude.{◌≡◌, ◌<◌, ◌≤◌, ◌*◌, ◌^◌, ◌++◌, ◌∷◌, [], ℕ, length, replicate, OnOk, OnErr};
 ghost use Rattle.std.specs.Borrow.{sem};
 
 use crate::chunk::{Chunk, ROWS};
@@ -24,7 +24,7 @@ impl Model for Chunks {
 
 impl Chunks {
     ghost use Rattle.sp_rows.specs.ChunksLends.{lends_words};
-    ghost use Rattle.sp_rows.specs.Kept.{words_at, with_words_at, link_at, Grows};
+    ghost use Rattle.sp_rows.specs.Kept.{words_at, with_words_at, Grows};
 
     /// No chunks.
     pub(crate) fn new(alloc: Global) -> Chunks
@@ -78,22 +78,6 @@ impl Chunks {
     {
         let chunk = &mut self.list[id as usize / ROWS];
         chunk.words_mut(id as usize % ROWS)
-    }
-
-    /// The number in a row's first word.
-    pub(crate) fn link(&self, id: u32) -> u64
-        requires { id < 256 * length self.now }
-        ensures { result ≡ link_at self.now id }
-    {
-        self.words(id)[0]
-    }
-
-    /// Writes a row's first word.
-    pub(crate) fn set_link(&mut self, id: u32, to: u64)
-        requires { id < 256 * length self.old }
-        ensures { self.new ≡ with_words_at self.old id (slice_set (words_at self.old id) 0 to) }
-    {
-        self.words_mut(id)[0] = to;
     }
 
     /// Makes a row's words zero.

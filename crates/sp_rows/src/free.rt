@@ -1,87 +1,78 @@
-//! Which rows are free. They are handed out by number where that costs no more than a bounded number of steps for each row
-//! that is given back: rows that are taken one behind the other then lie side by side, and are read sooner. A row that was
-//! given back is taken again only where none is left behind the last one that was taken by number, for the same reason.
+//! Which rows are free. They are handed out by number, from a row on, so that rows that are taken one behind the other lie
+//! side by side, and are read sooner. A row that was given back before that one comes again once all others were handed out,
+//! or once there are many such rows.
 
-ghost use Rattle.std.specs.Prelude.{◌≡◌, ◌+◌, ◌*◌, ◌^◌, ◌<◌, ◌≤◌, ℕ, List, take, length, slice_index_or, slice_set};
-ghost use Rattle.sp_rows.specs.Kept.{AreWhole, Differs, IsFree, live_of};
+ghost use Rattle.std.specs.Prelude.{◌≡◌, ◌+◌, ◌^◌, ◌<◌, ◌≤◌, ℕ, List, take, length, slice_index_or, slice_set};
+ghost use Rattle.sp_rows.specs.Kept.{IsFree, live_of};
 
-use crate::chunks::Chunks;
-
-/// The free rows: those of a chain, and those from a number on that aren't counted. A row of the chain has the number of
-/// the next one in its own first word, so that giving rows back needs no memory.
+/// Up to which row they were handed out. A row is free where it isn't counted.
 #[derive(Clone, Copy)]
 pub struct Free {
-    // All free rows before this one are in the chain.
+    // The rows before this one were handed out, or were passed by.
     pub(crate) from: usize,
-    // The first row of the chain, where there is one.
-    pub(crate) first: u64,
-    // How many rows the chain has.
-    pub(crate) linked: usize,
+    // How many of these aren't counted.
+    pub(crate) behind: usize,
 }
 
 impl Free {
-    /// All rows that aren't counted, none of them in the chain.
+    /// None was handed out yet.
     pub(crate) fn all() -> Free
-        ensures { (chunks : List (List ℕ)) (counts : List ℕ) → IsFree chunks counts result }
+        ensures behind { result.behind ≡ 0 }
+        ensures free { (counts : List ℕ) → IsFree counts result }
     {
-        Free {
-            from: 0,
-            first: 0,
-            linked: 0,
-        }
+        Free { from: 0, behind: 0 }
     }
 
-    /// The free row that is taken next: the lowest one that isn't in the chain, or else the one of the chain that was given
-    /// back last. It isn't free from then on.
-    pub(crate) fn next(&mut self, chunks: &Chunks, counts: &[u32]) -> u32
-        requires free { IsFree chunks.now counts.now self.old }
-        requires room { length counts.now ≤ 256 * length chunks.now }
+    /// The free row that is taken next, of so many: the lowest one that comes, and from the first row on again where none does.
+    pub(crate) fn next(&mut self, counts: &[u32], spare: usize) -> u32
+        requires free { IsFree counts.now self.old }
         requires few { length counts.now ≤ 2 ^ 31 }
-        requires some { live_of counts.now < length counts.now }
+        requires all { spare + live_of counts.now ≡ length counts.now }
+        requires some { 0 < spare }
         ensures within { result < length counts.now }
         ensures none { slice_index_or counts.now result 0 ≡ 0 }
-        ensures free { (chunks' : List (List ℕ)) → Differs chunks.now chunks' result →
-            IsFree chunks' (slice_set counts.now result 1) self.new }
+        ensures free { IsFree (slice_set counts.now result 1) self.new }
     {
+        self.begin_again(spare);
         let id = first_uncounted(counts, self.from);
-        if id < counts.len() {
-            self.from = id + 1;
-            return id as u32;
+        self.from = id + 1;
+        id as u32
+    }
+
+    // Begins at the first row again, where all free ones, of which there are so many, were passed by.
+    fn begin_again(&mut self, spare: usize)
+        requires { 0 < spare }
+        ensures some { self.new.behind < spare }
+        ensures free { (counts : List ℕ) → IsFree counts self.old → IsFree counts self.new }
+    {
+        if self.behind < spare {
+            return;
         }
-        self.from = id;
-        let id = self.first as u32;
-        self.first = chunks.link(id);
-        self.linked -= 1;
-        id
+        *self = Free::all();
     }
 
     /// A row that isn't counted any more is free.
-    pub(crate) fn give(&mut self, chunks: &mut Chunks, id: u32)
-        requires whole { AreWhole chunks.old }
-        requires stored { id < 256 * length chunks.old }
-        requires few { self.old.linked < 2 ^ 32 }
-        ensures differs { Differs chunks.old chunks.new id }
-        ensures free { (counts : List ℕ) → IsFree chunks.old counts self.old → 0 < slice_index_or counts id 0 →
-            IsFree chunks.new (slice_set counts id 0) self.new }
+    pub(crate) fn give(&mut self, id: u32)
+        requires { self.old.behind < 2 ^ 32 }
+        ensures { (counts : List ℕ) → IsFree counts self.old → 0 < slice_index_or counts id 0 →
+            IsFree (slice_set counts id 0) self.new }
     {
         if (id as usize) < self.from {
-            chunks.set_link(id, self.first);
-            self.first = id as u64;
-            self.linked += 1;
+            self.behind += 1;
         }
     }
 }
 
-// The first row from this one on that isn't counted, or how many rows there are where each of them is counted.
+// The first row from this one on that isn't counted, where there is one.
 fn first_uncounted(counts: &[u32], from: usize) -> usize
-    requires { from ≤ length counts.now }
-    ensures behind { from ≤ result }
-    ensures within { result ≤ length counts.now }
-    ensures none { result < length counts.now → slice_index_or counts.now result 0 ≡ 0 }
+    requires within { from ≤ length counts.now }
+    requires some { live_of counts.now + from < length counts.now + live_of (take from counts.now) }
+    ensures within { result < length counts.now }
+    ensures none { slice_index_or counts.now result 0 ≡ 0 }
     ensures passed { live_of (take result counts.now) + from ≡ live_of (take from counts.now) + result }
 {
     let mut at = from;
-    'rows: while at < counts.len() && counts[at] != 0 {
+    'rows: while counts[at] != 0 {
         at += 1;
     }
     at

@@ -11,8 +11,8 @@ use sp_ids::Memory;
 use std::alloc::Global;
 use std::marker::Model;
 
-// Of so many rows one at least is in the chain of free ones before all are handed out by number again, so that a row
-// that is given back costs a bounded number of steps.
+// Of so many rows one at least was passed by and is free before they are handed out from the first one on again, so that a
+// row that is given back costs a bounded number of steps.
 const LOOSE: usize = 64;
 
 /// A row of a pool, by its number. It means nothing in another pool.
@@ -76,10 +76,9 @@ impl RowPool {
     }
 
     /// Makes room, so that at least so many more rows can be taken, in time in proportion to the
-    /// rows that are new and those that there are, whose counts may move. Where the chain of rows
-    /// that were given back has more than a 64th of all rows, they are handed out by number again,
-    /// from the first row on: those that are taken one behind the other then lie side by side.
-    /// Memory is answered where it was refused; the pool is then as it was.
+    /// rows that are new and those that there are, whose counts may move. Where more than a 64th of
+    /// all rows were given back and passed by since, the next calls of `take` begin at the first row
+    /// again. Memory is answered where it was refused; the pool is then as it was.
     pub fn reserve(&mut self, n: u32) -> Result<(), Memory>
         requires { length self.old.rows + n ≤ 2 ^ 31 }
         ensures ok { OnOk result (n ≤ self.new.spare) }
@@ -88,7 +87,7 @@ impl RowPool {
         ensures rows { self.new.rows ≡ self.old.rows }
         ensures spare { self.old.spare ≤ self.new.spare }
     {
-        self.unlink();
+        self.begin_again();
         if n as usize <= self.spare {
             return Ok(());
         }
@@ -100,24 +99,25 @@ impl RowPool {
         Ok(())
     }
 
-    // Hands out all free rows by number again, where many are in the chain.
-    fn unlink(&mut self)
+    // Hands out the free rows from the first row on again, where many were passed by.
+    fn begin_again(&mut self)
         ensures { self.new ≡ self.old }
     {
-        if self.free.linked > self.counts.len() / LOOSE {
+        if self.free.behind > self.counts.len() / LOOSE {
             self.free = Free::all();
         }
     }
 
-    /// A row that wasn't live, all zero and counted once. Between two calls of `reserve` all calls
-    /// together pass over the rows that there are once, and each takes a bounded number of steps
-    /// besides.
+    /// A row that wasn't live, all zero and counted once: the lowest one behind that which was taken
+    /// last, and from the first row on again where none is left. As long as no more are taken than
+    /// the last call of `reserve` asked for, all calls since then pass over the counts of the rows
+    /// twice at most, and each takes a bounded number of steps besides.
     pub fn take(&mut self) -> RowId
         requires { 0 < self.old.spare }
         ensures fresh { count_of self.old.rows result.0 ≡ 0 }
         ensures taken { self.new ≡ taken self.old result.0 }
     {
-        let id = self.free.next(&self.chunks, &self.counts);
+        let id = self.free.next(&self.counts, self.spare);
         self.chunks.clear(id);
         self.counts[id as usize] = 1;
         self.spare -= 1;
@@ -143,7 +143,7 @@ impl RowPool {
     {
         self.counts[row.0 as usize] -= 1;
         if self.counts[row.0 as usize] == 0 {
-            self.free.give(&mut self.chunks, row.0);
+            self.free.give(row.0);
             self.spare += 1;
             self.live -= 1;
         }

@@ -48,9 +48,9 @@ fn rows_that_were_given_are_taken_by_number(rt: HostRuntime) -> Result<(), Fail>
     Ok(())
 }
 
-/// Of ten rows two are given back, and taken again, the last one first, behind all that were never taken.
-const GIVEN: &[u32] = &[3, 5];
-const TAKEN: &[u32] = &[10, 11, 12, 13, 5, 3];
+/// Of ten rows these are given back, and taken again behind all that were never taken.
+const GIVEN: &[u32] = &[5, 3];
+const TAKEN: &[u32] = &[10, 11, 12, 13, 3, 5];
 
 #[test]
 fn rows_that_were_given_are_taken_where_no_other_is_left(rt: HostRuntime) -> Result<(), Fail> {

@@ -2,7 +2,7 @@ use Rattle.std.proofs.Common.{◌≡◌, ◌<◌, ◌+◌, ◌-◌, ℕ, ap, sym
 use Rattle.std.proofs.lemmas.Grind.{get_or_default_zero}
 use Rattle.sp_rows.specs.Pool.{Counted, Pool, count_of, given}
 use Rattle.sp_rows.specs.Kept.{words_at, live_rows}
-use Rattle.sp_rows.proofs.Keeps.{live-within, live-stored, live-count, Differs-none, changed, given-kept, given-pool, fewer-pool, count-written}
+use Rattle.sp_rows.proofs.Keeps.{live-within, live-count, Differs-none, changed, given-kept, given-pool, fewer-pool, count-written}
 use Rattle.sp_rows.proofs.pool.RowPool.give.Goals as goal
 
 pub index_mut-requires : goal.index_mut-requires
@@ -24,14 +24,8 @@ index-requires c =
     let had = subst (λ (rows : List Counted). 0 < count_of rows id) (sym (ap (λ pool. pool.rows) c.self.view_is)) c.requires in
     omega (arith, live-within p.chunks p.counts.items p.free p.spare p.live c.self.invariant id had, p.counts.ok.0)
 
-pub give-requires-clause-stored : goal.give-requires-clause-stored
-give-requires-clause-stored c =
-    let p = c.self.inside in let id = c.args.row.0 in
-    let had = subst (λ (rows : List Counted). 0 < count_of rows id) (sym (ap (λ pool. pool.rows) c.self.view_is)) c.requires in
-    live-stored p.chunks p.counts.items p.free p.spare p.live c.self.invariant id had
-
-pub give-requires-clause-few : goal.give-requires-clause-few
-give-requires-clause-few c = (let kept = c.self.invariant in omega (arith, kept.few, kept.frees.within, kept.frees.passed))
+pub give-requires : goal.give-requires
+give-requires c = (let kept = c.self.invariant in omega (arith, kept.few, kept.frees.within, kept.frees.passed))
 
 pub invariant_of-self : goal.invariant_of-self
 invariant_of-self c =
@@ -42,7 +36,7 @@ invariant_of-self c =
     let n = c.index_mut.result.now in
     let none : n - 1 ≡ 0 = sym (count-written p.counts.items id (n - 1) c.index.result.now within c.index.ensures) ∙ c.if-index-eq0.true in
     rw none
-    (given-kept p.chunks p.counts.items p.free p.spare p.live kept c.give.new.chunks id c.give.new.self c.give.ensures.differs some (c.give.ensures.free p.counts.items kept.frees some))
+    (given-kept p.chunks p.counts.items p.free p.spare p.live kept p.chunks id c.give.new.self (Differs-none p.chunks id kept.whole) some (c.give.ensures p.counts.items kept.frees some))
 
 pub invariant_of-self-else-index-eq0 : goal.invariant_of-self-else-index-eq0
 invariant_of-self-else-index-eq0 c =
@@ -63,8 +57,8 @@ returns-then-index-eq0 c =
     let none : n - 1 ≡ 0 = sym (count-written p.counts.items id (n - 1) c.index.result.now within c.index.ensures) ∙ c.if-index-eq0.true in
     let was = c.index_mut.ensures.value ∙ get_or_default_zero p.counts.items id n within in
     let one : count_of (live_rows (words_at p.chunks) 0 p.counts.items) id ≡ 1 = omega (arith, had, none, was, live-count p.chunks p.counts.items p.free p.spare p.live kept id) in
-    ap (λ (k : ℕ). record { rows = live_rows (words_at c.give.new.chunks) 0 (set p.counts.items id k); spare = p.spare + 1 }) none
-    ∙ given-pool p.chunks p.counts.items p.free p.spare p.live kept c.give.new.chunks id c.give.ensures.differs one
+    ap (λ (k : ℕ). record { rows = live_rows (words_at p.chunks) 0 (set p.counts.items id k); spare = p.spare + 1 }) none
+    ∙ given-pool p.chunks p.counts.items p.free p.spare p.live kept p.chunks id (Differs-none p.chunks id kept.whole) one
     ∙ ap (λ (pool : Pool). given pool id) c.self.view_is
 
 pub returns-else-index-eq0 : goal.returns-else-index-eq0

@@ -1,14 +1,13 @@
-use Rattle.std.proofs.Common.{◌≡◌, ◌<◌, ◌*◌, ℕ, List, ap, sym, ◌∙◌, subst, arith, get_or, set, replicate, length}
+use Rattle.std.proofs.Common.{◌≡◌, ◌<◌, ◌+◌, ◌*◌, ℕ, List, ap, sym, ◌∙◌, subst, arith, get_or, set, replicate, length}
 use Rattle.sp_rows.specs.Pool.{Pool, count_of, taken}
 use Rattle.sp_rows.specs.Kept.{with_words_at, live_of, IsFree}
-use Rattle.sp_rows.proofs.Keeps.{live-count, some-free, taken-kept, taken-pool, Differs-with}
+use Rattle.sp_rows.proofs.Keeps.{live-count, all-free, taken-kept, taken-pool, Differs-with}
 use Rattle.sp_rows.proofs.pool.RowPool.take.Goals as goal
 
-pub next-id-requires-clause-some : goal.next-id-requires-clause-some
-next-id-requires-clause-some c =
+pub next-id-requires-clause-all : goal.next-id-requires-clause-all
+next-id-requires-clause-all c =
     let p = c.self.inside in
-    subst (λ (l : List ℕ). live_of l < length l) (sym c.deref.ensures.value)
-    (some-free p.chunks p.counts.items p.free p.spare p.live c.self.invariant (omega (arith, c.requires, ap (λ pool. pool.spare) c.self.view_is)))
+    subst (λ (l : List ℕ). p.spare + live_of l ≡ length l) (sym c.deref.ensures.value) (all-free p.chunks p.counts.items p.free p.spare p.live c.self.invariant)
 
 pub invariant_of-self : goal.invariant_of-self
 invariant_of-self c =
@@ -19,7 +18,7 @@ invariant_of-self c =
     let stored : id < 256 * length p.chunks = omega (arith, within, kept.room) in
     let new = with_words_at p.chunks id (replicate 8 0) in
     let differs = Differs-with p.chunks id (replicate 8 0) kept.whole stored in
-    let frees = subst (λ (l : List ℕ). IsFree new (set l id 1) c.next-id.new.self) c.deref.ensures.value (c.next-id.ensures.free new differs) in
+    let frees = subst (λ (l : List ℕ). IsFree (set l id 1) c.next-id.new.self) c.deref.ensures.value c.next-id.ensures.free in
     rw c.clear.ensures (taken-kept p.chunks p.counts.items p.free p.spare p.live kept new id c.next-id.new.self differs within none some frees)
 
 pub returns-clause-fresh : goal.returns-clause-fresh
