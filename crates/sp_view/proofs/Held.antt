@@ -2,6 +2,7 @@
 use Rattle.std.proofs.Common.{◌≡◌, ◌≢◌, ◌⊎◌, ℕ, zero, suc, ◌+◌, ◌<◌, ◌≤◌, cond, List, [], ◌∷◌, ◌++◌, length, get_or, set, take, Option, Some, None, refl, sym, ap, subst, ◌∙◌, ltb, inl, inr, arith, get_or-set_same, get_or-set_other}
 use Rattle.std.specs.Prelude.{slice_get, IfSome, IsSome}
 use Rattle.std.proofs.lemmas.Option.{slice_get-get_or}
+use Rattle.std.proofs.lemmas.List.{get_or_default}
 use Rattle.std.proofs.lemmas.Bool.{cases_eq, cases_lt, lt-ltb, le-ltb, false≢true}
 use Rattle.sp_dag.specs.Numbered.{Numbered, graph_of, pairs_of}
 use Rattle.sp_model.specs.Graph.{Graph}
@@ -9,6 +10,10 @@ use Rattle.sp_rows.specs.Pool.{Pool}
 use Rattle.sp_view.specs.Stored.{count_of, row_of}
 use Rattle.sp_view.specs.Views.{entry_at, holds, held, IsEntry, IsOnce, KeepIds, AreKeptIds}
 use Rattle.sp_view.proofs.TwoRows.{one_if}
+
+-- an entry that was read at a place stands there, whatever the read had answered behind the last one
+pub read_at : (entries : List (Option (ℕ × ℕ))) (i : ℕ) (read : Option (ℕ × ℕ)) → i < length entries → read ≡ get_or entries i read → read ≡ entry_at entries i
+read_at entries i read lt is = is ∙ get_or_default entries i read None lt
 
 -- an entry holds no more than all do
 pub holds_held : (entries : List (Option (ℕ × ℕ))) (i row : ℕ) → holds (entry_at entries i) row ≤ held entries row

@@ -109,8 +109,9 @@ impl Saved {
         if self.count <= place {
             return;
         }
-        let long = self.list.len().max(place + 1);
-        grow(&mut self.list, long);
+        if self.list.len() <= place {
+            grow(&mut self.list, place + 1);
+        }
         if self.list[place].is_some() {
             return;
         }
