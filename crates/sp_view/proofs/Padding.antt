@@ -1,37 +1,10 @@
 -- Saved entries, of which only those up to the last one are kept.
 use Rattle.std.proofs.Common.{◌≡◌, ◌∙◌, ℕ, zero, suc, ◌<◌, ◌≤◌, List, [], ◌∷◌, length, set, take, Option, None, refl, sym, ap, arith}
+use Rattle.std.proofs.lemmas.List.{ext_get_or, get_or-take, length-take-le}
 use Rattle.sp_view.specs.Padded.{padded}
 use Rattle.sp_view.specs.Saved.{either, patched}
 use Rattle.sp_view.specs.Views.{entry_at, held}
 use Rattle.sp_view.proofs.Patched.{entry_nil, length_patched, patched_at}
-
--- ---- lists of entries
-
--- behind the last one there is none
-pub entry_past : (entries : List (Option (ℕ × ℕ))) (i : ℕ) → length entries ≤ i → entry_at entries i ≡ None
-entry_past [] i le = entry_nil i
-entry_past (e ∷ es) zero le = absurd (omega (arith, le))
-entry_past (e ∷ es) (suc i) le = entry_past es i (omega (arith, le))
-
--- two lists of the same entries
-entries_same : (entries entries' : List (Option (ℕ × ℕ))) → length entries ≡ length entries' → ((i : ℕ) → i < length entries → entry_at entries i ≡ entry_at entries' i) → entries ≡ entries'
-entries_same [] [] long same = refl
-entries_same [] (e' ∷ es') long same = absurd (omega (arith, long))
-entries_same (e ∷ es) [] long same = absurd (omega (arith, long))
-entries_same (e ∷ es) (e' ∷ es') long same =
-    ap (λ (o : Option (ℕ × ℕ)). o ∷ es) (same 0 (omega arith))
-    ∙ ap (λ (l : List (Option (ℕ × ℕ))). e' ∷ l) (entries_same es es' (omega (arith, long)) (λ i lt. same (suc i) (omega (arith, lt))))
-
-length_take : (n : ℕ) (entries : List (Option (ℕ × ℕ))) → n ≤ length entries → length (take n entries) ≡ n
-length_take zero entries le = refl
-length_take (suc n) [] le = absurd (omega (arith, le))
-length_take (suc n) (e ∷ es) le = ap suc (length_take n es (omega (arith, le)))
-
-entry_take : (n : ℕ) (entries : List (Option (ℕ × ℕ))) (i : ℕ) → i < n → entry_at (take n entries) i ≡ entry_at entries i
-entry_take zero entries i lt = absurd (omega (arith, lt))
-entry_take (suc n) [] i lt = refl
-entry_take (suc n) (e ∷ es) zero lt = refl
-entry_take (suc n) (e ∷ es) (suc i) lt = entry_take n es i (omega (arith, lt))
 
 -- ---- with none behind them
 
@@ -60,7 +33,7 @@ held_padded (suc n) (e ∷ es) r le = (let rest = held_padded n es r (omega (ari
 
 pub padded_same : (n : ℕ) (entries entries' : List (Option (ℕ × ℕ))) → ((i : ℕ) → entry_at entries i ≡ entry_at entries' i) → padded n entries ≡ padded n entries'
 padded_same n entries entries' same =
-    entries_same (padded n entries) (padded n entries') (length_padded n entries ∙ sym (length_padded n entries'))
+    ext_get_or None (padded n entries) (padded n entries') (length_padded n entries ∙ sym (length_padded n entries'))
     (λ i lt. (let less : i < n = omega (arith, lt, length_padded n entries) in padded_at n entries i less ∙ same i ∙ sym (padded_at n entries' i less)))
 
 pub padded_set : (n : ℕ) (entries : List (Option (ℕ × ℕ))) (i : ℕ) (entry : Option (ℕ × ℕ)) → i < length entries → padded n (set entries i entry) ≡ set (padded n entries) i entry
@@ -73,10 +46,10 @@ padded_set (suc n) (e ∷ es) (suc i) entry lt = ap (λ (l : List (Option (ℕ �
 pub patched_padded : (n : ℕ) (saved was now : List (Option (ℕ × ℕ))) → n ≤ length now → ((i : ℕ) → entry_at now i ≡ either (entry_at saved i) (entry_at was i))
     → take n now ≡ patched (padded n saved) was
 patched_padded n saved was now long put =
-    entries_same (take n now) (patched (padded n saved) was) (length_take n now long ∙ sym (length_padded n saved) ∙ sym (length_patched (padded n saved) was))
+    ext_get_or None (take n now) (patched (padded n saved) was) (length-take-le n now long ∙ sym (length_padded n saved) ∙ sym (length_patched (padded n saved) was))
     (λ i lt.
-    (let less : i < n = omega (arith, lt, length_take n now long) in
-    entry_take n now i less ∙ put i ∙ ap (λ (o : Option (ℕ × ℕ)). either o (entry_at was i)) (sym (padded_at n saved i less))
+    (let less : i < n = omega (arith, lt, length-take-le n now long) in
+    get_or-take n now i None less ∙ put i ∙ ap (λ (o : Option (ℕ × ℕ)). either o (entry_at was i)) (sym (padded_at n saved i less))
     ∙ sym (patched_at (padded n saved) was i (omega (arith, less, length_padded n saved)))))
 
 -- ---- the parts of what is saved

@@ -1,15 +1,11 @@
-use Rattle.std.proofs.Common.{◌≡◌, ◌∙◌, ◌<◌, ℕ, List, None, Option, inl, inr, arith, ap, sym, subst, length, get_or, set, get_or-set_other, get_or-set_same}
+use Rattle.std.proofs.Common.{◌≡◌, ◌∙◌, ◌<◌, ℕ, List, None, Option, inl, inr, arith, ap, sym, subst, length, set, get_or-set_other, get_or-set_same}
 use Rattle.std.proofs.lemmas.Bool.{cases_eq, cases_lt}
-use Rattle.std.proofs.lemmas.List.{get_or_default}
+use Rattle.std.proofs.lemmas.List.{get_or_default, get_or_past}
 use Rattle.sp_view.specs.Saved.{either}
 use Rattle.sp_view.specs.Views.{entry_at, holds}
-use Rattle.sp_view.proofs.Held.{held_set, held_take, held_take_le, holds_held}
-use Rattle.sp_view.proofs.Padding.{entry_past}
+use Rattle.sp_view.proofs.Held.{read_at, held_set, held_take, held_take_le, holds_held}
 use Rattle.sp_view.proofs.Patched.{either_holds}
 use Rattle.sp_view.proofs.saved.put_back_all.Goals as goal
-
-read_at : (entries : List (Option (ℕ × ℕ))) (i : ℕ) (read : Option (ℕ × ℕ)) → i < length entries → read ≡ get_or entries i read → read ≡ entry_at entries i
-read_at entries i read lt is = is ∙ get_or_default entries i read None lt
 
 pub put_back-requires : goal.put_back-requires
 put_back-requires c = λ r.
@@ -63,5 +59,5 @@ pub returns-clause-put : goal.returns-clause-put
 returns-clause-put c = λ j.
     elim (cases_lt j c.entries.i) [
       | inl less ↦ c.entries.invariant.put j less
-      | inr more ↦ c.entries.invariant.rest j more ∙ sym (ap (λ (o : Option (ℕ × ℕ)). either o (entry_at c.args.entries.now.items j)) (entry_past c.args.saved.now j (omega (arith, more, c.entries-test.false))))
+      | inr more ↦ c.entries.invariant.rest j more ∙ sym (ap (λ (o : Option (ℕ × ℕ)). either o (entry_at c.args.entries.now.items j)) (get_or_past c.args.saved.now j None (omega (arith, more, c.entries-test.false))))
     ]
