@@ -32,6 +32,7 @@ pub mod Lone
 pub mod Fresh
 pub mod Changes
 pub mod Listing
+pub mod JoinedEntries
 pub mod JoinedSums
 pub mod KeptSums
 pub mod SoFar
