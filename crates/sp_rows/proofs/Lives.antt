@@ -182,6 +182,10 @@ length-live w from (count ∷ counts) = by (count == 0) (length-live w (from + 1
 pub one_if-some : (count : ℕ) → 0 < count → one_if count ≡ 1
 one_if-some count h = ap (λ (c : Bool). cond c 0 1) (ne_eqb count 0 (λ e. omega arith))
 
+pub one_if-le : (count : ℕ) → one_if count ≤ 1
+one_if-le zero = omega arith
+one_if-le (suc count) = (let one = one_if-some (suc count) (omega arith) in omega (arith, one))
+
 pub one_if-none : (count : ℕ) → count ≡ 0 → one_if count ≡ 0
 one_if-none count h = rw h refl
 

@@ -43,10 +43,11 @@ one_if count = cond (count == 0) 0 1
 abbrev pub live_of : List ℕ → ℕ
 live_of counts = sum_by one_if counts
 
--- so many rows before `from` aren't counted
+-- so many rows before `from` aren't counted, none of them before the lowest one
 pub record IsFree (counts : List ℕ) (free : Free) : Type 0 where
   pub within : free.from ≤ length counts
   pub passed : free.behind + live_of (take free.from counts) ≡ free.from
+  pub lowest : 0 < free.behind → (free.lowest ≤ free.from) × (live_of (take free.lowest counts) ≡ free.lowest)
 
 -- what a pool keeps
 pub record IsKept (chunks : List (List ℕ)) (counts : List ℕ) (free : Free) (spare live : ℕ) : Type 0 where

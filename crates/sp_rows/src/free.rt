@@ -12,18 +12,23 @@ pub struct Free {
     pub(crate) from: usize,
     // How many of these aren't counted.
     pub(crate) behind: usize,
+    // The lowest of these, where there are any.
+    pub(crate) lowest: usize,
 }
 
 impl Free {
     /// None was handed out yet.
-    pub(crate) fn all() -> Free
-        ensures behind { result.behind ≡ 0 }
-        ensures free { (counts : List ℕ) → IsFree counts result }
+    pub(crate) fn new() -> Free
+        ensures { (counts : List ℕ) → IsFree counts result }
     {
-        Free { from: 0, behind: 0 }
+        Free {
+            from: 0,
+            behind: 0,
+            lowest: 0,
+        }
     }
 
-    /// The free row that is taken next, of so many: the lowest one that comes, and from the first row on again where none does.
+    /// The free row that is taken next, of so many: the lowest one that comes, or the lowest of all where none does.
     pub(crate) fn next(&mut self, counts: &[u32], spare: usize) -> u32
         requires free { IsFree counts.now self.old }
         requires few { length counts.now ≤ 2 ^ 31 }
@@ -33,22 +38,23 @@ impl Free {
         ensures none { slice_index_or counts.now result 0 ≡ 0 }
         ensures free { IsFree (slice_set counts.now result 1) self.new }
     {
-        self.begin_again(spare);
+        if self.behind >= spare {
+            self.begin_again();
+        }
         let id = first_uncounted(counts, self.from);
         self.from = id + 1;
         id as u32
     }
 
-    // Begins at the first row again, where all free ones, of which there are so many, were passed by.
-    fn begin_again(&mut self, spare: usize)
-        requires { 0 < spare }
-        ensures some { self.new.behind < spare }
+    /// Begins again at the lowest row that was passed by and isn't counted, where there is one.
+    pub(crate) fn begin_again(&mut self)
+        ensures some { self.new.behind ≡ 0 }
         ensures free { (counts : List ℕ) → IsFree counts self.old → IsFree counts self.new }
     {
-        if self.behind < spare {
-            return;
+        if self.behind > 0 {
+            self.from = self.lowest;
+            self.behind = 0;
         }
-        *self = Free::all();
     }
 
     /// A row that isn't counted any more is free.
@@ -58,6 +64,9 @@ impl Free {
             IsFree (slice_set counts id 0) self.new }
     {
         if (id as usize) < self.from {
+            if self.behind == 0 || (id as usize) < self.lowest {
+                self.lowest = id as usize;
+            }
             self.behind += 1;
         }
     }
@@ -67,6 +76,7 @@ impl Free {
 fn first_uncounted(counts: &[u32], from: usize) -> usize
     requires within { from ≤ length counts.now }
     requires some { live_of counts.now + from < length counts.now + live_of (take from counts.now) }
+    ensures behind { from ≤ result }
     ensures within { result < length counts.now }
     ensures none { slice_index_or counts.now result 0 ≡ 0 }
     ensures passed { live_of (take result counts.now) + from ≡ live_of (take from counts.now) + result }

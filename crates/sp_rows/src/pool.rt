@@ -11,8 +11,8 @@ use sp_ids::Memory;
 use std::alloc::Global;
 use std::marker::Model;
 
-// Of so many rows one at least was passed by and is free before they are handed out from the first one on again, so that a
-// row that is given back costs a bounded number of steps.
+// Of so many rows one at least was passed by and is free before the lowest of these is handed out again, so that a row that
+// is given back costs a bounded number of steps.
 const LOOSE: usize = 64;
 
 /// A row of a pool, by its number. It means nothing in another pool.
@@ -68,7 +68,7 @@ impl RowPool {
         RowPool {
             chunks: Chunks::new(alloc),
             counts: Vec::new(alloc),
-            free: Free::all(),
+            free: Free::new(),
             spare: 0,
             live: 0,
             alloc,
@@ -77,8 +77,8 @@ impl RowPool {
 
     /// Makes room, so that at least so many more rows can be taken, in time in proportion to the
     /// rows that are new and those that there are, whose counts may move. Where more than a 64th of
-    /// all rows were given back and passed by since, the next calls of `take` begin at the first row
-    /// again. Memory is answered where it was refused; the pool is then as it was.
+    /// all rows were given back and passed by since, the next calls of `take` begin at the lowest of
+    /// them. Memory is answered where it was refused; the pool is then as it was.
     pub fn reserve(&mut self, n: u32) -> Result<(), Memory>
         requires { length self.old.rows + n ≤ 2 ^ 31 }
         ensures ok { OnOk result (n ≤ self.new.spare) }
@@ -99,19 +99,19 @@ impl RowPool {
         Ok(())
     }
 
-    // Hands out the free rows from the first row on again, where many were passed by.
+    // Hands out the free rows that were passed by again, where there are many.
     fn begin_again(&mut self)
         ensures { self.new ≡ self.old }
     {
         if self.free.behind > self.counts.len() / LOOSE {
-            self.free = Free::all();
+            self.free.begin_again();
         }
     }
 
     /// A row that wasn't live, all zero and counted once: the lowest one behind that which was taken
-    /// last, and from the first row on again where none is left. As long as no more are taken than
-    /// the last call of `reserve` asked for, all calls since then pass over the counts of the rows
-    /// twice at most, and each takes a bounded number of steps besides.
+    /// last, and the lowest of all where none is left. As long as no more are taken than the last
+    /// call of `reserve` asked for, all calls since then pass over the counts of the rows twice at
+    /// most, and each takes a bounded number of steps besides.
     pub fn take(&mut self) -> RowId
         requires { 0 < self.old.spare }
         ensures fresh { count_of self.old.rows result.0 ≡ 0 }

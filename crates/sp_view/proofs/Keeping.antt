@@ -1,6 +1,7 @@
 -- What a step does that saves the entry before it changes.
 use Rattle.std.proofs.Common.{◌≡◌, ◌∙◌, ℕ, zero, suc, ◌+◌, ◌<◌, ◌≤◌, Bool, true, false, cond, eqb, List, [], ◌∷◌, length, set, Option, Some, None, refl, sym, ap, subst, inl, inr, arith, get_or-set_same}
 use Rattle.std.specs.Prelude.{IsSome}
+use Rattle.std.proofs.lemmas.List.{length-set, set-get_or}
 use Rattle.sp_bits.specs.Places.{difference}
 use Rattle.sp_dag.specs.Numbered.{Numbered, graph_of}
 use Rattle.sp_model.specs.Graph.{has}
@@ -14,20 +15,10 @@ use Rattle.sp_view.specs.Views.{entry_at, holds, held, moved_of, IsOnce}
 use Rattle.sp_view.proofs.Held.{holds_held}
 use Rattle.sp_view.proofs.Patched.{either_holds, entry_nil, held_patched, length_patched, patched_at, patched_saved, patched_set}
 
-pub set_itself : (entries : List (Option (ℕ × ℕ))) (i : ℕ) → set entries i (entry_at entries i) ≡ entries
-set_itself [] i = refl
-set_itself (e ∷ es) zero = refl
-set_itself (e ∷ es) (suc i) = ap (λ (l : List (Option (ℕ × ℕ))). e ∷ l) (set_itself es i)
-
 pub set_past : (entries : List (Option (ℕ × ℕ))) (i : ℕ) (entry : Option (ℕ × ℕ)) → length entries ≤ i → set entries i entry ≡ entries
 set_past [] i entry le = refl
 set_past (e ∷ es) zero entry le = absurd (omega (arith, le))
 set_past (e ∷ es) (suc i) entry le = ap (λ (l : List (Option (ℕ × ℕ))). e ∷ l) (set_past es i entry (omega (arith, le)))
-
-length_set : (entries : List (Option (ℕ × ℕ))) (i : ℕ) (entry : Option (ℕ × ℕ)) → length (set entries i entry) ≡ length entries
-length_set [] i entry = refl
-length_set (e ∷ es) zero entry = refl
-length_set (e ∷ es) (suc i) entry = ap suc (length_set es i entry)
 
 pub holds_few : (entry : Option (ℕ × ℕ)) (r : ℕ) → holds entry r ≤ 2
 holds_few None r = omega arith
@@ -88,7 +79,7 @@ module _ (before mid : Pool) (place : ℕ) (entry : Option (ℕ × ℕ)) (saved 
 
   saved_there : (entries : List (Option (ℕ × ℕ))) → entry ≡ entry_at entries place → IsSaving saved entries → place < length saved' → IsSome (entry_at saved' place)
   saved_there entries at saving less =
-      let lt : place < length saved = omega (arith, less, ap length s.is, length_set saved place (either (entry_at saved place) entry)) in
+      let lt : place < length saved = omega (arith, less, ap length s.is, length-set saved place (either (entry_at saved place) entry)) in
       subst IsSome
       (patched_at saved entries place lt ∙ ap (either (entry_at saved place)) (sym at) ∙ sym (get_or-set_same saved place (either (entry_at saved place) entry) None lt)
       ∙ ap (λ (l : List (Option (ℕ × ℕ))). entry_at l place) (sym s.is)) (saving.there place lt)
@@ -130,7 +121,7 @@ saving_still saved saved' entries entries' same longer saving =
 -- an entry that isn't there needn't be saved
 pub nothing_saved : (pool : Pool) (place : ℕ) (saved : List (Option (ℕ × ℕ))) → IsSave pool pool place None saved saved
 nothing_saved pool place saved = record {
-  is = sym (ap (set saved place) (bare (entry_at saved place)) ∙ set_itself saved place);
+  is = sym (ap (set saved place) (bare (entry_at saved place)) ∙ set-get_or saved place None);
   counts = λ r. refl;
   rows = λ r. refl;
   spare = refl;
@@ -202,7 +193,7 @@ module _ (before after : Pool) (place : ℕ) (entry entry' : Option (ℕ × ℕ)
     pub patched_step : patched saved' (set entries place entry') ≡ patched saved entries
     patched_step = elim h [
       | inl p ↦ patched_set saved' entries place entry' (saved_there before p.0 place entry saved saved' p.1 entries at saving) ∙ saved_same before p.0 place entry saved saved' p.1 entries at
-      | inr q ↦ ap (λ (l : List (Option (ℕ × ℕ))). patched l (set entries place entry')) q.0 ∙ ap (λ (o : Option (ℕ × ℕ)). patched saved (set entries place o)) (q.2 ∙ at) ∙ ap (patched saved) (set_itself entries place)
+      | inr q ↦ ap (λ (l : List (Option (ℕ × ℕ))). patched l (set entries place entry')) q.0 ∙ ap (λ (o : Option (ℕ × ℕ)). patched saved (set entries place o)) (q.2 ∙ at) ∙ ap (patched saved) (set-get_or entries place None)
     ]
 
     pub rows_step : ((r : ℕ) → held saved r + held entries r ≤ count_of before r) → (r : ℕ) → 0 < held (patched saved entries) r → row_of after r ≡ row_of before r

@@ -9,5 +9,5 @@ invariant_of-result c =
       few = omega arith;
       all = refl;
       counted = refl;
-      frees = c.all.ensures.free [];
+      frees = c.new-3.ensures [];
     })

@@ -1,11 +1,12 @@
 use Rattle.std.proofs.Common.{◌≡◌, ◌∙◌, ◌+◌, ◌<◌, ℕ, true, false, List, None, Option, Some, ap, refl, subst, sym, arith, length, set}
 use Rattle.std.specs.Prelude.{is_some, IsSome}
+use Rattle.std.proofs.lemmas.List.{set-get_or}
 use Rattle.sp_view.specs.Padded.{padded}
 use Rattle.sp_view.specs.Saved.{either}
 use Rattle.sp_view.specs.Stored.{count_of}
 use Rattle.sp_view.specs.Views.{entry_at, held, holds}
 use Rattle.sp_view.proofs.Held.{held_set, read_at}
-use Rattle.sp_view.proofs.Keeping.{either_some, holds_few, set_itself, set_past}
+use Rattle.sp_view.proofs.Keeping.{either_some, holds_few, set_past}
 use Rattle.sp_view.proofs.Padding.{entry_is, grown_is, long_is, set_is}
 use Rattle.sp_view.proofs.saved.Saved.save.Goals as goal
 use Rattle.sp_view.proofs.saved.Saved.save.Goals.{After-index, then-len-place, else-len-place}
@@ -65,7 +66,7 @@ returns-then-is_some c =
     let at = (goal.at.returns-then-is_some c).After-index in
     let some : IsSome (entry_at saved place) = subst IsSome (sym (read_saved at)) (something c.index.result.now (sym c.is_some.ensures ∙ c.if-is_some.true)) in
     record {
-      is = (reaches at).is ∙ sym (ap (λ (o : Option (ℕ × ℕ)). set saved place o) (either_some (entry_at saved place) (Some c.args.entry.now) some) ∙ set_itself saved place);
+      is = (reaches at).is ∙ sym (ap (λ (o : Option (ℕ × ℕ)). set saved place o) (either_some (entry_at saved place) (Some c.args.entry.now) some) ∙ set-get_or saved place None);
       counts = λ r. ap (λ (l : List (Option (ℕ × ℕ))). count_of c.args.pool.now r + held l r) (sym (reaches at).is);
       rows = λ r. refl;
       spare = refl;
