@@ -50,6 +50,7 @@ fn rows_that_were_given_are_taken_by_number(rt: HostRuntime) -> Result<(), Fail>
 
 /// Of ten rows these are given back, and taken again behind all that were never taken.
 const GIVEN: &[u32] = &[5, 3];
+
 const TAKEN: &[u32] = &[10, 11, 12, 13, 3, 5];
 
 #[test]
