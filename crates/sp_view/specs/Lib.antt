@@ -14,5 +14,6 @@ pub mod Adding
 pub mod SoFar
 pub mod Saved
 pub mod Padded
+pub mod Homes
 pub mod Keeping
 pub mod Steps
