@@ -13,6 +13,7 @@ pub mod Opening
 pub mod SameRows
 pub mod TwoRows
 pub mod Held
+pub mod Homes
 pub mod Members
 pub mod Moves
 pub mod Brought

@@ -2,12 +2,14 @@
 //! price of what changed. Room for them is taken at once, but it is filled only up to the last one that is saved.
 
 ghost use Rattle.std.specs.Prelude.{◌≡◌, ◌<◌, ◌≤◌, ◌+◌, ◌^◌, ℕ, [], None, Some, length, IfOk, vec_len};
+ghost use Rattle.sp_view.specs.Homes.{AreHome};
 ghost use Rattle.sp_view.specs.Keeping.{IsSave};
 ghost use Rattle.sp_view.specs.Saved.{either, patched};
 ghost use Rattle.sp_view.specs.Stored.{count_of, row_of};
 ghost use Rattle.sp_view.specs.Views.{entry_at, holds, held};
 
 use crate::ends::grow;
+use crate::home::entry_home;
 use crate::sharing::{give_entries, give_entry, give_from, share_entry};
 use crate::stored::RowName;
 use sp_ids::Memory;
@@ -24,6 +26,8 @@ pub struct Saved {
     count: usize,
     // The saved ones and those between them, up to the last saved one.
     list: Vec<Option<(RowName, RowName)>>,
+    // How many are saved. No answer hangs on it.
+    many: usize,
 }
 
 impl Model for Saved {
@@ -77,6 +81,22 @@ fn put_back_all(
     }
 }
 
+// Keeps the entries, each of which may have rows again that were saved of it, and lets the saved ones go.
+fn settle_all(
+    pool: &mut RowPool,
+    entries: &mut Vec<Option<(RowName, RowName)>>,
+    saved: &[Option<(RowName, RowName)>],
+)
+    requires long { length saved.now ≤ vec_len entries.old }
+    requires live { (r : ℕ) → held saved.now r + held entries.old.items r ≤ count_of pool.old r }
+    requires once { (r : ℕ) → held entries.old.items r ≤ 1 }
+    ensures { AreHome pool.old pool.new saved.now entries.old.items entries.new.items }
+{
+    'entries: for i in 0..saved.len() {
+        entries[i] = entry_home(pool, saved[i], entries[i]);
+    }
+}
+
 impl Saved {
     /// For a view of which nothing is saved.
     pub fn new(alloc: Global) -> Saved
@@ -86,6 +106,7 @@ impl Saved {
             alloc,
             count: 0,
             list: Vec::new(alloc),
+            many: 0,
         }
     }
 
@@ -96,7 +117,12 @@ impl Saved {
         ensures held { IfOk result (λ saved. (r : ℕ) → held saved r ≡ 0) }
     {
         let list = Vec::with_capacity(alloc, count)?;
-        Ok(Saved { alloc, count, list })
+        Ok(Saved {
+            alloc,
+            count,
+            list,
+            many: 0,
+        })
     }
 
     // Saves an entry, if it may be saved and isn't yet: its rows have one holder more.
@@ -117,6 +143,7 @@ impl Saved {
         }
         share_entry(pool, Some(*entry));
         self.list[place] = Some(*entry);
+        self.many = self.many.saturating_add(1);
     }
 
     // Puts the saved entries back into a view's, and cuts those to as many as were there.
@@ -131,6 +158,25 @@ impl Saved {
         put_back_all(pool, entries, &self.list);
         give_from(pool, entries, self.count);
         entries.truncate(self.count);
+    }
+
+    // Keeps a view's entries, and lets the saved ones go. Where no more than half of them were saved, their rows are held
+    // again as far as they can be: where most change, whole runs of them did, and what was taken for these are neighbours too.
+    pub(crate) fn settle_into(
+        self,
+        pool: &mut RowPool,
+        entries: &mut Vec<Option<(RowName, RowName)>>,
+    )
+        requires long { length self ≤ vec_len entries.old }
+        requires live { (r : ℕ) → held self r + held entries.old.items r ≤ count_of pool.old r }
+        requires once { (r : ℕ) → held entries.old.items r ≤ 1 }
+        ensures { AreHome pool.old pool.new self entries.old.items entries.new.items }
+    {
+        if self.many > self.list.len() / 2 {
+            give_entries(pool, &self.list);
+            return;
+        }
+        settle_all(pool, entries, &self.list);
     }
 
     /// Lets the saved entries go: each of their rows has one holder less for each entry that holds it.

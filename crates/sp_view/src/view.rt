@@ -6,6 +6,7 @@ ghost use Rattle.sp_model.specs.Graph.{has, in_past};
 ghost use Rattle.sp_dag.specs.Numbered.{graph_of, pairs_of};
 ghost use Rattle.sp_frozen.specs.Voters.{HoldsFrozen};
 ghost use Rattle.sp_view.specs.Stored.{count_of, row_of, live};
+ghost use Rattle.sp_view.specs.Homes.{AreHome};
 ghost use Rattle.sp_view.specs.Saved.{patched, AreCountedWith, IsSaving};
 ghost use Rattle.sp_view.specs.Summed.{AreRight};
 ghost use Rattle.sp_view.specs.Views.{Viewed, entry_at, held, IsView, AreFresh, AreKeptIds};
@@ -266,6 +267,18 @@ impl View {
     {
         saved.put_into(pool, &mut self.entries);
         self.members = *members;
+    }
+
+    /// Keeps what the view has become, and lets the saved entries go. A saved row that nobody else holds is written anew
+    /// and held again, in the place of the row that was taken for it, unless more than half of the entries up to the last saved one
+    /// were saved: so the rows of neighbours stay neighbours in memory.
+    pub fn settle(&mut self, pool: &mut RowPool, saved: Saved)
+        requires long { length saved ≤ length self.old.entries }
+        requires live { (r : ℕ) → held saved r + held self.old.entries r ≤ count_of pool.old r }
+        ensures members { self.new.members ≡ self.old.members }
+        ensures home { AreHome pool.old pool.new saved self.old.entries self.new.entries }
+    {
+        saved.settle_into(pool, &mut self.entries);
     }
 
     /// Lets the view go: each of its rows has one holder less for each entry that holds it.
