@@ -1,14 +1,16 @@
 -- The words of a row: what an operation on words does to each place.
 use Rattle.std.proofs.Common.{◌≡◌, ◌≢◌, ℕ, zero, suc, ◌+◌, ◌-◌, ◌*◌, ◌/◌, ◌%◌, ◌^◌, ◌<◌, ◌≤◌, min, max, Bool, true, false, cond, ◌||◌, ◌&&◌, not, List, ◌∷◌, ◌++◌, length, set, get_or, refl, sym, ap, ◌∙◌, ◌⊎◌, inl, inr, eqb, Option, Some, None, arith, get_or-set_same, get_or-set_other, length-append, w64, add-one}
-use Rattle.std.specs.Prelude.{filter, ◌==◌, IfSome, IfNone}
+use Rattle.std.specs.Prelude.{filter, ◌==◌, ◌↔◌, IfSome, IfNone}
 use Rattle.std.specs.List.{range_with_len}
 use Rattle.std.specs.Int.{bit_at, bit_not, trailing_zeros}
-use Rattle.std.specs.Int.RustNames.{bit_or, bit_and, count_ones}
+use Rattle.std.specs.Int.RustNames.{bit_or, bit_and, bit_xor, count_ones}
 use Rattle.std.proofs.lemmas.Bool.{cases_lt, eqb-true, eq-eqb, false≢true, and_parts}
-use Rattle.std.proofs.lemmas.Nat.{one_shl, pow_pos, le-div, shr_below, and_le_l, ones-le, leading_top}
+use Rattle.std.proofs.lemmas.Nat.{one_shl, pow_pos, le-div, shr_below, and_le_l, and_le_r, ones-le, leading_top}
 use Rattle.std.proofs.lemmas.Nat.Bits.{bit_at-lt, bit_at-zero, bit_at-suc, bit_at_lowest, bit_at_and, bit_at_or, bit_at_not, bit_at_ones, bit_at_ones_above, bit_at-trailing_zeros, bit_at_above}
-use Rattle.std.proofs.lemmas.List.{length-set}
+use Rattle.std.proofs.lemmas.List.{length-set, same_lists, get_or_default}
 use Rattle.std.proofs.lemmas.List.Elements.{filter-append}
+use Rattle.std.specs.Int.Bits.{or_zero_l, xor_self}
+use lib.Bits.{or_add_and, xor_add_and}
 use lib.Count.{ones_step, count_leading_zeros}
 use native.Mathlib.Nat.{pow-suc}
 use Rattle.sp_bits.specs.Words.{bit_in, bit_in-word, AreWords, IsLast, IsTop}
@@ -51,7 +53,42 @@ not-bit b i fits le = ap (λ (d : ℕ). d == 1) (bit_at_not w64 b i fits le) ∙
 pub without-bit : (a b i : ℕ) → b < 2 ^ 64 → i < 64 → (bit_at (bit_and a (bit_not w64 b)) i == 1) ≡ ((bit_at a i == 1) && not (bit_at b i == 1))
 without-bit a b i fits le = and-bit a (bit_not w64 b) i ∙ ap (λ (c : Bool). (bit_at a i == 1) && c) (not-bit b i fits le)
 
+-- two words have a bit that only one has, unless they are the same
+pub xor_none : (a b : ℕ) → bit_xor a b ≡ 0 → a ≡ b
+xor_none a b none = omega (arith, xor_add_and a b, and_le_l a b, and_le_r a b, none)
+
+pub no-bits : (a b : ℕ) → bit_or a b ≡ 0 → (a ≡ 0) × (b ≡ 0)
+no-bits a b none = (omega (arith, or_add_and a b, and_le_l a b, and_le_r a b, none), omega (arith, or_add_and a b, and_le_l a b, and_le_r a b, none))
+
 -- ---- eight words
+
+-- whether the words before `end` are the same, by the bits that only one of two has
+abbrev pub IsSame : List ℕ → List ℕ → ℕ → ℕ → Type 0
+IsSame one other end different = (different ≡ 0) ↔ ((k : ℕ) → k < end → get_or one k 0 ≡ get_or other k 0)
+
+pub IsSame-more : (one other : List ℕ) (end different : ℕ) → IsSame one other end different
+    → IsSame one other (end + 1) (bit_or different (bit_xor (get_or one end 0) (get_or other end 0)))
+IsSame-more one other end different is = (
+  λ none k less. (let parts = no-bits different (bit_xor (get_or one end 0) (get_or other end 0)) none in
+      by k less (cases_lt k end) (is.0 parts.0) (xor_none (get_or one end 0) (get_or other end 0) parts.1)),
+  λ same. ap (λ (d : ℕ). bit_or d (bit_xor (get_or one end 0) (get_or other end 0))) (is.1 (λ k less. same k (omega arith)))
+      ∙ ap (λ (w : ℕ). bit_or 0 (bit_xor w (get_or other end 0))) (same end (omega arith)) ∙ or_zero_l (bit_xor (get_or other end 0) (get_or other end 0)) ∙ xor_self (get_or other end 0),
+)
+  where
+    by : (k : ℕ) → k < end + 1 → (k < end) ⊎ (end ≤ k) → ((k : ℕ) → k < end → get_or one k 0 ≡ get_or other k 0) → get_or one end 0 ≡ get_or other end 0
+        → get_or one k 0 ≡ get_or other k 0
+    by k less (inl before) all last = all k before
+    by k less (inr more) all last = (let at : k ≡ end = omega arith in rw at last)
+
+-- at the end the lists are
+pub IsSame-all : (one other : List ℕ) (end different : ℕ) → length one ≡ 8 → length other ≡ 8 → end ≡ 8 → IsSame one other end different
+    → (different ≡ 0) ↔ (one ≡ other)
+IsSame-all one other end different long long' whole is = (
+  λ none. same_lists one other (long ∙ sym long')
+      (λ k d le. (let small : k < end = omega (arith, long, whole) in let inside : k < length other = omega (arith, long, long') in
+      get_or_default one k d 0 le ∙ is.0 none k small ∙ get_or_default other k 0 d inside)),
+  λ e. is.1 (λ k _. ap (λ (l : List ℕ). get_or l k 0) e),
+)
 
 pub AreWords-set : (words : List ℕ) (k w : ℕ) → AreWords words → w < 2 ^ 64 → AreWords (set words k w)
 AreWords-set words k w are fits = record {

@@ -1,12 +1,12 @@
 //! A row of places. It is a bit for each place, in eight words of 64. Outside this file and `words`
 //! that is seen by the calls `words` and `from_words` alone.
 
-ghost use Rattle.std.specs.Prelude.{◌≡◌, ◌<◌, ◌≤◌, ◌==◌, ◌||◌, ◌&&◌, ◌↔◌, not, ℕ, [], length, pos, ◌-ℤ◌, IfSome, IsNone};
+ghost use Rattle.std.specs.Prelude.{◌≡◌, ◌<◌, ◌≤◌, ◌==◌, ◌||◌, ◌&&◌, ◌↔◌, not, ℕ, [], length, pos, ◌-ℤ◌, IfSome, IsNone, IsTrue};
 ghost use Rattle.std.specs.List.{list_all};
 ghost use Rattle.sp_bits.specs.Places.{has, places_where, union, meet, difference, members_below, IsRow, IsGreatest};
 ghost use Rattle.sp_bits.specs.Words.{bit_in, words_of};
 
-use crate::words::{count_both, count_two, implies, last_before, last_of};
+use crate::words::{are_same, count_both, count_two, implies, last_before, last_of};
 use std::marker::Model;
 
 /// A set of places below 512. Contracts see the ascending list of them. It has one size,
@@ -126,6 +126,13 @@ impl Row {
         ensures { result ≡ list_all (has other.now) self.now }
     {
         implies(&self.words, &other.words)
+    }
+
+    /// Whether two rows have the same places, in eight steps.
+    pub fn same(&self, other: &Row) -> bool
+        ensures { IsTrue result ↔ (self.now ≡ other.now) }
+    {
+        are_same(&self.words, &other.words)
     }
 
     /// How many places it has, from 0 to 512, in eight steps. What a row is stands here

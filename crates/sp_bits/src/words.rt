@@ -1,7 +1,7 @@
 //! What is read from the words of rows. It stands apart from the rows so that each loop speaks of
 //! plain lists of numbers.
 
-ghost use Rattle.std.specs.Prelude.{◌≡◌, ◌+◌, ◌*◌, ◌<◌, ◌≤◌, ◌&&◌, ℕ, true, false, length, IfSome, IfNone};
+ghost use Rattle.std.specs.Prelude.{◌≡◌, ◌+◌, ◌*◌, ◌<◌, ◌≤◌, ◌&&◌, ◌↔◌, ℕ, true, false, length, IfSome, IfNone, IsTrue};
 ghost use Rattle.std.specs.List.{list_all};
 ghost use Rattle.sp_bits.specs.Places.{places_where};
 ghost use Rattle.sp_bits.specs.Words.{bit_in, IsLast, IsTop};
@@ -43,6 +43,18 @@ pub(crate) fn implies(one: &[u64; 8], other: &[u64; 8]) -> bool
         }
     }
     true
+}
+
+// Whether both are the same words. It asks nothing before its end, so it takes the same steps for
+// all of them.
+pub(crate) fn are_same(one: &[u64; 8], other: &[u64; 8]) -> bool
+    ensures { IsTrue result ↔ (one.now ≡ other.now) }
+{
+    let mut different = 0;
+    'words: for word in 0..8 {
+        different |= one[word] ^ other[word];
+    }
+    different == 0
 }
 
 // The highest bit of the word of this number in a row, as a place.
