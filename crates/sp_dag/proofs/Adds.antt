@@ -25,7 +25,7 @@ AreBefore-all n (q ∷ qs) all p there =
     ]
 
 -- what holds of each row before and of the new one holds of each
-each_row : (rows : List (List ℕ)) (row : List ℕ) (n : ℕ) (right : ℕ → List ℕ) → length rows ≡ n → ((z : ℕ) → z < n → get_or rows z [] ≡ right z) → row ≡ right n
+pub each_row : (rows : List (List ℕ)) (row : List ℕ) (n : ℕ) (right : ℕ → List ℕ) → length rows ≡ n → ((z : ℕ) → z < n → get_or rows z [] ≡ right z) → row ≡ right n
     → (z : ℕ) → z < n + 1 → get_or (rows ++ row ∷ []) z [] ≡ right z
 each_row rows row n right long old new z le =
     elim (cases_lt z n) [
@@ -71,6 +71,21 @@ pub record Adds (table pasts futures : List (List ℕ)) (pairs : List (ℕ × �
   pub rows : (a : ℕ) → a < length table → get_or later a []
       ≡ (if has past a then places_where (λ w. has (get_or futures a []) w || eqb w (length table)) else get_or futures a [])
 
+-- the row of the new block's past is that of the graph
+past_is : (table pasts futures : List (List ℕ)) (pairs : List (ℕ × ℕ)) (indices : List (List (Option ℕ))) (ps past : List ℕ) (later : List (List ℕ)) (more : List (ℕ × ℕ)) (row : List (Option ℕ))
+    → AreRight table pasts futures pairs indices → Adds table pasts futures pairs ps past later more row
+    → past ≡ places_where (λ a. in_past (shape_of (table ++ ps ∷ [])) a (length table))
+past_is table pasts futures pairs indices ps past later more row h adds =
+    adds.is_past ∙ places_same (is_reached pasts ps) (λ a. in_past (shape_of (table ++ ps ∷ [])) a (length table)) (λ a le. sym (past-new table pasts ps a h.order adds.before h.small le h.pasts_right))
+
+-- so it has the blocks that the graph says
+pub past_told : (table pasts futures : List (List ℕ)) (pairs : List (ℕ × ℕ)) (indices : List (List (Option ℕ))) (ps past : List ℕ) (later : List (List ℕ)) (more : List (ℕ × ℕ)) (row : List (Option ℕ))
+    → AreRight table pasts futures pairs indices → Adds table pasts futures pairs ps past later more row
+    → (x : ℕ) → x < length table → has past x ≡ in_past (shape_of (table ++ ps ∷ [])) x (length table)
+past_told table pasts futures pairs indices ps past later more row h adds x le =
+    ap (λ (l : List ℕ). has l x) (past_is table pasts futures pairs indices ps past later more row h adds)
+    ∙ has-places_where (λ a. in_past (shape_of (table ++ ps ∷ [])) a (length table)) x (omega (arith, h.small, le))
+
 pub AreRight-push : (table pasts futures : List (List ℕ)) (pairs : List (ℕ × ℕ)) (indices : List (List (Option ℕ))) (ps past : List ℕ) (later : List (List ℕ)) (more : List (ℕ × ℕ)) (row : List (Option ℕ))
     → AreRight table pasts futures pairs indices → Adds table pasts futures pairs ps past later more row
     → AreRight (table ++ ps ∷ []) (pasts ++ past ∷ []) (later ++ [] ∷ []) more (indices ++ row ∷ [])
@@ -79,9 +94,9 @@ AreRight-push table pasts futures pairs indices ps past later more row h adds =
     let g = shape_of (table ++ ps ∷ []) in
     let grown : length (table ++ ps ∷ []) ≡ n + 1 = length-append table (ps ∷ []) in
     let is_row : past ≡ places_where (λ a. in_past g a n) =
-    adds.is_past ∙ places_same (is_reached pasts ps) (λ a. in_past g a n) (λ a le. sym (past-new table pasts ps a h.order adds.before h.small le h.pasts_right)) in
+    past_is table pasts futures pairs indices ps past later more row h adds in
     let has_past : (x : ℕ) → x < n → has past x ≡ in_past g x n =
-    λ x le. ap (λ (l : List ℕ). has l x) is_row ∙ has-places_where (λ a. in_past g a n) x (omega (arith, h.small, le)) in
+    past_told table pasts futures pairs indices ps past later more row h adds in
     let new : AreNewIndexed pairs (pairs ++ new_pairs past n) past n n row =
     subst (λ (l : List (ℕ × ℕ)). AreNewIndexed pairs l past n n row) adds.is_more adds.is_row in
     let few = few_more past n pairs h.few in
@@ -111,7 +126,16 @@ AreRight-push table pasts futures pairs indices ps past later more row h adds =
           (λ x le there. sym (has_past x le) ∙ there) x y lower (omega (arith, grown, le)) at;
     }
 
--- what the calls leave, by the values as they were read
+-- what a call leaves of rows, by the values as they were read
+pub rows_read : (past : List ℕ) (later rows rows0 : List (List ℕ)) (n k : ℕ) → n ≡ k → rows0 ≡ rows
+    → ((a : ℕ) → a < n → get_or later a [] ≡ (if has past a then places_where (λ w. has (get_or rows0 a []) w || eqb w n) else get_or rows0 a []))
+    → (a : ℕ) → a < k → get_or later a [] ≡ (if has past a then places_where (λ w. has (get_or rows a []) w || eqb w k) else get_or rows a [])
+rows_read past later rows rows0 n k en er each a le =
+    each a (omega (arith, en, le))
+    ∙ ap (λ (l : List (List ℕ)). if has past a then places_where (λ w. has (get_or l a []) w || eqb w n) else get_or l a []) er
+    ∙ ap (λ (m : ℕ). if has past a then places_where (λ w. has (get_or rows a []) w || eqb w m) else get_or rows a []) en
+
+-- the same of all that the calls leave
 pub Adds-read : (table pasts futures : List (List ℕ)) (pairs : List (ℕ × ℕ)) (ps past : List ℕ) (later : List (List ℕ)) (more : List (ℕ × ℕ)) (row : List (Option ℕ))
     (n : ℕ) (pasts0 futures0 : List (List ℕ)) (pairs0 : List (ℕ × ℕ)) (ps0 : List ℕ) → n ≡ length table → pasts0 ≡ pasts → futures0 ≡ futures → pairs0 ≡ pairs → ps0 ≡ ps
     → length table < 512 → AreBefore ps (length table) → past ≡ places_where (is_reached pasts0 ps0)
@@ -128,10 +152,7 @@ Adds-read table pasts futures pairs ps past later more row n pasts0 futures0 pai
       subst (λ (k : ℕ). AreNewIndexed pairs more past k k row) en
       (subst (λ (l : List (ℕ × ℕ)). AreNewIndexed l more past n n row) eq is_row);
   long = long ∙ en;
-  rows = λ a le.
-      rows a (omega (arith, en, le))
-      ∙ ap (λ (l : List (List ℕ)). if has past a then places_where (λ w. has (get_or l a []) w || eqb w n) else get_or l a []) ef
-      ∙ ap (λ (k : ℕ). if has past a then places_where (λ w. has (get_or futures a []) w || eqb w k) else get_or futures a []) en;
+  rows = rows_read past later futures futures0 n (length table) en ef rows;
 }
 
 pub AreRight-same : (t t' p p' f f' : List (List ℕ)) (q q' : List (ℕ × ℕ)) (i i' : List (List (Option ℕ))) → t' ≡ t → p' ≡ p → f' ≡ f → q' ≡ q → i' ≡ i

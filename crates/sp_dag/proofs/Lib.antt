@@ -12,5 +12,6 @@ pub mod Lookup
 pub mod Ids
 pub mod Fronts
 pub mod Starts
+pub mod ClosedRows
 pub mod Ranked
 mod Cuts

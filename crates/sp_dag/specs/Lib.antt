@@ -1,5 +1,6 @@
 pub mod Numbered
 pub mod Shapes
 pub mod Rows
+pub mod Closed
 pub mod Indexed
 pub mod Right

@@ -2,6 +2,7 @@
 use Rattle.std.specs.Prelude.{ℕ, ◌≡◌, ◌<◌, ◌≤◌, ◌+◌, ◌*◌, true, List, [], length, Option, None, slice_index_or}
 use Rattle.sp_model.specs.Graph.{in_past}
 use Rattle.sp_bits.specs.Places.{places_where}
+use Rattle.sp_dag.specs.Closed.{closed}
 use Rattle.sp_dag.specs.Numbered.{pairs_below, AreInOrder}
 use Rattle.sp_dag.specs.Shapes.{shape_of, pairs_in}
 use Rattle.sp_dag.specs.Indexed.{AreIndexed, index_at}
@@ -24,3 +25,8 @@ pub record AreRight (table pasts futures : List (List ℕ)) (pairs : List (ℕ �
 pub record AreStarts (table : List (List ℕ)) (starts : List ℕ) : Type 0 where
   pub long : length starts ≡ length table
   pub right : (y : ℕ) → y < length table → slice_index_or starts y 0 ≡ length (pairs_below (shape_of table) y)
+
+-- the rows of the blocks with their futures
+pub record AreClosed (table rows : List (List ℕ)) : Type 0 where
+  pub long : length rows ≡ length table
+  pub right : (z : ℕ) → z < length table → slice_index_or rows z [] ≡ closed (shape_of table) z

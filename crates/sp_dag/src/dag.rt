@@ -4,6 +4,7 @@ ghost use Rattle.std.specs.Prelude.{◌≡◌, ◌<◌, ◌≤◌, ◌∷◌, �
 ghost use Rattle.sp_model.specs.declared.profile.Profile.{Profile};
 ghost use Rattle.sp_model.specs.Graph.{has, in_past, keys, past, future, rank_of, related};
 ghost use Rattle.sp_model.specs.Votes.{settled_in};
+ghost use Rattle.sp_dag.specs.Closed.{closed};
 ghost use Rattle.sp_dag.specs.Numbered.{graph_of, cut_to, pairs_below, pairs_of, with_block, IsNumbered, IsPair};
 
 use crate::numbers::{Numbers, numbers_in};
@@ -212,6 +213,15 @@ impl Dag {
             future (graph_of self.now) (keys (graph_of self.now)) n }
     {
         self.table.future(n)
+    }
+
+    /// The numbers of a block and of those that have it in their past, ascending; the row is lent as
+    /// it stands.
+    pub fn closed(&self, n: u16) -> &Row
+        requires { n < length self.now.parents }
+        ensures { result.now ≡ closed (graph_of self.now) n }
+    {
+        self.table.closed(n)
     }
 
     /// Whether a is in the past of b, in a bounded number of steps.

@@ -21,7 +21,8 @@ pub(crate) fn row_of(pasts: &[Row], parents: &[u16]) -> Row
     row
 }
 
-// Puts block `number` into the future of each block in its past.
+// Puts block `number` into the future of each block in its past, beside which a row may have the
+// block itself.
 pub(crate) fn set_in_futures(futures: &mut Vec<Row>, past: &Row, number: u16)
     requires small { number < 512 }
     requires long { vec_len futures.old ≡ number }
@@ -39,7 +40,7 @@ pub(crate) fn set_in_futures(futures: &mut Vec<Row>, past: &Row, number: u16)
     }
 }
 
-// Takes the blocks from `count` on out of all futures.
+// Takes the blocks from `count` on out of all rows of futures.
 pub(crate) fn cut_futures(futures: &mut Vec<Row>, count: u16)
     ensures len { vec_len futures.new ≡ vec_len futures.old }
     ensures rows { (a : ℕ) → a < vec_len futures.old → slice_index_or futures.new.items a []

@@ -3,6 +3,7 @@
 
 ghost use Rattle.std.specs.Prelude.{◌≡◌, ◌<◌, ◌≤◌, ◌++◌, ◌∷◌, ◌||◌, ◌==◌, ◌↔◌, [], ℕ, length, All, IfOk, OnOk, OnErr, IfSome, IsNone, IsTrue, slice_get, Some, min, max, take, vec_capacity, vec_len};
 ghost use Rattle.sp_model.specs.Graph.{in_past, keys, past, future, related};
+ghost use Rattle.sp_dag.specs.Closed.{closed};
 ghost use Rattle.sp_dag.specs.Numbered.{pairs_below};
 ghost use Rattle.sp_dag.specs.Shapes.{shape_of, pairs_in, IsPairIn};
 
@@ -20,6 +21,7 @@ pub(crate) struct Table {
     parents: Vec<Numbers>,
     pasts: Vec<Row>,
     futures: Vec<Row>,
+    closed: Vec<Row>,
     pairs: Vec<(u16, u16)>,
     indices: Vec<Indices>,
     starts: Vec<u32>,
@@ -32,6 +34,7 @@ impl Drop for Table {
             parents: _,
             pasts: _,
             futures: _,
+            closed: _,
             pairs: _,
             indices: _,
             starts: _,
@@ -44,13 +47,14 @@ impl Model for Table {
 
     ghost Value = { List (List ℕ) };
 
-    ghost use Rattle.sp_dag.specs.Right.{AreRight, AreStarts};
+    ghost use Rattle.sp_dag.specs.Right.{AreClosed, AreRight, AreStarts};
 
     ghost view = { λ t. t.parents.items };
 
     ghost invariant = { λ t.
         AreRight t.parents.items t.pasts.items t.futures.items t.pairs.items t.indices.items
-        × AreStarts t.parents.items t.starts.items };
+        × AreStarts t.parents.items t.starts.items
+        × AreClosed t.parents.items t.closed.items };
 }
 
 // Makes room for one block more in each of these lists.
@@ -58,23 +62,27 @@ fn make_room(
     parents: &mut Vec<Numbers>,
     pasts: &mut Vec<Row>,
     futures: &mut Vec<Row>,
+    closed: &mut Vec<Row>,
     indices: &mut Vec<Indices>,
     starts: &mut Vec<u32>,
 ) -> Result<(), AllocError>
     ensures parents { parents.new.items ≡ parents.old.items }
     ensures pasts { pasts.new.items ≡ pasts.old.items }
     ensures futures { futures.new.items ≡ futures.old.items }
+    ensures closed { closed.new.items ≡ closed.old.items }
     ensures indices { indices.new.items ≡ indices.old.items }
     ensures starts { starts.new.items ≡ starts.old.items }
     ensures room { OnOk result ((vec_len parents.new < vec_capacity parents.new)
         × (vec_len pasts.new < vec_capacity pasts.new)
         × (vec_len futures.new < vec_capacity futures.new)
+        × (vec_len closed.new < vec_capacity closed.new)
         × (vec_len indices.new < vec_capacity indices.new)
         × (vec_len starts.new < vec_capacity starts.new)) }
 {
     parents.reserve(1)?;
     pasts.reserve(1)?;
     futures.reserve(1)?;
+    closed.reserve(1)?;
     indices.reserve(1)?;
     starts.reserve(1)
 }
@@ -88,6 +96,7 @@ impl Table {
             parents: Vec::new(alloc),
             pasts: Vec::new(alloc),
             futures: Vec::new(alloc),
+            closed: Vec::new(alloc),
             pairs: Vec::new(alloc),
             indices: Vec::new(alloc),
             starts: Vec::new(alloc),
@@ -107,6 +116,7 @@ impl Table {
             &mut self.parents,
             &mut self.pasts,
             &mut self.futures,
+            &mut self.closed,
             &mut self.indices,
             &mut self.starts,
         )?;
@@ -117,7 +127,11 @@ impl Table {
         let start = self.pairs.len() as u32;
         push_unrelated(&mut self.pairs, &mut indices, &past, number);
         set_in_futures(&mut self.futures, &past, number);
+        set_in_futures(&mut self.closed, &past, number);
+        let mut own = Row::empty();
+        own.set(number);
         self.futures.push_reserved(Row::empty());
+        self.closed.push_reserved(own);
         self.pasts.push_reserved(past);
         self.indices.push_reserved(Indices::of(indices));
         self.starts.push_reserved(start);
@@ -135,10 +149,12 @@ impl Table {
         self.parents.truncate(len);
         self.pasts.truncate(len);
         self.futures.truncate(len);
+        self.closed.truncate(len);
         self.indices.truncate(len);
         self.starts.truncate(len);
         self.pairs.truncate(pairs);
         cut_futures(&mut self.futures, count);
+        cut_futures(&mut self.closed, count);
     }
 
     pub(crate) fn len(&self) -> u16
@@ -160,6 +176,13 @@ impl Table {
         ensures { result.now ≡ future (shape_of self.now) (keys (shape_of self.now)) number }
     {
         &self.futures[number as usize]
+    }
+
+    pub(crate) fn closed(&self, number: u16) -> &Row
+        requires { number < length self.now }
+        ensures { result.now ≡ closed (shape_of self.now) number }
+    {
+        &self.closed[number as usize]
     }
 
     pub(crate) fn in_past(&self, a: u16, b: u16) -> bool
