@@ -5,7 +5,7 @@ use Rattle.std.proofs.lemmas.List.{length-set, length-replicate, set-get_or}
 use Rattle.std.specs.List.{refill}
 use Rattle.std.specs.Prelude.{Ok, Err, OnErr}
 use Rattle.std.specs.declared.result.Result.{Result}
-use Rattle.sp_rows.specs.Pool.{Counted, Pool, count_of, words_of, with_row, without_row, with_count, with_words, taken, given, overwritten, AreRows}
+use Rattle.sp_rows.specs.Pool.{Counted, Pool, count_of, words_of, with_row, without_row, with_count, with_words, taken_with, given, overwritten, AreRows}
 use Rattle.sp_rows.specs.declared.free.Free.{Free}
 use Rattle.sp_rows.specs.Kept.{words_at, with_words_at, live_rows, live_of, AreWhole, Grows, Differs, IsFree, IsKept}
 use Rattle.sp_rows.proofs.Frees.{some-within, IsFree-more, IsFree-changed}
@@ -158,9 +158,9 @@ module _ (chunks : List (List ℕ)) (counts : List ℕ) (free : Free) (spare liv
         frees = IsFree-more counts (replicate n 0) free kept.frees;
       }
 
--- words that were cleared are read
-pub cleared : (chunks : List (List ℕ)) (id : ℕ) → AreWhole chunks → id < 256 * length chunks → words_at (with_words_at chunks id (replicate 8 0)) id ≡ replicate 8 0
-cleared chunks id whole within = words_at-same chunks id (replicate 8 0) whole within ∙ refill-eight (words_at chunks id) (replicate 8 0) refl
+-- eight words that were written are read
+pub words-written : (chunks : List (List ℕ)) (id : ℕ) (own : List ℕ) → AreWhole chunks → id < 256 * length chunks → length own ≡ 8 → words_at (with_words_at chunks id own) id ≡ own
+words-written chunks id own whole within eight = words_at-same chunks id own whole within ∙ refill-eight (words_at chunks id) own eight
 
 -- what is written into the counts is read
 pub count-written : (counts : List ℕ) (id n x : ℕ) → id < length counts → x ≡ get_or (set counts id n) id x → x ≡ n
@@ -171,15 +171,15 @@ module _ (chunks : List (List ℕ)) (counts : List ℕ) (free : Free) (spare liv
   seen = record { rows = live_rows (words_at chunks) 0 counts; spare = spare }
 
   -- the pool that is seen after a row was taken
-  pub taken-pool : (more : List (List ℕ)) (id : ℕ) → more ≡ with_words_at chunks id (replicate 8 0) → id < length counts
-      → ◌≡◌ {A = Pool} (record { rows = live_rows (words_at more) 0 (set counts id 1); spare = spare - 1 }) (taken seen id)
-  taken-pool more id is within =
+  pub taken-pool : (more : List (List ℕ)) (id : ℕ) (own : List ℕ) → more ≡ with_words_at chunks id own → id < length counts → length own ≡ 8
+      → ◌≡◌ {A = Pool} (record { rows = live_rows (words_at more) 0 (set counts id 1); spare = spare - 1 }) (taken_with seen id own)
+  taken-pool more id own is within eight =
       (let stored : id < 256 * length chunks = omega (arith, within, kept.room) in
-      let new = with_words_at chunks id (replicate 8 0) in
+      let new = with_words_at chunks id own in
       ap (λ (l : List Counted). record { rows = l; spare = spare - 1 })
       (ap (λ (l : List (List ℕ)). live_rows (words_at l) 0 (set counts id 1)) is
-      ∙ changed-rows chunks counts free spare live kept new id 1 (Differs-with chunks id (replicate 8 0) kept.whole stored) within (omega arith)
-      ∙ ap (λ (ws : List ℕ). with_row (live_rows (words_at chunks) 0 counts) (record { id = id; count = 1; words = ws })) (cleared chunks id kept.whole stored)))
+      ∙ changed-rows chunks counts free spare live kept new id 1 (Differs-with chunks id own kept.whole stored) within (omega arith)
+      ∙ ap (λ (ws : List ℕ). with_row (live_rows (words_at chunks) 0 counts) (record { id = id; count = 1; words = ws })) (words-written chunks id own kept.whole stored eight)))
 
   -- after the last that had a row gave it
   pub given-pool : (more : List (List ℕ)) (id : ℕ) → Differs chunks more id → count_of seen.rows id ≡ 1

@@ -43,9 +43,13 @@ with_count rows id count = with_row rows (record { id = id; count = count; words
 abbrev pub with_words : List Counted → ℕ → List ℕ → List Counted
 with_words rows id words = with_row rows (record { id = id; count = count_of rows id; words = words })
 
--- the pool once a row is taken that wasn't live
+-- the pool once a row is taken that wasn't live, and has these words then
+abbrev pub taken_with : Pool → ℕ → List ℕ → Pool
+taken_with pool id words = record { rows = with_row pool.rows (record { id = id; count = 1; words = words }); spare = pool.spare - 1 }
+
+-- the pool once a row is taken that is all zero
 abbrev pub taken : Pool → ℕ → Pool
-taken pool id = record { rows = with_row pool.rows (record { id = id; count = 1; words = replicate 8 0 }); spare = pool.spare - 1 }
+taken pool id = taken_with pool id (replicate 8 0)
 
 -- the pool once a row is given: the last one that has it gives it back
 abbrev pub given : Pool → ℕ → Pool

@@ -80,11 +80,12 @@ impl Chunks {
         chunk.words_mut(id as usize % ROWS)
     }
 
-    /// Makes a row's words zero.
-    pub(crate) fn clear(&mut self, id: u32)
-        requires { id < 256 * length self.old }
-        ensures { self.new ≡ with_words_at self.old id (replicate 8 0) }
+    /// Writes a row's words.
+    pub(crate) fn write(&mut self, id: u32, words: &[u64])
+        requires within { id < 256 * length self.old }
+        requires eight { length words.now ≡ 8 }
+        ensures { self.new ≡ with_words_at self.old id words.now }
     {
-        self.words_mut(id).fill(0);
+        self.words_mut(id).copy_from_slice(words);
     }
 }

@@ -3,7 +3,7 @@
 ghost use Rattle.std.specs.Prelude.{◌≡◌, ◌+◌, ◌-◌, ◌*◌, ◌^◌, ◌<◌, ◌≤◌, ◌↔◌, [], ℕ, ◌++◌, length, replicate, IsTrue, IsOk, OnOk, OnErr};
 ghost use Rattle.std.specs.Borrow.{sem};
 ghost use Rattle.std.specs.Vec.{vec_len, vec_capacity};
-ghost use Rattle.sp_rows.specs.Pool.{count_of, words_of, with_count, taken, given, IsLive, AreRows};
+ghost use Rattle.sp_rows.specs.Pool.{count_of, words_of, with_count, taken, taken_with, given, IsLive, AreRows};
 
 use crate::chunks::Chunks;
 use crate::free::Free;
@@ -117,8 +117,20 @@ impl RowPool {
         ensures fresh { count_of self.old.rows result.0 ≡ 0 }
         ensures taken { self.new ≡ taken self.old result.0 }
     {
+        self.take_words(&[0; 8])
+    }
+
+    /// A row that wasn't live, with these eight words and counted once: the one that `take` would
+    /// hand out, in as many steps, where the calls of both count together. What the row had before
+    /// isn't cleared first.
+    pub fn take_words(&mut self, words: &[u64]) -> RowId
+        requires some { 0 < self.old.spare }
+        requires eight { length words.now ≡ 8 }
+        ensures fresh { count_of self.old.rows result.0 ≡ 0 }
+        ensures taken { self.new ≡ taken_with self.old result.0 words.now }
+    {
         let id = self.free.next(&self.counts, self.spare);
-        self.chunks.clear(id);
+        self.chunks.write(id, words);
         self.counts[id as usize] = 1;
         self.spare -= 1;
         self.live += 1;
