@@ -68,9 +68,9 @@ pub(crate) fn taken(pool: &mut RowPool, places: &Row) -> RowName
 {
     // Tells the proof what rows a pool has.
     let _live = pool.live();
-    let row = RowName { id: pool.take() };
-    put(pool, row, places);
-    row
+    RowName {
+        id: pool.take_words(places.words()),
+    }
 }
 
 // One holder more.
