@@ -38,6 +38,17 @@ pub(crate) fn take(rt: &impl Abort, pool: &mut RowPool, number: u32) -> Plain {
     }
 }
 
+/// Takes a row with these words.
+pub(crate) fn take_words(rt: &impl Abort, pool: &mut RowPool, words: [u64; 8]) -> Plain {
+    assert!(rt; pool.spare() > 0);
+    let id = pool.take_words(&words);
+    Plain {
+        id,
+        count: 1,
+        words,
+    }
+}
+
 /// Counts a row once more, in the pool and in the list.
 pub(crate) fn share(rt: &impl Abort, pool: &mut RowPool, row: &mut Plain) {
     assert!(rt; pool.is_live(row.id) && pool.count(row.id) < u32::MAX && row.count < u32::MAX);

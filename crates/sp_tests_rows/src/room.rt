@@ -1,6 +1,6 @@
 //! The room of a pool: what is reserved, taken and given, and what a refusal leaves.
 
-use crate::plain::{Plain, compare, take};
+use crate::plain::{Plain, compare, take, take_words};
 use sp_rows::RowPool;
 use std::process::Abort;
 use std::test::Fail;
@@ -17,6 +17,34 @@ fn a_row_that_was_given_is_taken_with_zeros(rt: HostRuntime) -> Result<(), Fail>
     let second = take(&rt, &mut pool, 0);
     compare(&rt, &pool, &[second], 0);
     assert_eq!(rt; second.id.0, first.id.0);
+    Ok(())
+}
+
+/// The words with which a row is taken, one time after the other. Each time it still has those of the
+/// time before.
+const WORDS: &[[u64; 8]] = &[
+    [u64::MAX; 8],
+    [0; 8],
+    [u64::MAX; 8],
+    [1, 2, 3, 4, 5, 6, 7, 8],
+    [0, 0, 0, 0, 0, 0, 0, 1 << 63],
+];
+
+#[test]
+fn a_row_that_was_given_is_taken_with_other_words(rt: HostRuntime) -> Result<(), Fail> {
+    let mut pool = RowPool::new(rt.alloc());
+    pool.reserve(3).ok().ok_or("memory")?;
+    let below = take(&rt, &mut pool, 1);
+    let mut row = take(&rt, &mut pool, 2);
+    let above = take(&rt, &mut pool, 3);
+    for words in WORDS {
+        assert!(rt; pool.is_live(row.id));
+        pool.give(row.id);
+        let next = take_words(&rt, &mut pool, *words);
+        assert_eq!(rt; next.id.0, row.id.0);
+        row = next;
+        compare(&rt, &pool, &[below, row, above], 0);
+    }
     Ok(())
 }
 
