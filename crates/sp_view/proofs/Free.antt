@@ -6,44 +6,31 @@ use Rattle.std.proofs.lemmas.Option.{slice_get_within}
 use Rattle.sp_bits.specs.Places.{difference, places_where, union}
 use Rattle.sp_bits.specs.Members.{has-places_where}
 use Rattle.sp_bits.proofs.RowSets.{has_difference, has_places}
+use Rattle.sp_dag.specs.Closed.{closed}
 use Rattle.sp_dag.specs.Numbered.{Numbered, pairs_of}
 use Rattle.sp_model.specs.Graph.{Graph, has, in_past}
 use Rattle.sp_model.specs.Loose.{in_bar, is_loose}
 use Rattle.sp_view.specs.Idle.{IsPlace}
 
 -- the past without the blocks that the second one binds
-pub free_told : (g : Graph) (b y : ℕ) (below above one two : List ℕ) → ((z : ℕ) → has below z ≡ in_past g z b) → ((z : ℕ) → has above z ≡ in_past g y z)
-    → ((z : ℕ) → in_past g z b ≡ true → z < 512) → one ≡ difference below above → two ≡ places_where (λ p. has one p && not (eqb p y))
-    → (z : ℕ) → has two z ≡ (in_past g z b && not (in_bar g y z))
-free_told g b y below above one two below_is above_is small e e' z =
-    ap (λ (l : List ℕ). has l z) e'
-    ∙ has_places (λ p. has one p && not (eqb p y)) z (λ h. small z (and_parts (in_past g z b) (not (in_past g y z)) (sym one_is ∙ (and_parts (has one z) (not (eqb z y)) h).0)).0)
-    ∙ ap (λ (c : Bool). c && not (eqb z y)) one_is
-    ∙ turn (in_past g z b) (in_past g y z) (eqb z y)
+pub free_told : (g : Graph) (b y : ℕ) (below bound free : List ℕ) → ((z : ℕ) → has below z ≡ in_past g z b) → bound ≡ closed g y
+    → ((z : ℕ) → in_past g z b ≡ true → z < 512) → free ≡ difference below bound → (z : ℕ) → has free z ≡ (in_past g z b && not (in_bar g y z))
+free_told g b y below bound free below_is bound_is small e z =
+    ap (λ (l : List ℕ). has l z) e ∙ has_difference below bound z (λ h. small z (sym (below_is z) ∙ h))
+    ∙ ap (λ (c : Bool). c && not (has bound z)) (below_is z) ∙ at (in_past g z b) refl
   where
-    one_is : has one z ≡ (in_past g z b && not (in_past g y z))
-    one_is =
-        ap (λ (l : List ℕ). has l z) e ∙ has_difference below above z (λ h. small z (sym (below_is z) ∙ h))
-        ∙ ap (λ (c : Bool). c && not (has above z)) (below_is z)
-        ∙ ap (λ (c : Bool). in_past g z b && not c) (above_is z)
-
-    turn : (p a e : Bool) → ((p && not a) && not e) ≡ (p && not (e || a))
-    turn false a e = refl
-    turn true true true = refl
-    turn true true false = refl
-    turn true false true = refl
-    turn true false false = refl
+    at : (p : Bool) → in_past g z b ≡ p → (p && not (has bound z)) ≡ (p && not (in_bar g y z))
+    at true ep = ap not (ap (λ (l : List ℕ). has l z) bound_is ∙ has-places_where (λ p. in_bar g y p) z (small z ep))
+    at false ep = refl
 
 -- ---- those whose votes may change
 
-module _ (g : Graph) (b x y : ℕ) (free agree above one two : List ℕ) (free_is : (z : ℕ) → has free z ≡ (in_past g z b && not (in_bar g y z)))
-    (small : (z : ℕ) → in_past g z b ≡ true → z < 512) (above_is : (z : ℕ) → has above z ≡ in_past g x z)
-    (e : one ≡ union agree above) (e' : two ≡ places_where (λ p. has one p || eqb p x)) where
-  two_is : (z : ℕ) → z < 512 → has two z ≡ ((has agree z || in_past g x z) || eqb z x)
+module _ (g : Graph) (b x y : ℕ) (free agree bound two : List ℕ) (free_is : (z : ℕ) → has free z ≡ (in_past g z b && not (in_bar g y z)))
+    (small : (z : ℕ) → in_past g z b ≡ true → z < 512) (bound_is : bound ≡ closed g x) (e : two ≡ union agree bound) where
+  two_is : (z : ℕ) → z < 512 → has two z ≡ (has agree z || in_bar g x z)
   two_is z less =
-      ap (λ (l : List ℕ). has l z) e' ∙ has-places_where (λ p. has one p || eqb p x) z less
-      ∙ ap (λ (c : Bool). c || eqb z x) (ap (λ (l : List ℕ). has l z) e ∙ has-places_where (λ p. has agree p || has above p) z less)
-      ∙ ap (λ (c : Bool). (has agree z || c) || eqb z x) (above_is z)
+      ap (λ (l : List ℕ). has l z) e ∙ has-places_where (λ p. has agree p || has bound p) z less
+      ∙ ap (λ (c : Bool). has agree z || c) (ap (λ (l : List ℕ). has l z) bound_is ∙ has-places_where (λ p. in_bar g x p) z less)
 
   small_free : (z : ℕ) → has free z ≡ true → z < 512
   small_free z h = small z (and_parts (in_past g z b) (not (in_bar g y z)) (sym (free_is z) ∙ h)).0
@@ -53,26 +40,18 @@ module _ (g : Graph) (b x y : ℕ) (free agree above one two : List ℕ) (free_i
       ap (λ (l : List ℕ). has l z) is ∙ has_difference free two z (small_free z)
       ∙ ap (λ (c : Bool). c && not (has two z)) (free_is z) ∙ at (in_past g z b) refl
     where
-      turn : (d a i e : Bool) → (not d && not ((a || i) || e)) ≡ (not ((e || i) || d) && not a)
-      turn true true true true = refl
-      turn true true true false = refl
-      turn true true false true = refl
-      turn true true false false = refl
-      turn true false true true = refl
-      turn true false true false = refl
-      turn true false false true = refl
-      turn true false false false = refl
-      turn false true true true = refl
-      turn false true true false = refl
-      turn false true false true = refl
-      turn false true false false = refl
-      turn false false true true = refl
-      turn false false true false = refl
-      turn false false false true = refl
-      turn false false false false = refl
+      turn : (d a i : Bool) → (not d && not (a || i)) ≡ (not (i || d) && not a)
+      turn true true true = refl
+      turn true true false = refl
+      turn true false true = refl
+      turn true false false = refl
+      turn false true true = refl
+      turn false true false = refl
+      turn false false true = refl
+      turn false false false = refl
 
       at : (p : Bool) → in_past g z b ≡ p → ((p && not (in_bar g y z)) && not (has two z)) ≡ ((p && is_loose g z x y) && not (has agree z))
-      at true ep = ap (λ (c : Bool). not (in_bar g y z) && not c) (two_is z (small z ep)) ∙ turn (in_bar g y z) (has agree z) (in_past g x z) (eqb z x)
+      at true ep = ap (λ (c : Bool). not (in_bar g y z) && not c) (two_is z (small z ep)) ∙ turn (in_bar g y z) (has agree z) (in_bar g x z)
       at false ep = refl
 
 -- ---- the pair of a place

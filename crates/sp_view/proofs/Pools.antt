@@ -3,10 +3,10 @@ use Rattle.std.proofs.Common.{◌≡◌, ℕ, ◌+◌, ◌-◌, ◌<◌, ◌≤�
 use Rattle.std.specs.List.{refill}
 use Rattle.std.proofs.lemmas.Bool.{cases_eq, eq-eqb, eqb-true, ne_eqb}
 use Rattle.std.proofs.lemmas.List.{take_at}
-use Rattle.std.specs.Prelude.{replicate, drop}
+use Rattle.std.specs.Prelude.{drop}
 use Rattle.sp_bits.specs.Places.{places_where}
 use Rattle.sp_bits.specs.Words.{bit_in}
-use Rattle.sp_rows.specs.Pool.{Pool, Counted, words_of, without_row, with_count, with_words, taken, given, overwritten, AreRows}
+use Rattle.sp_rows.specs.Pool.{Pool, Counted, words_of, without_row, with_count, with_words, taken_with, given, overwritten, AreRows}
 use Rattle.sp_rows.specs.Pool as counted
 use Rattle.sp_rows.proofs.LiveRows.{count_of-with_row, words_of-with_row, count_of-without_row, words_of-without_row, length-with_row_new, length-with_row_live, length-without_row}
 use Rattle.sp_view.specs.Stored.{count_of, row_of, live, spare}
@@ -129,17 +129,24 @@ module _ (pool : Pool) (id : ℕ) (words : List ℕ) where
 
 -- ---- a row is taken
 
-module _ (pool : Pool) (id : ℕ) (new : count_of pool id ≡ 0) where
-  pub taken_counts : (r : ℕ) → count_of (taken pool id) r ≡ count_of pool r + cond (eqb r id) 1 0
-  taken_counts r = count_of-with_row pool.rows (record { id = id; count = 1; words = replicate 8 0 }) r ∙ elim (cases_eq id r) [
+module _ (pool pool' : Pool) (id : ℕ) (words : List ℕ) (new : count_of pool id ≡ 0) (is : pool' ≡ taken_with pool id words) where
+  abbrev row : Counted
+  row = record { id = id; count = 1; words = words }
+
+  pub taken_row : row_of pool' id ≡ places_where (bit_in words)
+  unfolding row_of
+  taken_row = ap (λ (p : Pool). row_of p id) is ∙ ap (λ (ws : List ℕ). places_where (bit_in ws)) (words_of-with_row pool.rows row id ∙ rw (eq-eqb id id refl) refl)
+
+  pub taken_counts : (r : ℕ) → count_of pool' r ≡ count_of pool r + cond (eqb r id) 1 0
+  taken_counts r = ap (λ (p : Pool). count_of p r) is ∙ count_of-with_row pool.rows row r ∙ elim (cases_eq id r) [
     | inl same ↦ rw (eq-eqb id r same, eq-eqb r id (sym same)) (let none : count_of pool r ≡ 0 = ap (count_of pool) (sym same) ∙ new in omega (arith, none))
     | inr other ↦ rw (ne_eqb id r other, ne_eqb r id (λ e. other (sym e))) (omega arith)
   ]
 
-  pub taken_rows : (r : ℕ) → 0 < count_of pool r → row_of (taken pool id) r ≡ row_of pool r
-  taken_rows r some = row_of_words pool (taken pool id) r
-      (words_of-with_row pool.rows (record { id = id; count = 1; words = replicate 8 0 }) r
+  pub taken_rows : (r : ℕ) → 0 < count_of pool r → row_of pool' r ≡ row_of pool r
+  taken_rows r some = ap (λ (p : Pool). row_of p r) is ∙ row_of_words pool (taken_with pool id words) r
+      (words_of-with_row pool.rows row r
       ∙ rw (ne_eqb id r (λ same. (let none : count_of pool r ≡ 0 = ap (count_of pool) (sym same) ∙ new in omega (arith, some, none)))) refl)
 
-  pub taken_live : AreRows 0 pool.rows → live (taken pool id) ≡ live pool + 1
-  taken_live are = length-with_row_new pool.rows 0 (record { id = id; count = 1; words = replicate 8 0 }) are new
+  pub taken_live : AreRows 0 pool.rows → live pool' ≡ live pool + 1
+  taken_live are = ap live is ∙ length-with_row_new pool.rows 0 row are new

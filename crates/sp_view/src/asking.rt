@@ -72,8 +72,7 @@ pub(crate) fn asked(
     let _blocks = dag.len();
     // Those that vote as it does, and those that the first block binds.
     let mut settled = side_of(pool, entry, up);
-    settled.or_with(dag.future(x));
-    settled.set(x);
+    settled.or_with(dag.closed(x));
     let mut todo = place.free;
     todo.without(&settled);
     if is_none(&todo) {

@@ -13,7 +13,6 @@ use crate::missing::asked_by_growth;
 use crate::pair_rows::{Sides, new_rows};
 use crate::sharing::share_entry;
 use crate::stored::{RowName, row_at, share, taken};
-use crate::writing::are_same;
 use sp_bits::Row;
 use sp_dag::Dag;
 use sp_frozen::Frozen;
@@ -34,7 +33,7 @@ fn shared(pool: &mut RowPool, id: RowName, row: &Row) -> RowName
     ensures spare { spare pool.old ≤ spare pool.new + 1 }
     ensures live { live pool.new ≡ live pool.old + (if result == id then 0 else 1) }
 {
-    if are_same(row, &row_at(pool, id)) {
+    if row.same(&row_at(pool, id)) {
         share(pool, id);
         return id;
     }

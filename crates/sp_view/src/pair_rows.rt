@@ -27,12 +27,8 @@ pub(crate) fn bound_on(dag: &Dag, x: u16, y: u16) -> Row
     requires y_in { y < length dag.now.parents }
     ensures { result ≡ places_where (λ z. not (is_loose (graph_of dag.now) z x y)) }
 {
-    // Tells the proof that there are at most 512 blocks.
-    let _blocks = dag.len();
-    let mut bound = *dag.future(x);
-    bound.or_with(dag.future(y));
-    bound.set(x);
-    bound.set(y);
+    let mut bound = *dag.closed(x);
+    bound.or_with(dag.closed(y));
     bound
 }
 

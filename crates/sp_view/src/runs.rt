@@ -64,8 +64,7 @@ fn free_below(dag: &Dag, b: u16, second: u16) -> Row
     // Tells the proof that there are at most 512 blocks, in order.
     let _blocks = dag.len();
     let mut free = *dag.past(b);
-    free.without(dag.future(second));
-    free.clear(second);
+    free.without(dag.closed(second));
     free
 }
 

@@ -1,22 +1,12 @@
 //! How a row of a pair is written over: in its place where nobody else holds it, and into a new row elsewhere.
 
-ghost use Rattle.std.specs.Prelude.{◌≡◌, ◌≢◌, ◌<◌, ◌↔◌, IsTrue};
+ghost use Rattle.std.specs.Prelude.{◌≡◌, ◌≢◌, ◌<◌};
 ghost use Rattle.sp_view.specs.Steps.{IsWritten};
 ghost use Rattle.sp_view.specs.Stored.{count_of, row_of, spare};
 
 use crate::stored::{RowName, give, holders, put, row_at, taken};
 use sp_bits::Row;
 use sp_rows::RowPool;
-
-// Whether two rows have the same places.
-pub(crate) fn are_same(one: &Row, other: &Row) -> bool
-    ensures { IsTrue result ↔ (one.now ≡ other.now) }
-{
-    // Tells the proof that both lists ascend.
-    let _one = one.count();
-    let _other = other.count();
-    one.within(other) && other.within(one)
-}
 
 // Writes a row over another one: in its place where nobody else holds that one, and into a new row elsewhere.
 pub(crate) fn replaced(pool: &mut RowPool, id: RowName, row: &Row) -> RowName
@@ -41,7 +31,7 @@ pub(crate) fn written(pool: &mut RowPool, id: RowName, row: &Row) -> RowName
     ensures kept { row.now ≡ row_of pool.old id → result ≡ id }
     ensures written { IsWritten pool.old pool.new id result }
 {
-    if are_same(row, &row_at(pool, id)) {
+    if row.same(&row_at(pool, id)) {
         return id;
     }
     replaced(pool, id, row)

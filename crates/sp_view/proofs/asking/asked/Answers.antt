@@ -1,11 +1,11 @@
-use Rattle.std.proofs.Common.{◌≡◌, ◌≢◌, ◌∙◌, ◌<◌, ℕ, Bool, true, false, List, [], Some, not, ◌&&◌, cond, ap, arith, length, subst, sym}
+use Rattle.std.proofs.Common.{◌≡◌, ◌≢◌, ◌∙◌, ◌<◌, ◌≤◌, ℕ, Bool, true, false, List, [], Some, not, ◌&&◌, cond, ap, arith, length, subst, sym}
 use Rattle.std.specs.Prelude.{pos, negsuc, slice_get}
 use Rattle.std.proofs.lemmas.Bool.{false≢true, and_parts}
 use Rattle.std.proofs.lemmas.Int.{ints}
 use Rattle.std.proofs.lemmas.Option.{slice_get_within}
 use Rattle.sp_bits.specs.Places.{difference, IsRow}
-use Rattle.sp_dag.specs.Numbered.{Numbered, graph_of, pairs_of, IsPair}
-use Rattle.sp_dag.proofs.Ranked.{ancestors_lower, future_members, pair_kind}
+use Rattle.sp_dag.specs.Numbered.{AreInOrder, Numbered, graph_of, pairs_of, IsPair}
+use Rattle.sp_dag.proofs.Ranked.{ancestors_lower, pair_kind}
 use Rattle.sp_model.specs.Graph.{Graph, has, in_past}
 use Rattle.sp_model.specs.Joining.{Joins}
 use Rattle.sp_model.specs.Loose.{is_loose}
@@ -21,6 +21,10 @@ use Rattle.sp_view.proofs.asking.asked.Goals as goal
 one_differs : (up : Bool) → cond up (pos 1) (negsuc 0) ≢ pos 0
 one_differs true = λ e. omega (arith, ints)
 one_differs false = λ e. omega (arith, ints)
+
+-- the blocks of a past are places of a row
+small_past : (table : Numbered) (b : ℕ) → AreInOrder table.parents → length table.parents ≤ 512 → b < length table.parents → (z : ℕ) → in_past (graph_of table) z b ≡ true → z < 512
+small_past table b order small within z h = (let lower : z < b = ancestors_lower table z b order within h in omega (arith, lower, within, small))
 
 -- each vote that may change is open, and all else is kept
 kept_of : (table : Numbered) (b : ℕ) (members : List ℕ) (i x' y' : ℕ) (ups downs agree todo : List ℕ) (up : Bool) → IsAsked (graph_of table) members → has members b ≡ true
@@ -43,19 +47,12 @@ kept_of table b members i x' y' ups downs agree todo up asked there pair agree_i
           todo_is,
     )
 
-pub future-requires : goal.future-requires
-future-requires c =
+pub closed-requires : goal.closed-requires
+closed-requires c =
     let kind : IsPair c.args.dag.now (c.args.x, c.args.place.now.second) = pair_kind c.args.dag.now c.args.place.now.pair (c.args.x, c.args.place.now.second) c.requires.pair in
     let less : c.args.x < c.args.place.now.second = kind.order in
     let within : c.args.place.now.second < length c.args.dag.now.parents = kind.within in
     omega (arith, less, within)
-
-pub set-requires : goal.set-requires
-set-requires c =
-    let kind : IsPair c.args.dag.now (c.args.x, c.args.place.now.second) = pair_kind c.args.dag.now c.args.place.now.pair (c.args.x, c.args.place.now.second) c.requires.pair in
-    let less : c.args.x < c.args.place.now.second = kind.order in
-    let within : c.args.place.now.second < length c.args.dag.now.parents = kind.within in
-    omega (arith, less, within, c.len-blocks.ensures.numbered.small)
 
 pub returns-then-is_none-clause-below : goal.returns-then-is_none-clause-below
 returns-then-is_none-clause-below c = λ z h. absurd (false≢true h)
@@ -65,10 +62,9 @@ returns-clause-below c =
     let table : Numbered = c.args.dag.now in
     let listed : c.args.place.now.pair < length (pairs_of table) = slice_get_within (pairs_of table) c.args.place.now.pair (c.args.x, c.args.place.now.second) c.requires.pair in
     let told : (z : ℕ) → has c.without.new.self z ≡ ((in_past (graph_of table) z c.args.b && is_loose (graph_of table) z c.args.x c.args.place.now.second) && not (has c.side_of-settled.result z)) =
-    todo_told (graph_of table) c.args.b c.args.x c.args.place.now.second c.args.place.now.free c.side_of-settled.result c.future.result.now c.or_with.new.self c.set.new.self
-    (c.requires.place.free_is listed)
-    (λ z h. (let lower : z < c.args.b = ancestors_lower table z c.args.b c.len-blocks.ensures.numbered.order c.requires.below h in let within : c.args.b < length table.parents = c.requires.below in omega (arith, within, c.len-blocks.ensures.numbered.small)))
-    (λ z. ap (λ (l : List ℕ). has l z) c.future.ensures ∙ future_members table c.args.x z) c.or_with.ensures c.set.ensures c.without.new.self c.without.ensures in
+    todo_told (graph_of table) c.args.b c.args.x c.args.place.now.second c.args.place.now.free c.side_of-settled.result c.closed.result.now c.or_with.new.self
+    (c.requires.place.free_is listed) (small_past table c.args.b c.len-blocks.ensures.numbered.order c.len-blocks.ensures.numbered.small c.requires.below)
+    c.closed.ensures c.or_with.ensures c.without.new.self c.without.ensures in
     λ z h.
     (and_parts (in_past (graph_of table) z c.args.b) (is_loose (graph_of table) z c.args.x c.args.place.now.second)
     (and_parts (in_past (graph_of table) z c.args.b && is_loose (graph_of table) z c.args.x c.args.place.now.second) (not (has c.side_of-settled.result z)) (sym (told z) ∙ h)).0).0
@@ -85,20 +81,18 @@ returns-then-is_none-clause-kept c =
     c.side_of-settled.result [] c.args.up c.requires.asked c.requires.joined c.requires.pair c.side_of-settled.ensures
     (subst (λ (l : List ℕ). (z : ℕ) → has l z ≡ ((in_past g z c.args.b && is_loose g z c.args.x c.args.place.now.second) && not (has c.side_of-settled.result z)))
     (c.is_none.ensures.0 c.if-is_none.true)
-    (todo_told (graph_of table) c.args.b c.args.x c.args.place.now.second c.args.place.now.free c.side_of-settled.result c.future.result.now c.or_with.new.self c.set.new.self
-    (c.requires.place.free_is listed)
-    (λ z h. (let lower : z < c.args.b = ancestors_lower table z c.args.b c.len-blocks.ensures.numbered.order c.requires.below h in let within : c.args.b < length table.parents = c.requires.below in omega (arith, within, c.len-blocks.ensures.numbered.small)))
-    (λ z. ap (λ (l : List ℕ). has l z) c.future.ensures ∙ future_members table c.args.x z) c.or_with.ensures c.set.ensures c.without.new.self c.without.ensures))
+    (todo_told (graph_of table) c.args.b c.args.x c.args.place.now.second c.args.place.now.free c.side_of-settled.result c.closed.result.now c.or_with.new.self
+    (c.requires.place.free_is listed) (small_past table c.args.b c.len-blocks.ensures.numbered.order c.len-blocks.ensures.numbered.small c.requires.below)
+    c.closed.ensures c.or_with.ensures c.without.new.self c.without.ensures))
 
 pub returns-clause-within : goal.returns-clause-within
 returns-clause-within c =
     let table : Numbered = c.args.dag.now in
     let listed : c.args.place.now.pair < length (pairs_of table) = slice_get_within (pairs_of table) c.args.place.now.pair (c.args.x, c.args.place.now.second) c.requires.pair in
     (open_joined (graph_of table) c.args.b c.args.members.now c.args.x c.args.place.now.second c.side_of-settled.result c.without.new.self c.requires.asked c.requires.joined
-    (todo_told (graph_of table) c.args.b c.args.x c.args.place.now.second c.args.place.now.free c.side_of-settled.result c.future.result.now c.or_with.new.self c.set.new.self
-    (c.requires.place.free_is listed)
-    (λ z h. (let lower : z < c.args.b = ancestors_lower table z c.args.b c.len-blocks.ensures.numbered.order c.requires.below h in let within : c.args.b < length table.parents = c.requires.below in omega (arith, within, c.len-blocks.ensures.numbered.small)))
-    (λ z. ap (λ (l : List ℕ). has l z) c.future.ensures ∙ future_members table c.args.x z) c.or_with.ensures c.set.ensures c.without.new.self c.without.ensures)).member
+    (todo_told (graph_of table) c.args.b c.args.x c.args.place.now.second c.args.place.now.free c.side_of-settled.result c.closed.result.now c.or_with.new.self
+    (c.requires.place.free_is listed) (small_past table c.args.b c.len-blocks.ensures.numbered.order c.len-blocks.ensures.numbered.small c.requires.below)
+    c.closed.ensures c.or_with.ensures c.without.new.self c.without.ensures)).member
 
 pub returns-clause-kept : goal.returns-clause-kept
 returns-clause-kept c =
@@ -106,7 +100,6 @@ returns-clause-kept c =
     let listed : c.args.place.now.pair < length (pairs_of table) = slice_get_within (pairs_of table) c.args.place.now.pair (c.args.x, c.args.place.now.second) c.requires.pair in
     kept_of table c.args.b c.args.members.now c.args.place.now.pair c.args.x c.args.place.now.second (row_of c.args.pool.now c.args.entry.now.0) (row_of c.args.pool.now c.args.entry.now.1)
     c.side_of-settled.result c.without.new.self c.args.up c.requires.asked c.requires.joined c.requires.pair c.side_of-settled.ensures
-    (todo_told (graph_of table) c.args.b c.args.x c.args.place.now.second c.args.place.now.free c.side_of-settled.result c.future.result.now c.or_with.new.self c.set.new.self
-    (c.requires.place.free_is listed)
-    (λ z h. (let lower : z < c.args.b = ancestors_lower table z c.args.b c.len-blocks.ensures.numbered.order c.requires.below h in let within : c.args.b < length table.parents = c.requires.below in omega (arith, within, c.len-blocks.ensures.numbered.small)))
-    (λ z. ap (λ (l : List ℕ). has l z) c.future.ensures ∙ future_members table c.args.x z) c.or_with.ensures c.set.ensures c.without.new.self c.without.ensures)
+    (todo_told (graph_of table) c.args.b c.args.x c.args.place.now.second c.args.place.now.free c.side_of-settled.result c.closed.result.now c.or_with.new.self
+    (c.requires.place.free_is listed) (small_past table c.args.b c.len-blocks.ensures.numbered.order c.len-blocks.ensures.numbered.small c.requires.below)
+    c.closed.ensures c.or_with.ensures c.without.new.self c.without.ensures)
