@@ -1,4 +1,4 @@
--- One block has joined the votes, and the views of its parents are let go: the votes grew by it.
+-- One block has joined the votes, the views of its parents are let go, and what was saved of the view of all blocks: the votes grew by it.
 use Rattle.std.proofs.Common.{◌≡◌, ℕ, ◌+◌, ◌-◌, ◌<◌, ◌≤◌, Bool, true, false, cond, List, [], ◌∷◌, ◌++◌, length, map, take, get_or, Option, Some, sym, ap, subst, ◌∙◌, inl, inr, arith, length-append}
 use Rattle.std.specs.Prelude.{filter, not, slice_get}
 use Rattle.std.specs.List.{list_any, range_with_len}
@@ -9,11 +9,13 @@ use Rattle.std.proofs.lemmas.Option.{slice_get_within}
 use Rattle.sp_bits.specs.Places.{IsGreatest}
 use Rattle.sp_dag.specs.Numbered.{AreInOrder, Numbered}
 use Rattle.sp_model.specs.Graph.{has}
-use Rattle.sp_view.specs.Views.{AreKeptIds, Viewed}
+use Rattle.sp_view.specs.Homes.{IsHome}
+use Rattle.sp_view.specs.Views.{AreKeptIds, entry_at, Viewed}
 use Rattle.sp_engine.specs.Votes.{bar_row, Grew, HaveJoined, is_tip, is_top_tip, is_uncovered, IsDerived, IsOfAll, IsOfTip, JoinedAlone, Tallied}
 use Rattle.sp_engine.proofs.Bars.{any_at, one_top, top_of_bar}
 use Rattle.sp_engine.proofs.Covering.{all_is, behind, in_front, of_tip, passed, passes}
-use Rattle.sp_engine.proofs.StillTips.{all_stays, bar_stays, last_tip}
+use Rattle.sp_engine.proofs.Homes.{home_keeps}
+use Rattle.sp_engine.proofs.StillTips.{bar_stays, last_tip}
 use Rattle.sp_engine.proofs.TopTips.{any_place}
 
 -- a tip that the next block hasn't as a parent is one still
@@ -32,7 +34,9 @@ first_of : (x y : List ℕ) → x ∷ [] ≡ y ∷ [] → x ≡ y
 first_of x y e = cc
 
 module _ (table : Numbered) (order : AreInOrder table.parents) (small : length table.parents ≤ 512) (n : ℕ) (last : n + 1 ≡ length table.parents)
-    (old v new : Tallied) (saved : List (Option (ℕ × ℕ))) (h : HaveJoined table n old v saved) (rest : new.views ≡ filter (is_uncovered table) v.views) where
+    (old v new : Tallied) (saved : List (Option (ℕ × ℕ))) (h : HaveJoined table n old v saved) (home : Viewed)
+    (rest : new.views ≡ filter (is_uncovered table) (h.joining.olds ++ h.joining.joined) ++ home ∷ []) (alike : home.members ≡ h.joining.all.members)
+    (goes : (i : ℕ) → IsHome (entry_at saved i) (entry_at h.joining.all.entries i) (entry_at home.entries i)) where
   joined : (tip : Viewed) × (h.joining.joined ≡ tip ∷ []) × JoinedAlone table n old.views h.joining.was tip h.joining.all
   joined = h.one (omega (arith, h.every, last))
 
@@ -58,17 +62,15 @@ module _ (table : Numbered) (order : AreInOrder table.parents) (small : length t
       ∙ ap (λ (c : Bool). map (bar_row table) (cond c (n ∷ []) [])) (last_tip table order small n last)
       )
 
-  new_is : new.views ≡ left ++ tip ∷ all ∷ []
+  new_is : new.views ≡ left ++ tip ∷ home ∷ []
   new_is =
       let stays : is_uncovered table tip ≡ true = ap (is_top_tip table) own ∙ bar_stays table order small n (omega (arith, last)) ∙ last_tip table order small n last in
-      let stays_all : is_uncovered table all ≡ true = ap (is_top_tip table) h.members ∙ all_stays table order small n last in
-      rest ∙ ap (filter (is_uncovered table)) (h.joining.is ∙ ap (λ (l : List Viewed). olds ++ (l ++ all ∷ [])) joined.1)
-      ∙ filter-append (is_uncovered table) olds (tip ∷ all ∷ [])
-      ∙ ap (λ (c : Bool). left ++ cond c (tip ∷ cond (is_uncovered table all) (all ∷ []) []) (cond (is_uncovered table all) (all ∷ []) [])) stays
-      ∙ ap (λ (c : Bool). left ++ tip ∷ cond c (all ∷ []) []) stays_all
+      rest ∙ ap (λ (l : List Viewed). filter (is_uncovered table) (olds ++ l) ++ home ∷ []) joined.1
+      ∙ ap (λ (l : List Viewed). l ++ home ∷ []) (filter-append (is_uncovered table) olds (tip ∷ []))
+      ∙ ap (λ (c : Bool). (left ++ cond c (tip ∷ []) []) ++ home ∷ []) stays ∙ append_assoc left (tip ∷ []) (home ∷ [])
 
   long : length new.views ≡ length left + 2
-  long = omega (arith, ap length new_is, length-append left (tip ∷ all ∷ []))
+  long = omega (arith, ap length new_is, length-append left (tip ∷ home ∷ []))
 
   old_long : length old.views ≡ length olds + 1
   old_long = omega (arith, ap length h.joining.old_is, length-append h.joining.olds (was ∷ []))
@@ -80,24 +82,37 @@ module _ (table : Numbered) (order : AreInOrder table.parents) (small : length t
   was_all : (view : Viewed) → IsOfAll old view → view ≡ was
   was_all view at = all_is old h.joining.olds was view h.joining.old_is at
 
-  is_all : (view : Viewed) → IsOfAll new view → view ≡ all
-  is_all view at = all_is new (left ++ tip ∷ []) all view (new_is ∙ sym (append_assoc left (tip ∷ []) (all ∷ []))) at
+  is_home : (view : Viewed) → IsOfAll new view → view ≡ home
+  is_home view at = all_is new (left ++ tip ∷ []) home view (new_is ∙ sym (append_assoc left (tip ∷ []) (home ∷ []))) at
+
+  kept : AreKeptIds table was.members home.members was.entries home.entries
+  kept =
+      subst (λ (l : List ℕ). AreKeptIds table was.members l was.entries home.entries) (sym alike)
+      (home_keeps table was.members all.members saved was.entries all.entries home.entries h.joining.patched_is goes joined.2.kept)
 
   is_new_tip : (view : Viewed) → IsOfTip table new n view → view ≡ tip
   is_new_tip view at =
-      let here : slice_get (left ++ tip ∷ all ∷ []) at.0 ≡ Some view = ap (λ (l : List Viewed). slice_get l at.0) (sym new_is) ∙ at.1 in
+      let here : slice_get (left ++ tip ∷ home ∷ []) at.0 ≡ Some view = ap (λ (l : List Viewed). slice_get l at.0) (sym new_is) ∙ at.1 in
       elim (cases_lt at.0 (length left)) [
         | inl less ↦
-            let found = passed (is_uncovered table) olds at.0 view (sym (in_front left (tip ∷ all ∷ []) at.0 less) ∙ here) in
+            let found = passed (is_uncovered table) olds at.0 view (sym (in_front left (tip ∷ home ∷ []) at.0 less) ∙ here) in
             let within : found.0 < length olds = slice_get_within olds found.0 view found.1 in
             let there : slice_get old.views found.0 ≡ Some view = ap (λ (l : List Viewed). slice_get l found.0) h.joining.old_is ∙ in_front olds (was ∷ []) found.0 within ∙ found.1 in
             let one = old_tip found.0 view there within in
             let same : n ≡ one.0 = one_top table order small view.members one.0 n (omega (arith, one.1, last)) one.3 (subst (λ (l : List ℕ). IsGreatest l n) (sym at.3) (top_of_bar table order small n (omega (arith, last)))) in
             absurd (omega (arith, same, one.1))
         | inr more ↦
-            let there : slice_get (tip ∷ all ∷ []) 0 ≡ Some view = sym (behind left (tip ∷ all ∷ []) at.0 0 (omega (arith, more, at.2, long))) ∙ here in
+            let there : slice_get (tip ∷ home ∷ []) 0 ≡ Some view = sym (behind left (tip ∷ home ∷ []) at.0 0 (omega (arith, more, at.2, long))) ∙ here in
             let e : tip ≡ view = cc in sym e
       ]
+
+  -- what is left of the old views stands before the new tip's
+  from_left : (i : ℕ) (view : Viewed) → slice_get left i ≡ Some view → (slice_get new.views i ≡ Some view) × (i + 1 < length new.views)
+  from_left i view at =
+      let place : i < length left = slice_get_within left i view at in (
+        ap (λ (l : List Viewed). slice_get l i) new_is ∙ in_front left (tip ∷ home ∷ []) i place ∙ at,
+        omega (arith, place, long),
+      )
 
   other_stays : (k : ℕ) (view : Viewed) → k < n → IsOfTip table old k view → has (get_or table.parents n []) k ≡ false → IsOfTip table new k view
   other_stays k view lt at none =
@@ -109,18 +124,13 @@ module _ (table : Numbered) (order : AreInOrder table.parents) (small : length t
       ∙ tip_still table n k last (ap (is_tip (take n table.parents)) same ∙ one.2) none in
       let in_it : slice_get olds at.0 ≡ Some view = sym (in_front olds (was ∷ []) at.0 within) ∙ ap (λ (l : List Viewed). slice_get l at.0) (sym h.joining.old_is) ∙ at.1 in
       let found = passes (is_uncovered table) olds at.0 view in_it stays in
-      let place : found.0 < length left = slice_get_within left found.0 view found.1 in (
-        found.0,
-        ap (λ (l : List Viewed). slice_get l found.0) new_is ∙ in_front left (tip ∷ all ∷ []) found.0 place ∙ found.1,
-        omega (arith, place, long),
-        at.3,
-      )
+      let there = from_left found.0 view found.1 in (found.0, there.0, there.1, at.3)
 
   pub grew : Grew table n old new
   grew = record {
     all = λ view view' at at'.
         subst (λ (x : Viewed). AreKeptIds table x.members view'.members x.entries view'.entries) (sym (was_all view at))
-        (subst (λ (x : Viewed). AreKeptIds table was.members x.members was.entries x.entries) (sym (is_all view' at')) joined.2.kept);
+        (subst (λ (x : Viewed). AreKeptIds table was.members x.members was.entries x.entries) (sym (is_home view' at')) kept);
     tip = λ i base view best at. subst (λ (x : Viewed). IsDerived table n old.views x) (sym (is_new_tip view at)) joined.2.derived i base best;
     others = other_stays;
   }

@@ -26,6 +26,7 @@ pub mod Released
 pub mod Replacing
 pub mod Retreat
 pub mod StillTips
+pub mod Homes
 pub mod Settled
 pub mod Grown
 pub mod TakenBack

@@ -1,18 +1,20 @@
--- The blocks of an arrival have joined, and the views of the tips that are covered are let go.
+-- The blocks of an arrival have joined, the views of the tips that are covered are let go, and what was saved of the view of all blocks.
 use Rattle.std.proofs.Common.{◌≡◌, ℕ, ◌+◌, ◌-◌, ◌<◌, ◌≤◌, Bool, cond, List, [], ◌∷◌, ◌++◌, length, map, take, Option, sym, ap, subst, ◌∙◌, arith}
 use Rattle.std.specs.Prelude.{filter}
+use Rattle.std.specs.List.{range_with_len}
 use Rattle.std.proofs.lemmas.List.{map-append, take_all}
 use Rattle.std.proofs.lemmas.List.Elements.{filter-append}
 use Rattle.sp_dag.specs.Numbered.{Numbered, AreInOrder}
 use Rattle.sp_rows.specs.Pool.{Pool}
-use Rattle.sp_view.specs.Stored.{count_of, row_of}
+use Rattle.sp_view.specs.Homes.{AreHome}
+use Rattle.sp_view.specs.Stored.{count_of}
 use Rattle.sp_view.specs.Summed.{AreSums}
 use Rattle.sp_view.specs.Views.{Viewed, held}
 use Rattle.sp_engine.specs.Votes.{AreOfTips, AreViews, AreVoted, bar_row, HaveJoined, held_by, is_tip, is_top_tip, is_uncovered, Tallied, tips_from, tips_of}
 use Rattle.sp_engine.proofs.Bars.{tip_in}
 use Rattle.sp_engine.proofs.Covering.{filter_map, filter_rows, snoc}
 use Rattle.sp_engine.proofs.Retreat.{all_last}
-use Rattle.sp_engine.proofs.Sharing.{views_move}
+use Rattle.sp_engine.proofs.Homes.{counts_home, views_home}
 use Rattle.sp_engine.proofs.StillTips.{all_stays, bar_stays, tips_below, tips_now, tips_twice}
 
 module _ (table : Numbered) (order : AreInOrder table.parents) (small : length table.parents ≤ 512) where
@@ -39,40 +41,57 @@ module _ (table : Numbered) (order : AreInOrder table.parents) (small : length t
         ∙ filter_rows (is_top_tip table) (bar_row table) (is_tip table.parents) (tips_from table.parents n) (λ k there. bar_stays table order small k (tips_below table.parents n k within there))
         ∙ ap (map (bar_row table)) (tips_twice table.parents n)
 
-    pub tips_settled : (new : List Viewed) → new ≡ filter (is_uncovered table) v.views → AreOfTips table (length table.parents) new
-    tips_settled new is = record {
-      tips = filter (is_uncovered table) (h.joining.olds ++ h.joining.joined);
-      all = h.joining.all;
-      is =
-          is ∙ ap (filter (is_uncovered table)) (all_last table n old v saved h.joining)
-          ∙ filter-append (is_uncovered table) (h.joining.olds ++ h.joining.joined) (h.joining.all ∷ [])
-          ∙ ap (λ (c : Bool). filter (is_uncovered table) (h.joining.olds ++ h.joining.joined) ++ cond c (h.joining.all ∷ []) [])
-          (ap (is_top_tip table) h.members ∙ all_stays table order small (length table.parents - 1) (omega (arith, some)));
-      each =
-          ap (map (λ (view : Viewed). view.members)) (filter-append (is_uncovered table) h.joining.olds h.joining.joined)
-          ∙ map-append (λ (view : Viewed). view.members) (filter (is_uncovered table) h.joining.olds) (filter (is_uncovered table) h.joining.joined)
-          ∙ ap (λ (l : List (List ℕ)). l ++ map (λ (view : Viewed). view.members) (filter (is_uncovered table) h.joining.joined)) left_olds
-          ∙ ap (λ (l : List (List ℕ)). map (bar_row table) (filter (is_tip table.parents) (tips_of (take n table.parents))) ++ l) left_joined
-          ∙ sym (map-append (bar_row table) (filter (is_tip table.parents) (tips_of (take n table.parents))) (tips_from table.parents n))
-          ∙ ap (map (bar_row table)) (tips_now table n within)
-          ∙ ap (λ (t : List (List ℕ)). map (bar_row table) (tips_of t)) (sym (take_all (length table.parents) table.parents (omega arith)));
-      members = h.members;
-    }
+    -- the views of the tips that none covers
+    abbrev pub left : List Viewed
+    left = filter (is_uncovered table) (h.joining.olds ++ h.joining.joined)
 
-    -- no view but those that stay holds a row
-    pub settled : (mid pool : Pool) (new : List Viewed) → new ≡ filter (is_uncovered table) v.views → ((r : ℕ) → count_of v.rows r ≡ count_of mid r + held saved r)
-        → ((r : ℕ) → count_of pool r + held_by v.views r ≡ count_of mid r + held_by new r) → AreViews table pool v.frozen.blocks new → AreVoted table (record { frozen = v.frozen; rows = pool; views = new; sums = v.sums })
-    settled mid pool new is less counts sound = record {
-      holds = record {
-        frozen = h.joining.frozen;
-        views = sound;
-        shared = record { few = omega arith; once = λ r. omega arith; counts = λ r. omega (arith, h.joining.shared.counts r, less r, counts r) };
-        tips = subst (λ (k : ℕ). AreOfTips table k new) (sym h.every) (tips_settled new is);
-      };
-      every = h.every;
-      sums = subst (λ (l : List ℕ). AreSums table l v.sums) h.members h.joining.sums;
-    }
+    left_are : map (λ (view : Viewed). view.members) left ≡ map (bar_row table) (tips_of (take (length table.parents) table.parents))
+    left_are =
+        ap (map (λ (view : Viewed). view.members)) (filter-append (is_uncovered table) h.joining.olds h.joining.joined)
+        ∙ map-append (λ (view : Viewed). view.members) (filter (is_uncovered table) h.joining.olds) (filter (is_uncovered table) h.joining.joined)
+        ∙ ap (λ (l : List (List ℕ)). l ++ map (λ (view : Viewed). view.members) (filter (is_uncovered table) h.joining.joined)) left_olds
+        ∙ ap (λ (l : List (List ℕ)). map (bar_row table) (filter (is_tip table.parents) (tips_of (take n table.parents))) ++ l) left_joined
+        ∙ sym (map-append (bar_row table) (filter (is_tip table.parents) (tips_of (take n table.parents))) (tips_from table.parents n))
+        ∙ ap (map (bar_row table)) (tips_now table n within)
+        ∙ ap (λ (t : List (List ℕ)). map (bar_row table) (tips_of t)) (sym (take_all (length table.parents) table.parents (omega arith)))
 
-    pub views_mid : (mid : Pool) → ((r : ℕ) → count_of v.rows r ≡ count_of mid r + held saved r) → ((r : ℕ) → 0 < count_of mid r → row_of mid r ≡ row_of v.rows r) → AreViews table mid v.frozen.blocks v.views
-    views_mid mid less rows =
-        views_move table v.rows v.frozen.blocks mid v.views (λ r. omega (arith, h.joining.shared.counts r, less r)) (λ r held. rows r (omega (arith, held, h.joining.shared.counts r, less r))) h.joining.views
+    -- the view of all blocks stays behind them
+    pub left_is : (views : List Viewed) → views ≡ filter (is_uncovered table) v.views → views ≡ left ++ h.joining.all ∷ []
+    left_is views is =
+        is ∙ ap (filter (is_uncovered table)) (all_last table n old v saved h.joining)
+        ∙ filter-append (is_uncovered table) (h.joining.olds ++ h.joining.joined) (h.joining.all ∷ [])
+        ∙ ap (λ (c : Bool). left ++ cond c (h.joining.all ∷ []) [])
+        (ap (is_top_tip table) h.members ∙ all_stays table order small (length table.parents - 1) (omega (arith, some)))
+
+    -- and once what was saved of it is let go, no row is held but by these views
+    pub settled : (mid pool : Pool) (views new : List Viewed) → views ≡ filter (is_uncovered table) v.views → ((r : ℕ) → count_of mid r + held_by v.views r ≡ count_of v.rows r + held_by views r) → AreViews table mid v.frozen.blocks views
+        → ((front : List Viewed) (last : Viewed) → views ≡ front ++ last ∷ [] → (home : Viewed) × (new ≡ front ++ home ∷ []) × (home.members ≡ last.members) × AreHome mid pool saved last.entries home.entries)
+        → AreVoted table (record { frozen = v.frozen; rows = pool; views = new; sums = v.sums })
+    settled mid pool views new is counts sound goes_home =
+        let all_is : views ≡ left ++ h.joining.all ∷ [] = left_is views is in
+        let goes = goes_home left h.joining.all all_is in
+        let home : Viewed = goes.0 in
+        let new_is : new ≡ left ++ home ∷ [] = goes.1 in
+        let held_mid : (r : ℕ) → count_of mid r ≡ held saved r + held_by (left ++ h.joining.all ∷ []) r = λ r. omega (arith, h.joining.shared.counts r, counts r, ap (λ (l : List Viewed). held_by l r) all_is) in
+        let sound_mid : AreViews table mid v.frozen.blocks (left ++ h.joining.all ∷ []) = subst (λ (l : List Viewed). AreViews table mid v.frozen.blocks l) all_is sound in
+        let sound_new : AreViews table pool v.frozen.blocks (left ++ home ∷ []) = views_home table v.frozen.blocks mid pool saved left h.joining.all home goes.3 held_mid goes.2 sound_mid in
+        record {
+          holds = record {
+            frozen = h.joining.frozen;
+            views = subst (λ (l : List Viewed). AreViews table pool v.frozen.blocks l) (sym new_is) sound_new;
+            shared = record {
+              few = omega arith;
+              once = λ r. omega arith;
+              counts = λ r. omega (arith, counts_home table v.frozen.blocks mid pool saved left h.joining.all home goes.3 held_mid r, ap (λ (l : List Viewed). held_by l r) new_is);
+            };
+            tips = record {
+              tips = left;
+              all = home;
+              is = new_is;
+              each = left_are ∙ ap (λ (k : ℕ). map (bar_row table) (tips_of (take k table.parents))) (sym h.every);
+              members = goes.2 ∙ h.members ∙ ap (range_with_len 0) (sym h.every);
+            };
+          };
+          every = h.every;
+          sums = subst (λ (l : List ℕ). AreSums table l v.sums) h.members h.joining.sums;
+        }

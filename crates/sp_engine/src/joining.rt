@@ -7,6 +7,7 @@ ghost use Rattle.std.specs.List.{range_with_len};
 ghost use Rattle.sp_model.specs.Graph.{has, past};
 ghost use Rattle.sp_dag.specs.Numbered.{Numbered, graph_of};
 ghost use Rattle.sp_frozen.specs.Voters.{HoldsFrozen};
+ghost use Rattle.sp_view.specs.Homes.{AreHome};
 ghost use Rattle.sp_view.specs.Saved.{IsSaving, patched};
 ghost use Rattle.sp_view.specs.Stored.{count_of, live, row_of};
 ghost use Rattle.sp_view.specs.Summed.{AreRight};
@@ -251,4 +252,19 @@ pub(crate) fn restore_last(views: &mut Vec<View>, rows: &mut RowPool, saved: Sav
 {
     let last = views.len() - 1;
     views[last].restore(rows, saved, members);
+}
+
+/// Keeps what the last one of the views became, and lets go what was saved of it, by which some of its rows may
+/// have the ids again that they had.
+pub(crate) fn settle_last(views: &mut Vec<View>, rows: &mut RowPool, saved: Saved)
+    requires counts { (row : ℕ) → held_by views.old.items row + held saved row
+        ≤ count_of rows.old row }
+    requires saved { (front : List Viewed) × (last : Viewed) × (views.old.items ≡ front ++ last ∷ []) ×
+        (length saved ≤ length last.entries) }
+    ensures home { (front : List Viewed) (last : Viewed) → views.old.items ≡ front ++ last ∷ [] →
+        (home : Viewed) × (views.new.items ≡ front ++ home ∷ []) × (home.members ≡ last.members)
+        × AreHome rows.old rows.new saved last.entries home.entries }
+{
+    let last = views.len() - 1;
+    views[last].settle(rows, saved);
 }

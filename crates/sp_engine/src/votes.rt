@@ -14,7 +14,9 @@ ghost use Rattle.sp_engine.specs.Engine.{numbers};
 ghost use Rattle.sp_engine.specs.Votes.{AreJoining, AreVoted, AreWhole, Grew, HaveJoined, HaveJoinedBut, IsAsBefore, IsOfAll, IsOfTip, is_tip, Tallied};
 
 use crate::changes::turned_pairs;
-use crate::joining::{new_tip, put_tip, release_covered, release_joined, restore_last};
+use crate::joining::{
+    new_tip, put_tip, release_covered, release_joined, restore_last, settle_last,
+};
 use crate::words::{related_word, word_by};
 use sp_bits::Row;
 use sp_dag::Dag;
@@ -185,7 +187,8 @@ impl Votes {
         turned_pairs(self.alloc, dag, &before.sums, &self.sums)
     }
 
-    /// Keeps the blocks that joined: the views of covered tips are let go, and what is saved.
+    /// Keeps the blocks that joined: the views of covered tips are let go, and what is saved, by which some rows
+    /// of the view of all blocks may have the ids again that they had before.
     pub(crate) fn settle(&mut self, dag: &Dag, before: Before)
         requires { (old : Tallied) × HaveJoined dag.now before.blocks old self.old before.saved }
         ensures voted { AreVoted dag.now self.new }
@@ -201,8 +204,9 @@ impl Votes {
             saved,
             sums: _,
         } = before;
-        saved.release(&mut self.rows);
+        // First the covered views, so that fewer of the saved rows are held by another one.
         release_covered(&mut self.views, &mut self.rows, dag, 0);
+        settle_last(&mut self.views, &mut self.rows, saved);
     }
 
     /// Takes the blocks back that joined, for a graph that is cut to those from before after this
