@@ -4,37 +4,15 @@ use Rattle.std.proofs.lemmas.Bool.{cases_lt}
 use Rattle.sp_dag.specs.Numbered.{graph_of, Numbered}
 use Rattle.sp_model.specs.Graph.{Graph, has}
 use Rattle.sp_rows.specs.Pool.{Pool}
-use Rattle.sp_view.specs.Homes.{AreAlike, AreHome, IsHome}
+use Rattle.sp_view.specs.Homes.{AreHome, IsHome}
 use Rattle.sp_view.specs.Saved.{either, patched}
-use Rattle.sp_view.specs.Settled.{IsAsked}
 use Rattle.sp_view.specs.Stored.{count_of}
-use Rattle.sp_view.specs.Views.{AreKeptIds, entry_at, held, IsEntry, IsView, KeepIds, Viewed}
+use Rattle.sp_view.specs.Views.{AreKeptIds, entry_at, held, KeepIds, Viewed}
+use Rattle.sp_view.proofs.Homes.{view_home}
 use Rattle.sp_view.proofs.Patched.{length_patched, patched_at}
 use Rattle.sp_view.proofs.Votes.{none_past}
 use Rattle.sp_engine.specs.Votes.{AreViews, held_by}
 use Rattle.sp_engine.proofs.Sharing.{held_more, views_more, views_move, views_parts}
-
--- an entry has the places that it had
-entry_home : (g : Graph) (set : List ℕ) (x y : ℕ) (mid new : Pool) (entry entry' : Option (ℕ × ℕ)) → AreAlike mid new entry entry' → IsEntry g set x y mid entry → IsEntry g set x y new entry'
-entry_home g set x y mid new None None alike is = is
-entry_home g set x y mid new None (Some e') alike is = absurd alike
-entry_home g set x y mid new (Some e) None alike is = absurd alike
-entry_home g set x y mid new (Some e) (Some e') alike is = (is.0, record { plus_is = alike.0 ∙ is.1.plus_is; minus_is = alike.1 ∙ is.1.minus_is })
-
--- so the view is one still
-view_home : (table : Numbered) (mid new : Pool) (saved : List (Option (ℕ × ℕ))) (last home : Viewed) → IsView table last mid → home.members ≡ last.members → AreHome mid new saved last.entries home.entries
-    → ((r : ℕ) → held home.entries r ≤ count_of new r) → IsView table home new
-view_home table mid new saved last home is members goes live = record {
-  order = is.order;
-  asked = subst (λ (l : List ℕ). IsAsked (graph_of table) l) (sym members) is.asked;
-  below = subst (λ (l : List ℕ). (z : ℕ) → has l z ≡ true → z < length table.parents) (sym members) is.below;
-  few = omega (arith, goes.long, is.few);
-  entry = λ i x y at.
-      entry_home (graph_of table) home.members x y mid new (entry_at last.entries i) (entry_at home.entries i) (goes.places i)
-      (subst (λ (l : List ℕ). IsEntry (graph_of table) l x y mid (entry_at last.entries i)) (sym members) (is.entry i x y at));
-  live = live;
-  once = goes.once;
-}
 
 -- of some views the last one goes home, where no row is held but by them and what was saved
 module _ (table : Numbered) (n : ℕ) (mid new : Pool) (saved : List (Option (ℕ × ℕ))) (front : List Viewed) (last home : Viewed)

@@ -1,11 +1,11 @@
 -- Beside a block that joins: the blocks of its past that a pair's second block doesn't bind, and those of them whose votes may change.
-use Rattle.std.proofs.Common.{◌≡◌, ℕ, ◌<◌, ◌≤◌, Bool, true, false, ◌||◌, ◌&&◌, List, Some, length, not, refl, sym, ap, ◌∙◌, eqb, inl, inr, arith}
+use Rattle.std.proofs.Common.{◌≡◌, ℕ, ◌<◌, ◌≤◌, Bool, true, false, ◌||◌, ◌&&◌, List, Some, length, not, refl, sym, ap, ◌∙◌, inl, inr, arith}
 use Rattle.std.specs.Prelude.{slice_get}
 use Rattle.std.proofs.lemmas.Bool.{and_parts, cases_lt}
 use Rattle.std.proofs.lemmas.Option.{slice_get_within}
-use Rattle.sp_bits.specs.Places.{difference, places_where, union}
+use Rattle.sp_bits.specs.Places.{difference, union}
 use Rattle.sp_bits.specs.Members.{has-places_where}
-use Rattle.sp_bits.proofs.RowSets.{has_difference, has_places}
+use Rattle.sp_bits.proofs.RowSets.{has_difference}
 use Rattle.sp_dag.specs.Closed.{closed}
 use Rattle.sp_dag.specs.Numbered.{Numbered, pairs_of}
 use Rattle.sp_model.specs.Graph.{Graph, has, in_past}

@@ -1,12 +1,15 @@
 -- The entries of a view go home one by one, when an arrival is kept.
-use Rattle.std.proofs.Common.{◌≡◌, ◌≢◌, ◌∙◌, ℕ, ◌+◌, ◌<◌, ◌≤◌, List, length, set, take, Option, Some, None, inl, inr, arith, refl, sym, subst}
+use Rattle.std.proofs.Common.{◌≡◌, ◌≢◌, ◌∙◌, ℕ, ◌+◌, ◌<◌, ◌≤◌, true, List, length, set, Option, Some, None, inl, inr, arith, refl, sym, subst}
+use Rattle.sp_dag.specs.Numbered.{graph_of, Numbered}
+use Rattle.sp_model.specs.Graph.{Graph, has}
 use Rattle.sp_rows.specs.Pool.{Pool}
 use Rattle.std.proofs.lemmas.Bool.{cases_lt}
 use Rattle.std.proofs.lemmas.List.{get_or_past}
 use Rattle.sp_view.specs.Homes.{AreAlike, AreHome, IsHome, IsOnceHome}
 use Rattle.sp_view.specs.Padded.{padded}
+use Rattle.sp_view.specs.Settled.{IsAsked}
 use Rattle.sp_view.specs.Stored.{count_of, row_of}
-use Rattle.sp_view.specs.Views.{entry_at, holds, held}
+use Rattle.sp_view.specs.Views.{entry_at, holds, held, IsEntry, IsView, Viewed}
 use Rattle.sp_view.proofs.Held.{held_set, holds_held, holds_two}
 use Rattle.sp_view.proofs.Padding.{entry_is, held_is, long_is}
 use Rattle.sp_view.proofs.TwoRows.{one_if}
@@ -71,3 +74,27 @@ home_padded n list saved is le before after entries entries' home = record {
       | inl less ↦ entry_is n list saved is i less
       | inr more ↦ get_or_past saved i None (omega (arith, more, long_is n list saved is)) ∙ sym (get_or_past list i None (omega (arith, more, le)))
     ]
+
+-- ---- the view is one still
+
+-- an entry has the places that it had
+entry_home : (g : Graph) (set : List ℕ) (x y : ℕ) (mid new : Pool) (entry entry' : Option (ℕ × ℕ)) → AreAlike mid new entry entry' → IsEntry g set x y mid entry → IsEntry g set x y new entry'
+entry_home g set x y mid new None None alike is = is
+entry_home g set x y mid new None (Some e') alike is = absurd alike
+entry_home g set x y mid new (Some e) None alike is = absurd alike
+entry_home g set x y mid new (Some e) (Some e') alike is = (is.0, record { plus_is = alike.0 ∙ is.1.plus_is; minus_is = alike.1 ∙ is.1.minus_is })
+
+-- so the view is one still
+pub view_home : (table : Numbered) (mid new : Pool) (saved : List (Option (ℕ × ℕ))) (last home : Viewed) → IsView table last mid → home.members ≡ last.members → AreHome mid new saved last.entries home.entries
+    → ((r : ℕ) → held home.entries r ≤ count_of new r) → IsView table home new
+view_home table mid new saved last home is members goes live = record {
+  order = is.order;
+  asked = subst (λ (l : List ℕ). IsAsked (graph_of table) l) (sym members) is.asked;
+  below = subst (λ (l : List ℕ). (z : ℕ) → has l z ≡ true → z < length table.parents) (sym members) is.below;
+  few = omega (arith, goes.long, is.few);
+  entry = λ i x y at.
+      entry_home (graph_of table) home.members x y mid new (entry_at last.entries i) (entry_at home.entries i) (goes.places i)
+      (subst (λ (l : List ℕ). IsEntry (graph_of table) l x y mid (entry_at last.entries i)) (sym members) (is.entry i x y at));
+  live = live;
+  once = goes.once;
+}

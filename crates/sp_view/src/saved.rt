@@ -178,13 +178,4 @@ impl Saved {
         }
         settle_all(pool, entries, &self.list);
     }
-
-    /// Lets the saved entries go: each of their rows has one holder less for each entry that holds it.
-    pub fn release(self, pool: &mut RowPool)
-        requires { (r : ℕ) → held self r ≤ count_of pool.old r }
-        ensures counts { (r : ℕ) → count_of pool.old r ≡ count_of pool.new r + held self r }
-        ensures rows { (r : ℕ) → 0 < count_of pool.new r → row_of pool.new r ≡ row_of pool.old r }
-    {
-        give_entries(pool, &self.list);
-    }
 }

@@ -1,11 +1,11 @@
-use Rattle.std.proofs.Common.{◌≡◌, ◌∙◌, ◌≤◌, ◌<◌, ◌+◌, ℕ, List, None, Option, inl, inr, arith, ap, refl, sym, subst, length, set, take, get_or-set_other, get_or-set_same}
-use Rattle.std.proofs.lemmas.Bool.{cases_eq, cases_lt}
-use Rattle.std.proofs.lemmas.List.{get_or_default, get_or_past}
+use Rattle.std.proofs.Common.{◌≡◌, ◌∙◌, ◌≤◌, ◌<◌, ◌+◌, ℕ, List, None, Option, inl, inr, arith, ap, sym, subst, length, set, get_or-set_other, get_or-set_same}
+use Rattle.std.proofs.lemmas.Bool.{cases_eq}
+use Rattle.std.proofs.lemmas.List.{get_or_default}
 use Rattle.sp_view.specs.Homes.{AreAlike, IsHome, IsOnceHome}
 use Rattle.sp_view.specs.Stored.{count_of, row_of}
 use Rattle.sp_view.specs.Views.{entry_at, holds, held}
 use Rattle.sp_view.proofs.Held.{read_at, held_set, held_take, held_take_le, holds_held}
-use Rattle.sp_view.proofs.Homes.{alike_same, alike_twice, home_same, once_home, other_stays}
+use Rattle.sp_view.proofs.Homes.{alike_twice, once_home, other_stays}
 use Rattle.sp_view.proofs.saved.settle_all.Goals as goal
 
 pub entry_home-requires : goal.entry_home-requires

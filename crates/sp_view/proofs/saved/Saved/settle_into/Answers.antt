@@ -1,4 +1,4 @@
-use Rattle.std.proofs.Common.{◌≡◌, ◌≤◌, ℕ, List, Option, ap, arith, length, subst, sym}
+use Rattle.std.proofs.Common.{ℕ, List, Option, ap, arith, length, subst}
 use Rattle.sp_view.specs.Homes.{AreHome}
 use Rattle.sp_view.specs.Views.{held}
 use Rattle.sp_view.proofs.Homes.{all_stay, home_padded}
