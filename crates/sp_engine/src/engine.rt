@@ -2,7 +2,7 @@
 //! their transactions are accepted, and what these leave under each lock. The calls on valid blocks
 //! that arrive stand apart, in `arrivals`, and those on transactions and on what they leave in `money`.
 
-ghost use Rattle.std.specs.Prelude.{◌≡◌, ◌≤◌, ◌<◌, ◌+◌, ◌∷◌, [], ◌==◌, ℕ, false, find, length, slice_get, Some, IfNone, IfOk, IfSome, OnOk, OnErr, IsFalse, IsTrue};
+ghost use Rattle.std.specs.Prelude.{◌≡◌, ◌≤◌, ◌<◌, ◌+◌, ◌∷◌, [], ◌==◌, ◌↔◌, ℕ, false, find, length, slice_get, Some, IfNone, IfOk, IfSome, IsNone, OnOk, OnErr, IsFalse, IsTrue};
 ghost use Rattle.std.specs.List.{range_with_len};
 ghost use Rattle.std.specs.Option.{option_copied};
 ghost use Rattle.sp_block.specs.Block.{IsGenesis};
@@ -178,16 +178,30 @@ impl Engine {
         ensures { result ≡
             word (graph_in self.now.profile self.now.kept) (present self.now.kept) x.now y.now }
     {
-        let Some(first) = self.dag.number(x) else {
+        let Some(first) = self.number(x) else {
             return Word::Absent;
         };
-        let Some(second) = self.dag.number(y) else {
+        let Some(second) = self.number(y) else {
             return Word::Absent;
         };
-        if first == second {
+        self.vote_at(first, second)
+    }
+
+    /// What the present blocks say of two of them, by their numbers in the order in which they became
+    /// present, counted from 0. Their sum stands ready, so it takes a bounded number of steps.
+    pub fn vote_at(&self, x: u16, y: u16) -> Word
+        requires x_in { x < length (present self.now.kept) }
+        requires y_in { y < length (present self.now.kept) }
+        ensures { (first second : ℕ) → slice_get (order_of self.now.kept) x ≡ Some first →
+            slice_get (order_of self.now.kept) y ≡ Some second → result ≡
+            word (graph_in self.now.profile self.now.kept) (present self.now.kept) first second }
+    {
+        // Tells the proof which blocks are present.
+        let _blocks = self.dag.len();
+        if x == y {
             return Word::Same;
         }
-        self.votes.word(&self.dag, first, second)
+        self.votes.word(&self.dag, x, y)
     }
 
     /// How many blocks are present, from 1 to 512. What stands of their order stands here, for each
@@ -218,6 +232,17 @@ impl Engine {
         ensures { slice_get (order_of self.now.kept) n ≡ Some result }
     {
         self.dag.id(n)
+    }
+
+    /// The number of the present block with this id in the order in which they became so, counted
+    /// from 0, or `None` where none has it. It takes about the time of a look-up by hash.
+    pub fn number(&self, id: &BlockId) -> Option<u16>
+        ensures found { IfSome result (λ n.
+            slice_get (order_of self.now.kept) n ≡ Some id.now) }
+        ensures within { IfSome result (λ n. n < length (present self.now.kept)) }
+        ensures none { IsNone result ↔ IsFalse (has (present self.now.kept) id.now) }
+    {
+        self.dag.number(id)
     }
 
     /// The present blocks by number, in the order in which they became so.

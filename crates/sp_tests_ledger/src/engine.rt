@@ -111,8 +111,17 @@ fn offer_each(alloc: Global, engine: &mut Engine, came: &[Vec<u8>]) -> Result<Ve
     Ok(told)
 }
 
+/// What the engine says of two blocks, if it says so by their numbers too.
 fn word(engine: &Engine, x: &BlockId, y: &BlockId) -> Result<Word, Fail> {
-    Ok(engine.vote(x, y))
+    let word = engine.vote(x, y);
+    let by_number = match (engine.number(x), engine.number(y)) {
+        (Some(first), Some(second)) => engine.vote_at(first, second),
+        _ => Word::Absent,
+    };
+    if by_number != word {
+        return Err("another word by the numbers".into());
+    }
+    Ok(word)
 }
 
 fn words(engine: &Engine, ids: &[BlockId], words: &mut Vec<Word>) -> Result<(), Fail> {
