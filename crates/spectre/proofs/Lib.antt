@@ -15,6 +15,7 @@ pub mod Replayed
 pub mod Talking
 pub mod Played
 pub mod Tallies
+pub mod SaidByNumber
 pub mod DiskFirst
 pub mod WholeLines
 pub mod Gossiping

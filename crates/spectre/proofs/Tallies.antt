@@ -3,11 +3,9 @@ use Rattle.std.proofs.Common.{◌≡◌, ℕ, ◌+◌, ◌*◌, ◌<◌, ◌≤�
 use Rattle.std.proofs.lemmas.List.{length-map, drop_all, drop_more, take_all, map-append}
 use Rattle.std.proofs.lemmas.List.Sums.{count_by-le-length, sum_by-append, sum_by-cons, sum_by_more}
 use Rattle.std.proofs.lemmas.Option.{get_or_from_slice_get}
-use Rattle.sp_block.specs.Block.{ReadBlock}
-use Rattle.sp_model.specs.declared.profile.Profile.{Profile}
 use Rattle.sp_model.specs.declared.word.Word.{Word}
 use Rattle.sp_report.specs.Texts.{pairs_of}
-use Rattle.spectre.specs.Summary.{added, AreUpTo, is_after, is_before, is_tie, pair_word, pair_words}
+use Rattle.spectre.specs.Summary.{added, AreUpTo, is_after, is_before, is_tie}
 use Rattle.spectre.specs.declared.counts.Tally.{Tally}
 
 -- ---- the elements that are wanted
@@ -85,21 +83,21 @@ up_to tally n ws h = record {
   tie = omega (arith, h.tie, count_by-le-length is_tie ws);
 }
 
--- ---- what is said of a block and each of some others
+-- ---- what is said of a block and each of some others, whatever names the blocks
 
-module _ (profile : Profile) (kept : List ReadBlock) where
+module _ (said : ℕ × ℕ → Word) where
   abbrev pub votes : ℕ → List ℕ → List Word
-  votes first others = map (λ other. pair_word profile kept (first, other)) others
+  votes first others = map (λ other. said (first, other)) others
 
   -- the next one
-  pub next_other : (first : ℕ) (others : List ℕ) (i other : ℕ) (tally next : Tally) → i < length others → other ≡ get_or others i other
-      → next.before ≡ cond (is_before (pair_word profile kept (first, other))) (tally.before + 1) tally.before
-      → next.after ≡ cond (is_after (pair_word profile kept (first, other))) (tally.after + 1) tally.after
-      → next.tie ≡ cond (is_tie (pair_word profile kept (first, other))) (tally.tie + 1) tally.tie
+  pub next_other : (first : ℕ) (others : List ℕ) (i other : ℕ) (tally next : Tally) → i < length others → other ≡ get_or others i 0
+      → next.before ≡ cond (is_before (said (first, other))) (tally.before + 1) tally.before
+      → next.after ≡ cond (is_after (said (first, other))) (tally.after + 1) tally.after
+      → next.tie ≡ cond (is_tie (said (first, other))) (tally.tie + 1) tally.tie
       → added next (votes first (drop (i + 1) others)) ≡ added tally (votes first (drop i others))
   next_other first others i other tally next l is b a t =
-      sym (ap (λ (xs : List ℕ). added tally (votes first xs)) (drop_more others i other l ∙ ap (λ (x : ℕ). x ∷ drop (i + 1) others) (sym is))
-      ∙ added_cons tally (pair_word profile kept (first, other)) (votes first (drop (i + 1) others)) next b a t)
+      sym (ap (λ (xs : List ℕ). added tally (votes first xs)) (drop_more others i 0 l ∙ ap (λ (x : ℕ). x ∷ drop (i + 1) others) (sym is))
+      ∙ added_cons tally (said (first, other)) (votes first (drop (i + 1) others)) next b a t)
 
   pub no_other : (first : ℕ) (others : List ℕ) (i : ℕ) (tally : Tally) → length others ≤ i → added tally (votes first (drop i others)) ≡ tally
   no_other first others i tally l = ap (λ (xs : List ℕ). added tally (votes first xs)) (drop_all i others l) ∙ added_none tally
@@ -108,7 +106,7 @@ module _ (profile : Profile) (kept : List ReadBlock) where
   pub added_up_to : (first : ℕ) (others : List ℕ) (i : ℕ) (tally next : Tally) → length others ≤ 512 → AreUpTo tally (512 * i) → next ≡ added tally (votes first others) → AreUpTo next (512 * (i + 1))
   added_up_to first others i tally next few h e =
       let up = up_to tally (512 * i) (votes first others) h in
-      let long = length-map others (λ (other : ℕ). pair_word profile kept (first, other)) in
+      let long = length-map others (λ (other : ℕ). said (first, other)) in
       subst (λ (t : Tally). AreUpTo t (512 * (i + 1))) (sym e) (record {
         before = omega (arith, up.before, long, few);
         after = omega (arith, up.after, long, few);
@@ -116,20 +114,20 @@ module _ (profile : Profile) (kept : List ReadBlock) where
       })
 
   -- the next block with those behind it
-  pub next_block : (ids : List ℕ) (i x : ℕ) (others : List ℕ) (tally next : Tally) → i < length ids → x ≡ get_or ids i x → others ≡ drop (i + 1) ids
-      → next ≡ added tally (votes x others) → added next (pair_words profile kept (drop (i + 1) ids)) ≡ added tally (pair_words profile kept (drop i ids))
+  pub next_block : (ids : List ℕ) (i x : ℕ) (others : List ℕ) (tally next : Tally) → i < length ids → x ≡ get_or ids i 0 → others ≡ drop (i + 1) ids
+      → next ≡ added tally (votes x others) → added next (map said (pairs_of (drop (i + 1) ids))) ≡ added tally (map said (pairs_of (drop i ids)))
   unfolding pairs_of
   next_block ids i x others tally next l is behind e =
       let rest = drop (i + 1) ids in
-      sym (ap (λ (xs : List ℕ). added tally (pair_words profile kept xs)) (drop_more ids i x l ∙ ap (λ (y : ℕ). y ∷ rest) (sym is))
-      ∙ ap (added tally) (map-append (pair_word profile kept) (map (λ (y : ℕ). (x, y)) rest) (pairs_of rest) ∙ ap (λ (ws : List Word). ws ++ pair_words profile kept rest) (together x rest))
-      ∙ added_append tally (votes x rest) (pair_words profile kept rest)
-      ∙ ap (λ (t : Tally). added t (pair_words profile kept rest)) (ap (λ (xs : List ℕ). added tally (votes x xs)) (sym behind) ∙ sym e))
+      sym (ap (λ (xs : List ℕ). added tally (map said (pairs_of xs))) (drop_more ids i 0 l ∙ ap (λ (y : ℕ). y ∷ rest) (sym is))
+      ∙ ap (added tally) (map-append said (map (λ (y : ℕ). (x, y)) rest) (pairs_of rest) ∙ ap (λ (ws : List Word). ws ++ map said (pairs_of rest)) (together x rest))
+      ∙ added_append tally (votes x rest) (map said (pairs_of rest))
+      ∙ ap (λ (t : Tally). added t (map said (pairs_of rest))) (ap (λ (xs : List ℕ). added tally (votes x xs)) (sym behind) ∙ sym e))
     where
-      together : (x : ℕ) (ys : List ℕ) → map (pair_word profile kept) (map (λ (y : ℕ). (x, y)) ys) ≡ votes x ys
+      together : (x : ℕ) (ys : List ℕ) → map said (map (λ (y : ℕ). (x, y)) ys) ≡ votes x ys
       together x [] = refl
-      together x (y ∷ ys) = ap (λ (ws : List Word). pair_word profile kept (x, y) ∷ ws) (together x ys)
+      together x (y ∷ ys) = ap (λ (ws : List Word). said (x, y) ∷ ws) (together x ys)
 
-  pub no_block : (ids : List ℕ) (i : ℕ) (tally : Tally) → length ids ≤ i → added tally (pair_words profile kept (drop i ids)) ≡ tally
+  pub no_block : (ids : List ℕ) (i : ℕ) (tally : Tally) → length ids ≤ i → added tally (map said (pairs_of (drop i ids))) ≡ tally
   unfolding pairs_of
-  no_block ids i tally l = ap (λ (xs : List ℕ). added tally (pair_words profile kept xs)) (drop_all i ids l) ∙ added_none tally
+  no_block ids i tally l = ap (λ (xs : List ℕ). added tally (map said (pairs_of xs))) (drop_all i ids l) ∙ added_none tally

@@ -7,6 +7,7 @@ pub mod WalletWords
 pub mod Jobs
 pub mod Lines
 pub mod Summary
+pub mod Numbering
 pub mod Scenes
 pub mod Replay
 pub mod Sent

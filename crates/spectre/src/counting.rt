@@ -1,7 +1,9 @@
 //! The counting of what a summary tells, by the engine's calls and without a text.
 
 ghost use Rattle.std.specs.Prelude.{◌≡◌, ◌≤◌, ◌+◌, false, if◌then◌else◌, IfOk, length, map};
-ghost use Rattle.spectre.specs.Summary.{accepted_count, added, AreUpTo, counts_of, is_after, is_before, is_tie, paid_count, pair_word, pair_words, tally_of};
+ghost use Rattle.sp_report.specs.Texts.{pairs_of};
+ghost use Rattle.spectre.specs.Numbering.{AreNumbers, id_of, if_present, number_word};
+ghost use Rattle.spectre.specs.Summary.{accepted_count, added, AreUpTo, counts_of, is_after, is_before, is_tie, paid_count, pair_words, tally_of};
 
 use crate::counts::{Counts, Tally};
 use sp_engine::Engine;
@@ -31,35 +33,80 @@ fn with_word(tally: Tally, word: Word) -> Tally
     }
 }
 
-// The tally after what is said of a block and each of the others.
-fn count_votes(engine: &Engine, first: &BlockId, others: &[BlockId], before: Tally) -> Tally
+// The number of a block in the order of presence, or how many there are where it isn't present.
+fn number_of(engine: &Engine, id: &BlockId) -> u16
+    ensures { id_of engine.now.kept result ≡ if_present engine.now.kept id.now }
+{
+    match engine.number(id) {
+        Some(number) => number,
+        None => engine.present(),
+    }
+}
+
+// Sets the numbers of these blocks.
+fn set_numbers(engine: &Engine, ids: &[BlockId], numbers: &mut [u16])
+    requires long { length numbers.old ≡ length ids.now }
+    ensures { AreNumbers engine.now.kept ids.now numbers.new }
+{
+    'place: for place in 0..ids.len() {
+        numbers[place] = number_of(engine, &ids[place]);
+    }
+}
+
+// What is said of two blocks, by their numbers.
+fn word_of(engine: &Engine, x: u16, y: u16) -> Word
+    ensures { result ≡ number_word engine.now.profile engine.now.kept (x, y) }
+{
+    let present = engine.present();
+    if x < present && y < present {
+        engine.vote_at(x, y)
+    } else {
+        Word::Absent
+    }
+}
+
+// The tally after what is said of a block and each of the others, by their numbers.
+fn count_votes(engine: &Engine, first: u16, others: &[u16], before: Tally) -> Tally
     requires few { length others.now ≤ 512 }
     requires bound { AreUpTo before 1048576 }
     ensures tally { result ≡
-        added before (map (λ other. pair_word engine.now.profile engine.now.kept (first.now, other)) others.now) }
+        added before (map (λ other. number_word engine.now.profile engine.now.kept (first, other)) others.now) }
 {
     let mut tally = before;
     'other: for other in others {
-        tally = with_word(tally, engine.vote(first, other));
+        tally = with_word(tally, word_of(engine, first, *other));
     }
     tally
 }
 
-// What is said of each pair of these blocks.
-fn count_pairs(engine: &Engine, ids: &[BlockId]) -> Tally
-    requires few { length ids.now ≤ 512 }
-    ensures { result ≡ tally_of (pair_words engine.now.profile engine.now.kept ids.now) }
+// What is said of each pair of these blocks, by their numbers.
+fn count_numbers(engine: &Engine, numbers: &[u16]) -> Tally
+    requires few { length numbers.now ≤ 512 }
+    ensures { result ≡
+        tally_of (map (number_word engine.now.profile engine.now.kept) (pairs_of numbers.now)) }
 {
     let mut tally = Tally {
         before: 0,
         after: 0,
         tie: 0,
     };
-    'place: for place in 0..ids.len() {
-        let (_, others) = ids.split_at(place + 1);
-        tally = count_votes(engine, &ids[place], others, tally);
+    'place: for place in 0..numbers.len() {
+        let (_, others) = numbers.split_at(place + 1);
+        tally = count_votes(engine, numbers[place], others, tally);
     }
     tally
+}
+
+// What is said of each pair of these blocks. Each is looked up by its id once.
+#[tactic(auto, using(crate::proofs::SaidByNumber::same_words))]
+fn count_pairs(engine: &Engine, ids: &[BlockId]) -> Tally
+    requires few { length ids.now ≤ 512 }
+    ensures { result ≡ tally_of (pair_words engine.now.profile engine.now.kept ids.now) }
+{
+    let mut places = [0; 512];
+    let numbers = &mut places[..ids.len()];
+    set_numbers(engine, ids, numbers);
+    count_numbers(engine, numbers)
 }
 
 // How many transactions of the present blocks are accepted.
@@ -86,8 +133,9 @@ fn count_paid(engine: &Engine) -> u32
     count
 }
 
-/// What there is of everything where these blocks are the present ones. It takes the time of a vote
-/// for each pair, and of a pass over all transactions and locks, and no memory.
+/// What there is of everything where these blocks are the present ones. It takes the time of a look-up
+/// by hash for each block, of a vote by number for each pair, and of a pass over all transactions and
+/// locks, and no memory.
 pub fn count_all(engine: &Engine, ids: &[BlockId]) -> Counts
     requires few { length ids.now ≤ 512 }
     ensures { result ≡ counts_of engine.now.profile engine.now.kept ids.now }
