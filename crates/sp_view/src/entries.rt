@@ -102,7 +102,7 @@ fn step_entry(
                 dag, frozen, pool, saved, before, members, b, place, rows, sum,
             );
             Step {
-                entry: Some(joined.rows),
+                entry: Some((joined.plus, joined.minus)),
                 gain: joined.gain,
             }
         }

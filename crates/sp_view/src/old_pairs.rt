@@ -28,7 +28,8 @@ use sp_rows::RowPool;
 // The rows after a block joined, and what came to the sum of the votes, where that is known.
 #[derive(Clone, Copy)]
 pub(crate) struct Joined {
-    pub(crate) rows: (RowName, RowName),
+    pub(crate) plus: RowName,
+    pub(crate) minus: RowName,
     pub(crate) gain: Option<i32>,
 }
 
@@ -61,8 +62,8 @@ fn opened_entry(
     requires own { (x y : ℕ) → slice_get (pairs_of dag.now) pair ≡ Some (x, y) →
         own ≡ vote (graph_of dag.now) members.now b x y }
     requires some { own ≢ pos 0 }
-    ensures rows { IsNew dag.now before.now members.now pair pool.new entry result.rows }
-    ensures step { IsSavingStep pool.old pool.new pair (Some entry) (Some result.rows) saved.old saved.new }
+    ensures rows { IsNew dag.now before.now members.now pair pool.new entry (result.plus, result.minus) }
+    ensures step { IsSavingStep pool.old pool.new pair (Some entry) (Some (result.plus, result.minus)) saved.old saved.new }
     ensures gain { (x y : ℕ) → slice_get (pairs_of dag.now) pair ≡ Some (x, y) →
         IfSome result.gain (IsGain (graph_of dag.now) before.now members.now x y) }
 {
@@ -72,22 +73,29 @@ fn opened_entry(
         Some(turn) => {
             if turn.before == turn.after {
                 return Joined {
-                    rows: entry,
+                    plus: entry.0,
+                    minus: entry.1,
                     gain: Some(own),
                 };
             }
             saved.save(pool, pair, &entry);
-            let rows = turned_entry(
+            let (plus, minus) = turned_entry(
                 dag, frozen, pool, before, members, b, pair, entry, todo, &turn,
             );
             let gain = Some(turn.after - turn.before + own);
-            Joined { rows, gain }
+            Joined { plus, minus, gain }
         }
         None => {
             saved.save(pool, pair, &entry);
             let up = own > 0;
-            let rows = asked_entry(dag, frozen, pool, before, members, b, pair, entry, todo, up);
-            Joined { rows, gain: None }
+            let (plus, minus) = asked_entry(
+                dag, frozen, pool, before, members, b, pair, entry, todo, up,
+            );
+            Joined {
+                plus,
+                minus,
+                gain: None,
+            }
         }
     }
 }
@@ -114,8 +122,8 @@ pub(crate) fn joined_entry(
     requires few { place.now.pair < length saved.old → (r : ℕ) → count_of pool.old r + 2 < 2 ^ 32 }
     requires sum { (x y : ℕ) → slice_get (pairs_of dag.now) place.now.pair ≡ Some (x, y) →
         IsSum (graph_of dag.now) before.now x y sum }
-    ensures rows { IsNew dag.now before.now members.now place.now.pair pool.new entry result.rows }
-    ensures step { IsSavingStep pool.old pool.new place.now.pair (Some entry) (Some result.rows)
+    ensures rows { IsNew dag.now before.now members.now place.now.pair pool.new entry (result.plus, result.minus) }
+    ensures step { IsSavingStep pool.old pool.new place.now.pair (Some entry) (Some (result.plus, result.minus))
         saved.old saved.new }
     ensures gain { (x y : ℕ) → slice_get (pairs_of dag.now) place.now.pair ≡ Some (x, y) →
         IfSome result.gain (IsGain (graph_of dag.now) before.now members.now x y) }
@@ -124,7 +132,8 @@ pub(crate) fn joined_entry(
     let own = joining_vote(dag, frozen, b, place, x);
     if own == 0 {
         return Joined {
-            rows: entry,
+            plus: entry.0,
+            minus: entry.1,
             gain: Some(0),
         };
     }
@@ -134,7 +143,8 @@ pub(crate) fn joined_entry(
             dag, frozen, pool, saved, before, members, b, pair, entry, &todo, own, sum,
         ),
         None => Joined {
-            rows: entry,
+            plus: entry.0,
+            minus: entry.1,
             gain: Some(own),
         },
     }

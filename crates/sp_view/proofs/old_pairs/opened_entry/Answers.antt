@@ -76,8 +76,8 @@ returns-then-turn-clause-gain c = λ x y at.
     c.args.own c.in-Some.turn.before c.in-Some.turn.after (c.requires.own x y at) told in
     record { inside = c.requires.rows.inside x y at; sum_is = omega (arith, ints, gain, same, to_z-of_z w32 _ fo) }
 
-pub turned_entry-rows-requires-clause-root : goal.turned_entry-rows-requires-clause-root
-turned_entry-rows-requires-clause-root c =
+pub turned_entry-plus-requires-clause-root : goal.turned_entry-plus-requires-clause-root
+turned_entry-plus-requires-clause-root c =
     let table : Numbered = c.args.dag.now in
     let pair = get_or (pairs_of table) c.args.pair (0, 0) in
     let at : slice_get (pairs_of table) c.args.pair ≡ Some (pair.0, pair.1) = some_pair (pairs_of table) c.args.pair c.requires.listed in
@@ -87,8 +87,8 @@ turned_entry-rows-requires-clause-root c =
     (row_of c.args.pool.now c.args.entry.0) (row_of c.args.pool.now c.args.entry.1) c.args.todo.now (c.requires.rows.sides pair.0 pair.1 at) (c.requires.anew.opened pair.0 pair.1 at) (c.requires.anew.kept pair.0 pair.1 at) c.in-Some.ensures.lone
     c.args.own c.in-Some.turn.before c.in-Some.turn.after (c.requires.own pair.0 pair.1 at) told
 
-pub turned_entry-rows-requires-clause-votes : goal.turned_entry-rows-requires-clause-votes
-turned_entry-rows-requires-clause-votes c = λ x y at.
+pub turned_entry-plus-requires-clause-votes : goal.turned_entry-plus-requires-clause-votes
+turned_entry-plus-requires-clause-votes c = λ x y at.
     let table : Numbered = c.args.dag.now in
     let fo : FitsSigned w32 c.args.own = search rules in
     let told = told_by (graph_of table) c.args.before.now x y c.args.own _ c.in-Some.turn.before c.in-Some.turn.after c.args.sum (to_z-of_z w32 _ fo) c.in-Some.ensures.some c.in-Some.ensures.votes (c.requires.sum x y at) (c.requires.rows.inside x y at) in
@@ -157,30 +157,30 @@ returns-else-turn-clause-gain c = λ x y at.
       sum_is = omega (arith, ints, gain, small.0, small.1, small'.0, small'.1, own.0, own.1, to_z-of_z w32 _ f, to_z-of_z w32 _ f', to_z-of_z w32 _ fo);
     }
 
-pub turned_entry-rows-requires-clause-rows : goal.turned_entry-rows-requires-clause-rows
-turned_entry-rows-requires-clause-rows c =
+pub turned_entry-plus-requires-clause-rows : goal.turned_entry-plus-requires-clause-rows
+turned_entry-plus-requires-clause-rows c =
     old_saved c.args.dag.now c.args.before.now c.args.members.now c.args.pair c.args.pool.now c.save.new.pool c.args.pair c.args.entry c.args.saved.now c.save.new.self c.save.ensures c.requires.rows
 
-pub turned_entry-rows-requires-clause-anew : goal.turned_entry-rows-requires-clause-anew
-turned_entry-rows-requires-clause-anew c =
+pub turned_entry-plus-requires-clause-anew : goal.turned_entry-plus-requires-clause-anew
+turned_entry-plus-requires-clause-anew c =
     anew_saved c.args.dag.now c.args.before.now c.args.members.now c.args.pair c.args.pool.now c.save.new.pool c.args.pair c.args.entry c.args.saved.now c.save.new.self c.save.ensures c.args.todo.now c.requires.anew
 
-pub asked_entry-rows-requires-clause-rows : goal.asked_entry-rows-requires-clause-rows
-asked_entry-rows-requires-clause-rows c =
+pub asked_entry-plus-requires-clause-rows : goal.asked_entry-plus-requires-clause-rows
+asked_entry-plus-requires-clause-rows c =
     old_saved c.args.dag.now c.args.before.now c.args.members.now c.args.pair c.args.pool.now c.save-in-None.new.pool c.args.pair c.args.entry c.args.saved.now c.save-in-None.new.self c.save-in-None.ensures c.requires.rows
 
-pub asked_entry-rows-requires-clause-anew : goal.asked_entry-rows-requires-clause-anew
-asked_entry-rows-requires-clause-anew c =
+pub asked_entry-plus-requires-clause-anew : goal.asked_entry-plus-requires-clause-anew
+asked_entry-plus-requires-clause-anew c =
     anew_saved c.args.dag.now c.args.before.now c.args.members.now c.args.pair c.args.pool.now c.save-in-None.new.pool c.args.pair c.args.entry c.args.saved.now c.save-in-None.new.self c.save-in-None.ensures c.args.todo.now c.requires.anew
 
 pub returns-else-turn-clause-step : goal.returns-else-turn-clause-step
-returns-else-turn-clause-step c = inl (c.save.new.pool, c.save.ensures, c.turned_entry-rows.ensures.step)
+returns-else-turn-clause-step c = inl (c.save.new.pool, c.save.ensures, c.turned_entry-plus.ensures.step)
 
 pub returns-in-None-clause-step : goal.returns-in-None-clause-step
-returns-in-None-clause-step c = inl (c.save-in-None.new.pool, c.save-in-None.ensures, c.asked_entry-rows.ensures.step)
+returns-in-None-clause-step c = inl (c.save-in-None.new.pool, c.save-in-None.ensures, c.asked_entry-plus.ensures.step)
 
-pub asked_entry-rows-requires-clause-vote : goal.asked_entry-rows-requires-clause-vote
-asked_entry-rows-requires-clause-vote c = λ x y at.
+pub asked_entry-plus-requires-clause-vote : goal.asked_entry-plus-requires-clause-vote
+asked_entry-plus-requires-clause-vote c = λ x y at.
     let f : FitsSigned w32 c.args.own = search rules in
     up_told (vote (graph_of c.args.dag.now) c.args.members.now c.args.b x y) _ (to_z-of_z w32 _ f ∙ c.requires.own x y at)
     (vote_sign (graph_of c.args.dag.now) c.args.members.now c.args.b x y c.requires.joined.joins.more_down c.requires.joined.joins.there)
