@@ -6,10 +6,12 @@ use Rattle.sp_dag.specs.Numbered.{Numbered, AreInOrder, graph_of, pairs_of}
 use Rattle.sp_frozen.specs.Voters.{FrozenRows}
 use Rattle.sp_rows.specs.Pool.{Counted, Pool}
 use Rattle.sp_rows.specs.Pool as counted
+use Rattle.sp_view.specs.Homes.{AreHome}
 use Rattle.sp_view.specs.Saved.{patched, AreCountedWith, IsSaving}
 use Rattle.sp_view.specs.Stored.{count_of, row_of}
 use Rattle.sp_view.specs.Summed.{AreRight, AreSums}
 use Rattle.sp_view.specs.Views.{Viewed, entry_at, held, IsView}
+use Rattle.sp_view.proofs.Homes.{view_home}
 use Rattle.sp_view.proofs.KeptSums.{inside_sum, sums_all, sums_longer}
 use Rattle.sp_view.proofs.Patched.{held_patched, held_saved, length_patched}
 use Rattle.sp_view.proofs.Starting.{nothing, view_nothing}
@@ -78,36 +80,37 @@ module _ (table : Numbered) (frozen : FrozenRows) (pool : Pool) (view : Viewed) 
     long_then = long';
   }
 
-  -- what was saved goes, and all may be saved anew
-  pub kept_anew : (pool' : Pool) (saved' : List (Option (ℕ × ℕ))) → ((i : ℕ) → i < length (pairs_of table) → IsSome (entry_at view.entries i)) → patched saved' view.entries ≡ view.entries
-      → ((r : ℕ) → held saved' r ≡ 0) → ((r : ℕ) → count_of pool r ≡ count_of pool' r + held saved r) → ((r : ℕ) → 0 < count_of pool' r → row_of pool' r ≡ row_of pool r)
-      → IsKept table frozen pool' view sums view.members saved' sums
-  kept_anew pool' saved' all same none counts rows =
-      let after : (r : ℕ) → count_of pool' r ≡ held view.entries r = λ r. (let c = kept.counts r in let d = counts r in omega (arith, c, d)) in
-      let long : length saved' ≡ length view.entries = sym (length_patched saved' view.entries) ∙ ap length same in
-      let is : IsView table view pool' = view_moves table view pool pool' kept.is (λ r. (let c = after r in omega (arith, c))) (λ r some. rows r (let c = after r in omega (arith, c, some))) in
+  -- what was saved goes, some rows have the ids again that they had there, and all may be saved anew
+  pub kept_anew : (pool' : Pool) (view' : Viewed) (saved' : List (Option (ℕ × ℕ))) → view'.members ≡ view.members → AreHome pool pool' saved view.entries view'.entries
+      → ((i : ℕ) → i < length (pairs_of table) → IsSome (entry_at view'.entries i)) → patched saved' view'.entries ≡ view'.entries → ((r : ℕ) → held saved' r ≡ 0)
+      → IsKept table frozen pool' view' sums view'.members saved' sums
+  kept_anew pool' view' saved' members' home all same none =
+      let after : (r : ℕ) → count_of pool' r ≡ held view'.entries r = λ r. (let c = kept.counts r in let d = home.counts r in omega (arith, c, d)) in
+      let long : length saved' ≡ length view'.entries = sym (length_patched saved' view'.entries) ∙ ap length same in
+      let is : IsView table view' pool' = view_home table pool pool' saved view view' kept.is members' home (λ r. (let c = after r in omega (arith, c))) in
+      let summed : AreSums table view'.members sums = subst (λ (l : List ℕ). AreSums table l sums) (sym members') kept.summed in
       record {
         based = kept.based;
         is = is;
-        summed = kept.summed;
+        summed = summed;
         long = kept.long;
         saving = record {
           long = omega (arith, long);
-          there = λ i lt. subst (λ (l : List (Option (ℕ × ℕ))). IsSome (entry_at l i)) (sym same) (all i (let few : length view.entries ≤ length (pairs_of table) = kept.is.few in omega (arith, lt, long, few)));
+          there = λ i lt. subst (λ (l : List (Option (ℕ × ℕ))). IsSome (entry_at l i)) (sym same) (all i (let few : length view'.entries ≤ length (pairs_of table) = is.few in omega (arith, lt, long, few)));
         };
         counts = λ r. (let c = after r in let n = none r in omega (arith, c, n));
-        was = subst (λ (l : List (Option (ℕ × ℕ))). IsView table (record { members = view.members; entries = l }) pool') (sym same) is;
-        summed_then = kept.summed;
+        was = subst (λ (l : List (Option (ℕ × ℕ))). IsView table (record { members = view'.members; entries = l }) pool') (sym same) is;
+        summed_then = summed;
         long_then = kept.long;
       }
 
-  pub kept_saving : (pool' : Pool) (members' : List ℕ) (saved' : List (Option (ℕ × ℕ))) (older' : List ℤ) → members' ≡ view.members → older' ≡ sums
-      → ((i : ℕ) → i < length (pairs_of table) → IsSome (entry_at view.entries i)) → patched saved' view.entries ≡ view.entries
-      → ((r : ℕ) → held saved' r ≡ 0) → ((r : ℕ) → count_of pool r ≡ count_of pool' r + held saved r) → ((r : ℕ) → 0 < count_of pool' r → row_of pool' r ≡ row_of pool r)
-      → IsKept table frozen pool' view sums members' saved' older'
-  kept_saving pool' members' saved' older' e e' all same none counts rows =
-      subst (λ (l : List ℕ). IsKept table frozen pool' view sums l saved' older') (sym e)
-      (subst (λ (l : List ℤ). IsKept table frozen pool' view sums view.members saved' l) (sym e') (kept_anew pool' saved' all same none counts rows))
+  pub kept_saving : (pool' : Pool) (view' : Viewed) (gone : List (Option (ℕ × ℕ))) (members' : List ℕ) (saved' : List (Option (ℕ × ℕ))) (older' : List ℤ) → gone ≡ saved → members' ≡ view'.members → older' ≡ sums
+      → view'.members ≡ view.members → AreHome pool pool' gone view.entries view'.entries → ((i : ℕ) → i < length (pairs_of table) → IsSome (entry_at view'.entries i))
+      → patched saved' view'.entries ≡ view'.entries → ((r : ℕ) → held saved' r ≡ 0) → IsKept table frozen pool' view' sums members' saved' older'
+  kept_saving pool' view' gone members' saved' older' was e e' stays home all same none =
+      subst (λ (l : List ℕ). IsKept table frozen pool' view' sums l saved' older') (sym e)
+      (subst (λ (l : List ℤ). IsKept table frozen pool' view' sums view'.members saved' l) (sym e')
+      (kept_anew pool' view' saved' stays (subst (λ (l : List (Option (ℕ × ℕ))). AreHome pool pool' l view.entries view'.entries) was home) all same none))
 
   -- a block joins
   pub kept_joined : (pool' : Pool) (view' : Viewed) (sums' : List ℤ) (saved' : List (Option (ℕ × ℕ))) → IsView table view' pool' → AreCountedWith pool pool' view.entries saved view'.entries saved'

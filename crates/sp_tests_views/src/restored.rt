@@ -1,5 +1,5 @@
 //! A view that is put back, apart from an engine. With each block that joins, it has the plain votes of its members and the
-//! rows of a view that is derived from nothing, and so again once the block is taken back.
+//! rows of a view that is derived from nothing, and so again once the block is taken back, and once it is kept.
 
 ghost use Rattle.std.specs.Prelude.{◌<◌, ℕ, length, IfOk, IsSome, IsTrue, OnOk};
 ghost use Rattle.sp_dag.specs.Numbered.{pairs_of};
@@ -8,7 +8,7 @@ ghost use Rattle.sp_tests_views.specs.Keeping.{IsKept};
 
 use crate::based::Based;
 use crate::places::{is_same, places};
-use crate::rows::right;
+use crate::rows::{holds, right};
 use crate::signs::{has_votes, plain_of};
 use crate::small::derived;
 use crate::summed::{GRAPHS, has_signs};
@@ -101,20 +101,21 @@ impl Kept {
         })
     }
 
-    /// From here on entries are saved, if the view is that of all blocks.
+    /// Keeps what the view has become. From here on entries are saved, if the view is that of all blocks.
     fn save(&mut self) -> Result<(), Fail>
         requires { IsKept self.old.based.dag self.old.based.frozen self.old.pool self.old.view
             self.old.sums self.old.members self.old.saved self.old.older }
         ensures { OnOk result (IsKept self.new.based.dag self.new.based.frozen self.new.pool
             self.new.view self.new.sums self.new.members self.new.saved self.new.older) }
     {
+        let nothing = Saved::new(self.based.alloc);
+        let saved = replace(&mut self.saved, nothing);
+        self.view.settle(&mut self.pool, saved);
         if !has_all(&self.based.dag, &self.view) {
             return Err("no rows of a pair".into());
         }
         self.older = self.sums.fork()?;
-        let fresh = self.view.saving()?;
-        let saved = replace(&mut self.saved, fresh);
-        saved.release(&mut self.pool);
+        self.saved = self.view.saving()?;
         self.members = *self.view.members();
         Ok(())
     }
@@ -184,8 +185,8 @@ impl Kept {
             saved,
             older: _,
         } = self;
-        let mut pool = pool;
-        saved.release(&mut pool);
+        let (mut pool, mut view) = (pool, view);
+        view.settle(&mut pool, saved);
         view.release(&mut pool);
         pool.live()
     }
@@ -209,7 +210,7 @@ impl Kept {
     }
 }
 
-/// Whether all is right with one block more, without it again, and with it.
+/// Whether all is right with one block more, without it again, with it, and once it is kept.
 fn is_put_back(kept: &mut Kept, name: u8, parent: u8) -> Result<bool, Fail>
     requires { IsKept kept.old.based.dag kept.old.based.frozen kept.old.pool kept.old.view
         kept.old.sums kept.old.members kept.old.saved kept.old.older }
@@ -226,7 +227,9 @@ fn is_put_back(kept: &mut Kept, name: u8, parent: u8) -> Result<bool, Fail>
         && kept.pool.live() == live
         && kept.is_right()?;
     kept.join(name as u16)?;
-    Ok(joined && back && kept.is_right()?)
+    let again = kept.is_right()?;
+    kept.save()?;
+    Ok(joined && back && again && kept.is_right()?)
 }
 
 /// Whether all is right as the blocks of a graph join, each of which is taken back once. Each has one parent.
@@ -261,5 +264,58 @@ fn a_view_is_put_back(rt: HostRuntime) -> Result<(), Fail> {
     for (row, parents) in GRAPHS.iter().enumerate() {
         right(&rt, row, wrong_with(rt.alloc(), parents)?);
     }
+    Ok(())
+}
+
+/// The pairs of 1 and 2, 2 and 3, 2 and 4, 3 and 4, in this order.
+const SIBLINGS: &[u8] = &[0, 0, 1, 1];
+
+/// The ids of the rows of the four pairs.
+type Ids = [Option<(RowId, RowId)>; 4];
+
+/// Which rows the four pairs have.
+fn ids(view: &View) -> Ids {
+    [view.rows(0), view.rows(1), view.rows(2), view.rows(3)]
+}
+
+/// The rows of the four pairs before 5 joins, which stands on 3, with it, and once it is kept; and whether all is right then.
+fn ids_kept(kept: &mut Kept) -> Result<(Ids, Ids, Ids, bool), Fail>
+    requires { IsKept kept.old.based.dag kept.old.based.frozen kept.old.pool kept.old.view
+        kept.old.sums kept.old.members kept.old.saved kept.old.older }
+    ensures { OnOk result (IsKept kept.new.based.dag kept.new.based.frozen kept.new.pool
+        kept.new.view kept.new.sums kept.new.members kept.new.saved kept.new.older) }
+{
+    kept.save()?;
+    let before = ids(&kept.view);
+    kept.grow(5, 3)?;
+    kept.join(5)?;
+    let joined = ids(&kept.view);
+    kept.save()?;
+    let right = kept.is_right()?;
+    Ok((before, joined, ids(&kept.view), right))
+}
+
+/// Whether only the row of -1 of 3 and 4 had another id while 5 could be taken back, and all is right once it is kept.
+fn have_ids_again(alloc: Global) -> Result<bool, Fail> {
+    let mut kept = Kept::start(alloc)?;
+    if !are_put_back(&mut kept, SIBLINGS)? {
+        return Ok(false);
+    }
+    let (before, joined, after, right) = ids_kept(&mut kept)?;
+    let (Some(was), Some(is)) = (before[3], joined[3]) else {
+        return Ok(false);
+    };
+    let others = before[0] == joined[0] && before[1] == joined[1] && before[2] == joined[2];
+    let moved = was.0 == is.0 && was.1 != is.1;
+    Ok(others && moved && before == after && right && kept.release() == 0)
+}
+
+// With 3 and 4 side by side on 1, the sums of their votes are 0 and nobody below votes on them: both rows are empty. With 5 on 3
+// there are two votes for 3 and one for 4, and so 1 and genesis vote -1. On 1 and 2, the members 1, 3, 4 and then 5 are against 2
+// alone, and genesis votes -1 before and after. On 2 and 3, 1 and genesis vote +1 before and after, and 4 has no vote. On 2 and 4,
+// so do they, and 3, and then 5, have no vote: 5 is above neither of the two. So one entry of four changes, and it has its row back.
+#[test]
+fn a_kept_row_has_its_id_again(rt: HostRuntime) -> Result<(), Fail> {
+    holds(&rt, 0, have_ids_again(rt.alloc())?);
     Ok(())
 }
