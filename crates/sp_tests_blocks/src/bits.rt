@@ -144,3 +144,39 @@ fn places_taken_out(rt: HostRuntime) {
     row.clear(6);
     assert!(rt; has_just(&row, &[0, 511]));
 }
+
+/// Sets, none of which is another one: some differ in place 0 alone, some in place 511 alone.
+const SETS: &[&[u16]] = &[
+    &[],
+    &[0],
+    &[511],
+    &[0, 511],
+    &[1, 64, 300],
+    &[0, 1, 64, 300],
+    &[1, 64, 300, 511],
+];
+
+/// The first of the sets whose row is said to be that of the set at a place where it isn't, or another one where it is.
+fn mistaken_for(sets: &[&[u16]], place: usize, row: &Row) -> Option<usize> {
+    for (other, places) in sets.iter().enumerate() {
+        if row.same(&row_of(places)) != (other == place) {
+            return Some(other);
+        }
+    }
+    None
+}
+
+/// The first two of the sets of which so much is said wrongly.
+fn mistaken(sets: &[&[u16]]) -> Option<(usize, usize)> {
+    for (place, places) in sets.iter().enumerate() {
+        if let Some(other) = mistaken_for(sets, place, &row_of(places)) {
+            return Some((place, other));
+        }
+    }
+    None
+}
+
+#[test]
+fn the_same_and_others(rt: HostRuntime) {
+    assert_eq!(rt; mistaken(SETS), None);
+}

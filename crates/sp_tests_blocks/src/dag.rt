@@ -1,5 +1,7 @@
 //! A graph worked out by hand: a diamond with a tail, and a block beside it.
 
+ghost use Rattle.std.specs.Prelude.{◌<◌, length};
+
 use sp_bits::Row;
 use sp_dag::Dag;
 use sp_fixtures::graph::{add, id};
@@ -51,6 +53,18 @@ fn has_just(row: &Row, places: &[u16]) -> bool {
     true
 }
 
+/// Whether a block with its future is just its future and the block.
+fn is_closed(dag: &Dag, number: u16, future: &[u16]) -> bool
+    requires { number < length dag.now.parents }
+{
+    // Tells the proof that there are at most 512 blocks.
+    let _blocks = dag.len();
+    let closed = dag.closed(number);
+    let mut above = *closed;
+    above.clear(number);
+    closed.test(number) && has_just(&above, future)
+}
+
 /// Whether the block of this number is found by its id, and has just its past and future.
 fn is_placed(dag: &Dag, number: u16, block: &Block) -> bool {
     if number >= dag.len() || dag.number(&id(block.id)) != Some(number) {
@@ -59,6 +73,7 @@ fn is_placed(dag: &Dag, number: u16, block: &Block) -> bool {
     dag.id(number) == id(block.id)
         && has_just(dag.past(number), block.past)
         && has_just(dag.future(number), block.future)
+        && is_closed(dag, number, block.future)
 }
 
 /// The number of the first block that isn't placed so.

@@ -50,6 +50,7 @@ fn words_of_places_and_places_of_words(rt: HostRuntime) {
             back.within(&row) && row.within(&back),
             "places of {words:?}"
         );
+        assert!(rt; back.same(&row), "one row of {words:?}");
         assert_eq!(rt; back.count() as usize, places.len());
         assert_eq!(rt; back.highest(), places.last().copied());
     }
