@@ -1,5 +1,6 @@
 //! How an entry goes home when an arrival is kept: what it has now is written into the rows that it had before, where
-//! nobody else holds these. So rows that were taken one after another stay neighbours in memory, however often they change.
+//! nobody else holds these, nor those that were taken for them. So rows that were taken one after another mostly stay
+//! neighbours in memory when they change.
 
 ghost use Rattle.std.specs.Prelude.{◌≡◌, ◌<◌, ◌≤◌, ◌+◌, ◌⊎◌, ◌==◌, ℕ, if◌then◌else◌, Some};
 ghost use Rattle.sp_view.specs.Homes.{AreAlike, AreRowsHome, IsHome, IsOnceHome};

@@ -26,7 +26,7 @@ pub struct Saved {
     count: usize,
     // The saved ones and those between them, up to the last saved one.
     list: Vec<Option<(RowName, RowName)>>,
-    // How many are saved. No answer hangs on it.
+    // How many are saved. By this it is told whether their rows are held again, and nothing else is.
     many: usize,
 }
 
@@ -160,8 +160,9 @@ impl Saved {
         entries.truncate(self.count);
     }
 
-    // Keeps a view's entries, and lets the saved ones go. Where no more than half of them were saved, their rows are held
-    // again as far as they can be: where most change, whole runs of them did, and what was taken for these are neighbours too.
+    // Keeps a view's entries, and lets the saved ones go. Where no more than half of those up to the last saved one were saved,
+    // their rows are held again as far as they can be: where more were, whole runs changed, and what was taken for these are
+    // neighbours too.
     pub(crate) fn settle_into(
         self,
         pool: &mut RowPool,

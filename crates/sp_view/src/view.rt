@@ -269,9 +269,10 @@ impl View {
         self.members = *members;
     }
 
-    /// Keeps what the view has become, and lets the saved entries go. A saved row that nobody else holds is written anew
-    /// and held again, in the place of the row that was taken for it, unless more than half of the entries up to the last saved one
-    /// were saved: so the rows of neighbours stay neighbours in memory.
+    /// Keeps what the view has become, and lets the saved entries go. Where nobody else holds a saved row, and nobody but this
+    /// view the one that was taken for it, the places are written into the saved one, which is held again: so the rows of
+    /// neighbours mostly stay neighbours in memory. Where more than half of the entries up to the last saved one were saved,
+    /// none is held again.
     pub fn settle(&mut self, pool: &mut RowPool, saved: Saved)
         requires long { length saved ≤ length self.old.entries }
         requires live { (r : ℕ) → held saved r + held self.old.entries r ≤ count_of pool.old r }
