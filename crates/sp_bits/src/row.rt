@@ -6,7 +6,7 @@ ghost use Rattle.std.specs.List.{list_all};
 ghost use Rattle.sp_bits.specs.Places.{has, places_where, union, meet, difference, members_below, IsRow, IsGreatest};
 ghost use Rattle.sp_bits.specs.Words.{bit_in, words_of};
 
-use crate::words::{are_same, count_both, count_two, implies, last_before, last_of};
+use crate::words::{are_same, count_both, count_span, count_two, implies, last_before, last_of};
 use std::marker::Model;
 
 /// A set of places below 512. Contracts see the ascending list of them. It has one size,
@@ -161,6 +161,21 @@ impl Row {
     {
         let (more, less) = count_two(&self.words, &plus.words, &minus.words);
         more as i32 - less as i32
+    }
+
+    /// How many places it shares with `plus`, and how many with `minus`, from 0 to 512, where all of
+    /// its places are from one on and below another one. It takes a step for each word between
+    /// these two.
+    pub fn count_span(&self, plus: &Row, minus: &Row, from: u16, end: u16) -> (u32, u32)
+        requires small { end ≤ 512 }
+        requires within { (p : ℕ) → IsTrue (has self.now p) → (from ≤ p) × (p < end) }
+        ensures plus { result.0 ≡ length (meet self.now plus.now) }
+        ensures minus { result.1 ≡ length (meet self.now minus.now) }
+        ensures bound { (result.0 ≤ 512) × (result.1 ≤ 512) }
+    {
+        let first = from as usize / 64;
+        let last = (end as usize + 63) / 64;
+        count_span(&self.words, &plus.words, &minus.words, first, last)
     }
 
     /// Its greatest place, in eight steps at most.

@@ -33,6 +33,30 @@ pub(crate) fn count_two(own: &[u64; 8], plus: &[u64; 8], minus: &[u64; 8]) -> (u
     (more, less)
 }
 
+// The same, where it has no place outside the words from `first` on and before `last`: the other
+// words need not be read.
+pub(crate) fn count_span(
+    own: &[u64; 8],
+    plus: &[u64; 8],
+    minus: &[u64; 8],
+    first: usize,
+    last: usize,
+) -> (u32, u32)
+    requires last { last ≤ 8 }
+    requires within { (p : ℕ) → IsTrue (bit_in own.now p) → (64 * first ≤ p) × (p < 64 * last) }
+    ensures plus { result.0 ≡ length (places_where (λ p. bit_in own.now p && bit_in plus.now p)) }
+    ensures minus { result.1 ≡ length (places_where (λ p. bit_in own.now p && bit_in minus.now p)) }
+    ensures bound { (result.0 ≤ 512) × (result.1 ≤ 512) }
+{
+    let mut more = 0;
+    let mut less = 0;
+    'words: for word in first..last {
+        more += (own[word] & plus[word]).count_ones();
+        less += (own[word] & minus[word]).count_ones();
+    }
+    (more, less)
+}
+
 // Whether the other has each place of the one.
 pub(crate) fn implies(one: &[u64; 8], other: &[u64; 8]) -> bool
     ensures { result ≡ list_all (bit_in other.now) (places_where (bit_in one.now)) }
