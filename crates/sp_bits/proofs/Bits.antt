@@ -1,10 +1,10 @@
 -- The words of a row: what an operation on words does to each place.
 use Rattle.std.proofs.Common.{◌≡◌, ◌≢◌, ℕ, zero, suc, ◌+◌, ◌-◌, ◌*◌, ◌/◌, ◌%◌, ◌^◌, ◌<◌, ◌≤◌, min, max, Bool, true, false, cond, ◌||◌, ◌&&◌, not, List, ◌∷◌, ◌++◌, length, set, get_or, refl, sym, ap, ◌∙◌, ◌⊎◌, inl, inr, eqb, Option, Some, None, arith, get_or-set_same, get_or-set_other, length-append, w64, add-one}
-use Rattle.std.specs.Prelude.{filter, ◌==◌, ◌↔◌, IfSome, IfNone}
+use Rattle.std.specs.Prelude.{filter, nat_lt, ◌==◌, ◌↔◌, IfSome, IfNone}
 use Rattle.std.specs.List.{range_with_len}
 use Rattle.std.specs.Int.{bit_at, bit_not, trailing_zeros}
 use Rattle.std.specs.Int.RustNames.{bit_or, bit_and, bit_xor, count_ones}
-use Rattle.std.proofs.lemmas.Bool.{cases_lt, eqb-true, eq-eqb, false≢true, false_from_ne_true, and_parts}
+use Rattle.std.proofs.lemmas.Bool.{cases_lt, eqb-true, eq-eqb, false≢true, false_from_ne_true, and_parts, ltb-true, lt-ltb}
 use Rattle.std.proofs.lemmas.Nat.{one_shl, pow_pos, le-div, shr_below, and_le_l, and_le_r, ones-le, leading_top}
 use Rattle.std.proofs.lemmas.Nat.Bits.{bit_at-lt, bit_at-zero, bit_at-suc, bit_at_lowest, bit_at_and, bit_at_or, bit_at_not, bit_at_ones, bit_at_ones_above, bit_at-trailing_zeros, bit_at_above}
 use Rattle.std.proofs.lemmas.List.{length-set, same_lists, get_or_default, get_or_past}
@@ -409,3 +409,87 @@ none-before words place None none rest = λ p le. elim (cases_lt p (64 * (place 
   | inl less ↦ rest p less
   | inr low ↦ none-in-front words place none p low le
 ]
+
+-- ---- the places from one on taken out
+
+-- the words have the old places below `place`, and before `end`, which is behind it, no others
+pub record IsCleared (old now : List ℕ) (place end : ℕ) : Type 0 where
+  pub behind : place < 64 * end
+  pub kept : (p : ℕ) → p < place → bit_in now p ≡ bit_in old p
+  pub none : (p : ℕ) → place ≤ p → p < 64 * end → bit_in now p ≡ false
+  pub words : AreWords now
+
+other-word : (words : List ℕ) (k w p : ℕ) → p / 64 ≢ k → bit_in (set words k w) p ≡ bit_in words p
+other-word words k w p apart = ap (λ (v : ℕ). bit_at v (p % 64) == 1) (get_or-set_other words k (p / 64) w 0 apart)
+
+-- the front of the word of `place` alone
+pub IsCleared-front : (words : List ℕ) (place : ℕ) → AreWords words → place < 512
+    → IsCleared words (set words (place / 64) (front_of words place)) place (place / 64 + 1)
+IsCleared-front words place are small = record {
+  behind = omega arith;
+  kept = λ p less. elim (cases_lt p (64 * (place / 64))) [
+    | inl before ↦ other-word words (place / 64) (front_of words place) p (λ (e : p / 64 ≡ place / 64). omega arith)
+    | inr low ↦ (let high : p < 64 * (place / 64 + 1) = omega arith in here p low high ∙ sym (front-place words place p low less))
+  ];
+  none = λ p more high.
+      (let low : 64 * (place / 64) ≤ p = omega arith in
+      let past : place % 64 ≤ p - 64 * (place / 64) = omega arith in
+      here p low high
+      ∙ ap (λ (d : ℕ). d == 1) (ap (λ (w : ℕ). bit_at w (p - 64 * (place / 64))) (front_is words place) ∙ no-low-bit (get_or words (place / 64) 0) (place % 64) (p - 64 * (place / 64)) past));
+  words =
+      (let fits = are.small (place / 64) (omega arith) in
+      AreWords-set words (place / 64) (front_of words place) are (omega (arith, and_le_l (get_or words (place / 64) 0) (1 * 2 ^ (place % 64) % 2 ^ 64 - 1), fits)));
+}
+  where
+    now : List ℕ
+    now = set words (place / 64) (front_of words place)
+
+    here : (p : ℕ) → 64 * (place / 64) ≤ p → p < 64 * (place / 64 + 1) → bit_in now p ≡ (bit_at (front_of words place) (p - 64 * (place / 64)) == 1)
+    here p low high =
+        (let at : p ≡ 64 * (place / 64) + (p - 64 * (place / 64)) = omega arith in
+        let bit : p - 64 * (place / 64) < 64 = omega arith in
+        let inside : place / 64 < length words = omega (arith, are.long) in
+        ap (bit_in now) at ∙ bit_in-word now (place / 64) (p - 64 * (place / 64)) bit
+        ∙ ap (λ (w : ℕ). bit_at w (p - 64 * (place / 64)) == 1) (get_or-set_same words (place / 64) (front_of words place) 0 inside))
+
+-- what is cleared is so as it stands
+pub IsCleared-now : (old now : List ℕ) (place end : ℕ) → IsCleared old now place end → IsCleared now now place end
+IsCleared-now old now place end is = record { behind = is.behind; kept = λ p _. refl; none = is.none; words = is.words }
+
+-- a word more
+pub IsCleared-more : (old now : List ℕ) (place end : ℕ) → end < 8 → IsCleared old now place end → IsCleared old (set now end 0) place (end + 1)
+IsCleared-more old now place end le is = record {
+  behind = omega (arith, is.behind);
+  kept = λ p less.
+      (let below : p < 64 * end = omega (arith, is.behind) in
+      other-word now end 0 p (λ (e : p / 64 ≡ end). omega arith) ∙ is.kept p less);
+  none = λ p more high. elim (cases_lt p (64 * end)) [
+    | inl before ↦ other-word now end 0 p (λ (e : p / 64 ≡ end). omega arith) ∙ is.none p more before
+    | inr low ↦
+        (let word : p / 64 ≡ end = omega arith in
+        let inside : end < length now = omega (arith, is.words.long) in
+        ap (λ (k : ℕ). bit_at (get_or (set now end 0) k 0) (p % 64) == 1) word
+        ∙ ap (λ (w : ℕ). bit_at w (p % 64) == 1) (get_or-set_same now end 0 0 inside) ∙ ap (λ (d : ℕ). d == 1) (bit_at-zero (p % 64)))
+  ];
+  words = AreWords-set now end 0 is.words (omega arith);
+}
+
+-- at the end the old places below `place` are left
+pub IsCleared-all : (old front now : List ℕ) (place begin end : ℕ) → IsCleared old front place begin → IsCleared front now place end → 8 ≤ end
+    → (p : ℕ) → p < 512 → bit_in now p ≡ (bit_in old p && nat_lt p place)
+IsCleared-all old front now place begin end first is whole p le =
+    elim (cases_lt p place) [
+      | inl less ↦ is.kept p less ∙ first.kept p less ∙ sym (ap (λ (d : Bool). bit_in old p && d) (lt-ltb p place less) ∙ with_true (bit_in old p))
+      | inr more ↦
+          (let inside : p < 64 * end = omega arith in
+          let past : nat_lt p place ≡ false = false_from_ne_true (nat_lt p place) (λ h. (let less : p < place = ltb-true p place h in omega arith)) in
+          is.none p more inside ∙ sym (ap (λ (d : Bool). bit_in old p && d) past ∙ with_false (bit_in old p)))
+    ]
+  where
+    with_true : (c : Bool) → (c && true) ≡ c
+    with_true true = refl
+    with_true false = refl
+
+    with_false : (c : Bool) → (c && false) ≡ false
+    with_false true = refl
+    with_false false = refl

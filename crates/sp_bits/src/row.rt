@@ -67,20 +67,19 @@ impl Row {
         self.words[place as usize / 64] &= !(1 << (place % 64));
     }
 
-    /// Takes all places from this one on out, in about eight steps for each of them.
+    /// Takes all places from this one on out, in eight steps at most.
     pub fn clear_from(&mut self, place: u16)
         ensures { self.new ≡ members_below self.old place }
     {
-        // Tells the proof what a row is.
-        let _count = self.count();
-        'places: loop {
-            let Some(top) = self.highest() else {
-                return;
-            };
-            if top < place {
-                return;
-            }
-            self.clear(top);
+        if place >= 512 {
+            // Tells the proof what a row is.
+            let _first = self.words[0];
+            return;
+        }
+        let word = place as usize / 64;
+        self.words[word] &= (1 << (place % 64)) - 1;
+        'words: for above in word + 1..8 {
+            self.words[above] = 0;
         }
     }
 

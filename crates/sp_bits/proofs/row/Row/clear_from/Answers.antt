@@ -1,20 +1,24 @@
-use Rattle.std.proofs.Common.{◌<◌, ◌∙◌, ap, subst, sym, length, List, ℕ, eqb, ◌&&◌, not, arith}
-use Rattle.sp_bits.specs.Places.{has, IsRow, members_below}
-use Rattle.sp_bits.proofs.Fronts.{all_below, fewer-clear, IsRow-places, members_below-clear}
+use Rattle.std.proofs.Common.{ℕ, List, ◌/◌, ◌+◌, ◌&&◌, nat_lt, set, sym, ap, ◌∙◌, arith}
+use Rattle.sp_bits.specs.Places.{members_below}
+use Rattle.sp_bits.specs.Words.{bit_in}
+use Rattle.sp_bits.proofs.Bits.{IsCleared-front, IsCleared-now, IsCleared-all, front_of}
+use Rattle.sp_bits.proofs.Fronts.{members_below-all, members_below-places}
+use Rattle.sp_bits.proofs.Sets.{IsRow-view, places_same}
 use Rattle.sp_bits.proofs.row.Row.clear_from.Goals as goal
 
-pub returns-then-top-place : goal.returns-then-top-place
-returns-then-top-place c = all_below c.places.self c.in-Some.top c.args.place c.in-Some.ensures.some c.if-top-place.true ∙ c.places.invariant.1
+pub returns-then-place-ge512 : goal.returns-then-place-ge512
+returns-then-place-ge512 c =
+    members_below-all c.args.self.now c.args.place (IsRow-view (bit_in c.self.inside.words) c.args.self.now c.self.view_is) (omega (arith, c.if-place-ge512.true))
 
-pub places-smaller : goal.places-smaller
-places-smaller c =
-    let less = fewer-clear c.places.self c.in-Some.top c.places.invariant.0 c.in-Some.ensures.some.member c.in-Some.ensures.range in
-    let now : length c.clear.new.self < length c.places.self = omega (arith, less, ap length c.clear.ensures) in
-    now
+pub words-init : goal.words-init
+words-init c =
+    IsCleared-now c.self.inside.words (set c.self.inside.words (c.args.place / 64) (front_of c.self.inside.words c.args.place)) c.args.place (c.args.place / 64 + 1)
+    (IsCleared-front c.self.inside.words c.args.place c.self.invariant (omega arith))
 
-pub places-preserved : goal.places-preserved
-places-preserved c = (
-  subst (λ (s : List ℕ). IsRow s) (sym c.clear.ensures) (IsRow-places (λ p. has c.places.self p && not (eqb p c.in-Some.top))),
-  ap (λ (s : List ℕ). members_below s c.args.place) c.clear.ensures
-      ∙ members_below-clear c.places.self c.in-Some.top c.args.place c.places.invariant.0 (omega (arith, c.if-top-place.false)) ∙ c.places.invariant.1,
-)
+pub returns : goal.returns
+returns c =
+    let front = set c.self.inside.words (c.args.place / 64) (front_of c.self.inside.words c.args.place) in
+    places_same (bit_in c.words.self-inside.words) (λ p. bit_in c.self.inside.words p && nat_lt p c.args.place)
+    (IsCleared-all c.self.inside.words front c.words.self-inside.words c.args.place (c.args.place / 64 + 1) c.words.above
+    (IsCleared-front c.self.inside.words c.args.place c.self.invariant (omega arith)) c.words.invariant (omega arith))
+    ∙ sym (members_below-places (bit_in c.self.inside.words) c.args.place) ∙ ap (λ (s : List ℕ). members_below s c.args.place) c.self.view_is

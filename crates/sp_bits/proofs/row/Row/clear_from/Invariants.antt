@@ -1,9 +1,5 @@
-use Rattle.std.proofs.Common.{◌≡◌, length}
-use Rattle.sp_bits.specs.Places.{IsRow, members_below}
+use Rattle.sp_bits.proofs.Bits.{IsCleared}
 use Rattle.sp_bits.proofs.row.Row.clear_from.Given as goal
 
-abbrev pub invariant-places : goal.invariant-places
-invariant-places l = IsRow l.self × (members_below l.self l.place ≡ members_below l.initial.self l.place)
-
-abbrev pub decreases-places : goal.decreases-places
-decreases-places l = length l.self
+abbrev pub invariant-words : goal.invariant-words
+invariant-words l = IsCleared l.initial.self-inside.words l.self-inside.words l.place l.above
