@@ -9,12 +9,11 @@ use Rattle.std.proofs.lemmas.Nat.{one_shl, pow_pos, le-div, shr_below, and_le_l,
 use Rattle.std.proofs.lemmas.Nat.Bits.{bit_at-lt, bit_at-zero, bit_at-suc, bit_at_lowest, bit_at_and, bit_at_or, bit_at_not, bit_at_ones, bit_at_ones_above, bit_at-trailing_zeros, bit_at_above}
 use Rattle.std.proofs.lemmas.List.{length-set, same_lists, get_or_default, get_or_past}
 use Rattle.std.proofs.lemmas.List.Elements.{filter-append}
-use Rattle.std.specs.Int.Bits.{or_zero_l, xor_self}
+use Rattle.std.specs.Int.Bits.{and_lt, or_zero_l, xor_self}
 use lib.Bits.{or_add_and, xor_add_and}
 use lib.Count.{ones_step, count_leading_zeros}
 use native.Mathlib.Nat.{pow-suc}
-use Rattle.sp_bits.specs.Places.{places_where}
-use Rattle.sp_bits.specs.Words.{bit_in, bit_in-word, AreWords, IsLast, IsTop}
+use Rattle.sp_bits.specs.Words.{bit_in, bit_in-word, shared_in, AreWords, IsLast, IsTop}
 use Rattle.sp_bits.proofs.Counts.{IsCount}
 
 -- ---- one bit
@@ -209,65 +208,62 @@ both-places one other k i le =
 
 -- ---- a span of words
 
--- a span in which no place passes counts none
-none_pass : (test : ℕ → Bool) (a n : ℕ) → ((k : ℕ) → a ≤ k → k < a + n → test k ≡ false) → length (filter test (range_with_len a n)) ≡ 0
-none_pass test a zero fails = refl
-none_pass test a (suc n) fails =
-    ap (λ (c : Bool). length (cond c (a ∷ filter test (range_with_len (a + 1) n)) (filter test (range_with_len (a + 1) n)))) (fails a (omega arith) (omega arith))
-    ∙ none_pass test (a + 1) n (λ k more less. fails k (omega arith) (omega arith))
-
--- where none passes from one place on, as many are counted to any place behind it
-none_behind : (test : ℕ → Bool) (m n : ℕ) → m ≤ n → ((k : ℕ) → m ≤ k → test k ≡ false)
-    → length (filter test (range_with_len 0 n)) ≡ length (filter test (range_with_len 0 m))
-none_behind test m n le fails =
-    let end : n ≡ m + (n - m) = omega arith in
-    let rest : length (filter test (range_with_len (0 + m) (n - m))) ≡ 0 = none_pass test (0 + m) (n - m) (λ k more _. fails k (omega arith)) in
-    let all : length (filter test (range_with_len 0 n)) ≡ length (filter test (range_with_len 0 m)) + length (filter test (range_with_len (0 + m) (n - m))) =
-    ap (λ (k : ℕ). length (filter test (range_with_len 0 k))) end
-    ∙ ap (λ (l : List ℕ). length (filter test l)) (range-append 0 m (n - m))
-    ∙ ap length (filter-append test (range_with_len 0 m) (range_with_len (0 + m) (n - m)))
-    ∙ length-append (filter test (range_with_len 0 m)) (filter test (range_with_len (0 + m) (n - m))) in
-    omega (arith, all, rest)
-
--- whether all places of the words are in the words from `first` on and before `last`
-abbrev pub IsWithin : List ℕ → ℕ → ℕ → Type 0
-IsWithin own first last = (p : ℕ) → bit_in own p ≡ true → (64 * first ≤ p) × (p < 64 * last)
-
-none-outside : (own other : List ℕ) (p : ℕ) → (bit_in own p ≡ true → ⊥) → (bit_in own p && bit_in other p) ≡ false
-none-outside own other p none = ap (λ (c : Bool). c && bit_in other p) (false_from_ne_true (bit_in own p) none)
-
--- before the first word nothing is shared
-pub span-init : (own other : List ℕ) (first last : ℕ) → IsWithin own first last → IsCount (λ p. bit_in own p && bit_in other p) (64 * first) 0
-span-init own other first last within = (
-  sym (none_pass (λ p. bit_in own p && bit_in other p) 0 (64 * first)
-      (λ k _ less. none-outside own other k (λ here. (let low : 64 * first ≤ k = (within k here).0 in omega arith)))),
-  omega arith,
-)
-
--- behind the last word nothing is shared
-pub span-counted : (own other : List ℕ) (first last end count : ℕ) → IsWithin own first last → last ≤ 8 → last ≤ end
-    → IsCount (λ p. bit_in own p && bit_in other p) (64 * end) count → count ≡ length (places_where (λ p. bit_in own p && bit_in other p))
-unfolding places_where
-span-counted own other first last end count within small le so_far =
-    so_far.0 ∙ none_behind test (64 * last) (64 * end) (omega arith) fails ∙ sym (none_behind test (64 * last) 512 (omega arith) fails)
-  where
-    test : ℕ → Bool
-    test p = bit_in own p && bit_in other p
-
-    fails : (k : ℕ) → 64 * last ≤ k → test k ≡ false
-    fails k more = none-outside own other k (λ here. (let high : k < 64 * last = (within k here).1 in omega arith))
-
--- a row whose places are from one on and below another has them in the words between
-pub span-within : (own : List ℕ) (from end : ℕ) → length own ≡ 8 → ((p : ℕ) → p < 512 → bit_in own p ≡ true → (from ≤ p) × (p < end))
-    → IsWithin own (from / 64) ((end + 63) / 64)
-span-within own from end long within p here =
+-- eight words have no place from 512 on
+pub row-small : (words : List ℕ) (p : ℕ) → length words ≡ 8 → bit_in words p ≡ true → p < 512
+row-small words p long here =
     elim (cases_lt p 512) [
-      | inl less ↦ (let known = within p less here in (omega (arith, known.0), omega (arith, known.1)))
+      | inl less ↦ less
       | inr more ↦
-          (let past : length own ≤ p / 64 = omega (arith, long) in
-          absurd (false≢true (sym (ap (λ (w : ℕ). bit_at w (p % 64) == 1) (get_or_past own (p / 64) 0 past)
+          (let past : length words ≤ p / 64 = omega (arith, long) in
+          absurd (false≢true (sym (ap (λ (w : ℕ). bit_at w (p % 64) == 1) (get_or_past words (p / 64) 0 past)
           ∙ ap (λ (d : ℕ). d == 1) (bit_at-zero (p % 64))) ∙ here)))
     ]
+
+-- a span in which no place passes counts none
+none_pass : (test : ℕ → Bool) (a n : ℕ) → ((k : ℕ) → a ≤ k → k < a + n → test k ≡ false) → 0 ≡ length (filter test (range_with_len a n))
+none_pass test a zero fails = refl
+none_pass test a (suc n) fails =
+    none_pass test (a + 1) n (λ k more less. fails k (omega arith) (omega arith))
+    ∙ sym (ap (λ (c : Bool). length (cond c (a ∷ filter test (range_with_len (a + 1) n)) (filter test (range_with_len (a + 1) n)))) (fails a (omega arith) (omega arith)))
+
+-- two words in which the one has no place share none
+pub none-shared : (own other : List ℕ) (word : ℕ) → ((p : ℕ) → bit_in own p ≡ true → 64 * word ≤ p → p < 64 * word + 128 → ⊥) → 0 ≡ shared_in own other word
+unfolding shared_in
+none-shared own other word none =
+    none_pass (λ p. bit_in own p && bit_in other p) (64 * word) 128
+    (λ k low high. ap (λ (c : Bool). c && bit_in other k) (false_from_ne_true (bit_in own k) (λ here. none k here low high)))
+
+-- two words have the ones of both
+pub words-shared : (own other : List ℕ) (k : ℕ) → get_or own k 0 < 2 ^ 64 → get_or other k 0 < 2 ^ 64 → get_or own (k + 1) 0 < 2 ^ 64 → get_or other (k + 1) 0 < 2 ^ 64
+    → count_ones (bit_and (get_or own k 0) (get_or other k 0)) + count_ones (bit_and (get_or own (k + 1) 0) (get_or other (k + 1) 0)) ≡ shared_in own other k
+unfolding shared_in
+words-shared own other k one two three four =
+    let test : ℕ → Bool = λ p. bit_in own p && bit_in other p in
+    let first : length (filter test (range_with_len (64 * k) 64)) ≡ count_ones (bit_and (get_or own k 0) (get_or other k 0)) =
+    word-count 64 (bit_and (get_or own k 0) (get_or other k 0)) (64 * k) test (and_lt 64 (get_or own k 0) (get_or other k 0) one two) (both-places own other k) in
+    let behind : length (filter test (range_with_len (64 * (k + 1)) 64)) ≡ count_ones (bit_and (get_or own (k + 1) 0) (get_or other (k + 1) 0)) =
+    word-count 64 (bit_and (get_or own (k + 1) 0) (get_or other (k + 1) 0)) (64 * (k + 1)) test (and_lt 64 (get_or own (k + 1) 0) (get_or other (k + 1) 0) three four) (both-places own other (k + 1)) in
+    let at : 64 * k + 64 ≡ 64 * (k + 1) = omega arith in
+    let all : length (filter test (range_with_len (64 * k) 128)) ≡ length (filter test (range_with_len (64 * k) 64)) + length (filter test (range_with_len (64 * (k + 1)) 64)) =
+    ap (λ (l : List ℕ). length (filter test l)) (range-append (64 * k) 64 64 ∙ ap (λ (b : ℕ). range_with_len (64 * k) 64 ++ range_with_len b 64) at)
+    ∙ ap length (filter-append test (range_with_len (64 * k) 64) (range_with_len (64 * (k + 1)) 64))
+    ∙ length-append (filter test (range_with_len (64 * k) 64)) (filter test (range_with_len (64 * (k + 1)) 64)) in
+    omega (arith, first, behind, all)
+
+-- the places that are shared in two words come to those before them
+pub shared-more : (own other : List ℕ) (part count more next : ℕ) → IsCount (λ p. bit_in own p && bit_in other p) (128 * part) count
+    → more ≡ shared_in own other (2 * part) → more ≤ 128 → next ≡ count + more → IsCount (λ p. bit_in own p && bit_in other p) (128 * (part + 1)) next
+unfolding shared_in
+shared-more own other part count more next so_far is few sum =
+    let test : ℕ → Bool = λ p. bit_in own p && bit_in other p in
+    let start : 0 + 128 * part ≡ 64 * (2 * part) = omega arith in
+    let end : 128 * (part + 1) ≡ 128 * part + 128 = omega arith in
+    let all : length (filter test (range_with_len 0 (128 * (part + 1)))) ≡ length (filter test (range_with_len 0 (128 * part))) + length (filter test (range_with_len (64 * (2 * part)) 128)) =
+    ap (λ (n : ℕ). length (filter test (range_with_len 0 n))) end
+    ∙ ap (λ (l : List ℕ). length (filter test l)) (range-append 0 (128 * part) 128 ∙ ap (λ (b : ℕ). range_with_len 0 (128 * part) ++ range_with_len b 128) start)
+    ∙ ap length (filter-append test (range_with_len 0 (128 * part)) (range_with_len (64 * (2 * part)) 128))
+    ∙ length-append (filter test (range_with_len 0 (128 * part))) (filter test (range_with_len (64 * (2 * part)) 128)) in
+    (omega (arith, all, so_far.0, is, sum), omega (arith, so_far.1, few, sum))
 
 -- ---- one set within another
 

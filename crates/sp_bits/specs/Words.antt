@@ -1,5 +1,5 @@
 -- Eight words of 64 bits, and the set that they stand for. Place p is bit p % 64, counted from the lowest, of word p / 64.
-use Rattle.std.specs.Prelude.{ℕ, ◌≡◌, ◌+◌, ◌-◌, ◌*◌, ◌/◌, ◌%◌, ◌^◌, ◌<◌, ◌≤◌, ◌==◌, Bool, true, false, List, length, map, slice_index_or}
+use Rattle.std.specs.Prelude.{ℕ, ◌≡◌, ◌+◌, ◌-◌, ◌*◌, ◌/◌, ◌%◌, ◌^◌, ◌<◌, ◌≤◌, ◌==◌, ◌&&◌, Bool, true, false, List, filter, length, map, slice_index_or}
 use Rattle.std.specs.List.{range_with_len}
 use Rattle.std.specs.Int.{bit_at}
 use Rattle.std.proofs.Common.{zero, suc, cond, get_or, refl, sym, ap, ◌∙◌, arith, inl, inr}
@@ -14,6 +14,10 @@ use Rattle.sp_bits.specs.Members.{has-places_where}
 -- whether the words have the place
 abbrev pub bit_in : List ℕ → ℕ → Bool
 bit_in words place = bit_at (slice_index_or words (place / 64) 0) (place % 64) == 1
+
+-- how many places both have in two words, from this one on
+unfoldable pub shared_in : List ℕ → List ℕ → ℕ → ℕ
+shared_in one other word = length (filter (λ p. bit_in one p && bit_in other p) (range_with_len (64 * word) 128))
 
 -- eight words
 pub record AreWords (words : List ℕ) : Type 0 where

@@ -163,18 +163,15 @@ impl Row {
     }
 
     /// How many places it shares with `plus`, and how many with `minus`, from 0 to 512, where all of
-    /// its places are from one on and below another one. It takes a step for each word between
+    /// its places are from one on and below another one. It takes a step for each two words between
     /// these two.
     pub fn count_span(&self, plus: &Row, minus: &Row, from: u16, end: u16) -> (u32, u32)
-        requires small { end ≤ 512 }
         requires within { (p : ℕ) → IsTrue (has self.now p) → (from ≤ p) × (p < end) }
         ensures plus { result.0 ≡ length (meet self.now plus.now) }
         ensures minus { result.1 ≡ length (meet self.now minus.now) }
         ensures bound { (result.0 ≤ 512) × (result.1 ≤ 512) }
     {
-        let first = from as usize / 64;
-        let last = (end as usize + 63) / 64;
-        count_span(&self.words, &plus.words, &minus.words, first, last)
+        count_span(&self.words, &plus.words, &minus.words, from, end)
     }
 
     /// Its greatest place, in eight steps at most.

@@ -4,7 +4,7 @@
 ghost use Rattle.std.specs.Prelude.{◌≡◌, ◌+◌, ◌*◌, ◌<◌, ◌≤◌, ◌&&◌, ◌↔◌, ℕ, true, false, length, IfSome, IfNone, IsTrue};
 ghost use Rattle.std.specs.List.{list_all};
 ghost use Rattle.sp_bits.specs.Places.{places_where};
-ghost use Rattle.sp_bits.specs.Words.{bit_in, IsLast, IsTop};
+ghost use Rattle.sp_bits.specs.Words.{bit_in, shared_in, IsLast, IsTop};
 
 // How many places both have.
 pub(crate) fn count_both(one: &[u64; 8], other: &[u64; 8]) -> u32
@@ -33,26 +33,54 @@ pub(crate) fn count_two(own: &[u64; 8], plus: &[u64; 8], minus: &[u64; 8]) -> (u
     (more, less)
 }
 
-// The same, where it has no place outside the words from `first` on and before `last`: the other
-// words need not be read.
+// The same among the places of two words, where all of its places are from one on and below another: where
+// these two words stand outside that they aren't read.
+fn count_part(
+    own: &[u64; 8],
+    plus: &[u64; 8],
+    minus: &[u64; 8],
+    word: u16,
+    from: u16,
+    end: u16,
+) -> (u32, u32)
+    requires word { word < 7 }
+    requires within { (p : ℕ) → IsTrue (bit_in own.now p) → (from ≤ p) × (p < end) }
+    ensures plus { result.0 ≡ shared_in own.now plus.now word }
+    ensures minus { result.1 ≡ shared_in own.now minus.now word }
+    ensures few { (result.0 ≤ 128) × (result.1 ≤ 128) }
+{
+    if 64 * word + 128 <= from {
+        return (0, 0);
+    }
+    if end <= 64 * word {
+        return (0, 0);
+    }
+    let low = word as usize;
+    let high = low + 1;
+    let more = (own[low] & plus[low]).count_ones() + (own[high] & plus[high]).count_ones();
+    let less = (own[low] & minus[low]).count_ones() + (own[high] & minus[high]).count_ones();
+    (more, less)
+}
+
+// The same among all places. It has as many steps for all rows, so that they are written out one after another.
 pub(crate) fn count_span(
     own: &[u64; 8],
     plus: &[u64; 8],
     minus: &[u64; 8],
-    first: usize,
-    last: usize,
+    from: u16,
+    end: u16,
 ) -> (u32, u32)
-    requires last { last ≤ 8 }
-    requires within { (p : ℕ) → IsTrue (bit_in own.now p) → (64 * first ≤ p) × (p < 64 * last) }
+    requires within { (p : ℕ) → IsTrue (bit_in own.now p) → (from ≤ p) × (p < end) }
     ensures plus { result.0 ≡ length (places_where (λ p. bit_in own.now p && bit_in plus.now p)) }
     ensures minus { result.1 ≡ length (places_where (λ p. bit_in own.now p && bit_in minus.now p)) }
     ensures bound { (result.0 ≤ 512) × (result.1 ≤ 512) }
 {
     let mut more = 0;
     let mut less = 0;
-    'words: for word in first..last {
-        more += (own[word] & plus[word]).count_ones();
-        less += (own[word] & minus[word]).count_ones();
+    'parts: for part in 0..4 {
+        let (ups, downs) = count_part(own, plus, minus, 2 * part, from, end);
+        more += ups;
+        less += downs;
     }
     (more, less)
 }

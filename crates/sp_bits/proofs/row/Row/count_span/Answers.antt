@@ -1,14 +1,15 @@
 use Rattle.std.proofs.Common.{◌∙◌, ap, sym, length}
 use Rattle.sp_bits.specs.Places.{places_where}
 use Rattle.sp_bits.specs.Words.{bit_in}
-use Rattle.sp_bits.proofs.Bits.{span-within}
+use Rattle.sp_bits.proofs.Bits.{row-small}
 use Rattle.sp_bits.proofs.Sets.{has-view, meet-view}
 use Rattle.sp_bits.proofs.row.Row.count_span.Goals as goal
 
-pub count_span-requires-clause-within : goal.count_span-requires-clause-within
-count_span-requires-clause-within c =
-    span-within c.self.inside.words c.args.from c.args.end c.self.invariant.long
-    (λ p le here. c.requires.within p (sym (has-view (bit_in c.self.inside.words) c.args.self.now p c.self.view_is le) ∙ here))
+pub count_span-requires : goal.count_span-requires
+count_span-requires c = record {
+  within = λ p here.
+      c.requires.within p (sym (has-view (bit_in c.self.inside.words) c.args.self.now p c.self.view_is (row-small c.self.inside.words p c.self.invariant.long here)) ∙ here);
+}
 
 pub returns-clause-plus : goal.returns-clause-plus
 unfolding places_where
