@@ -2,7 +2,7 @@
 //! nobody else holds these, nor those that were taken for them. So rows that were taken one after another mostly stay
 //! neighbours in memory when they change.
 
-ghost use Rattle.std.specs.Prelude.{◌≡◌, ◌<◌, ◌≤◌, ◌+◌, ◌⊎◌, ◌==◌, ℕ, if◌then◌else◌, Some};
+ghost use Rattle.std.specs.Prelude.{◌≡◌, ◌<◌, ◌≤◌, ◌+◌, ◌⊎◌, ◌&&◌, ◌==◌, ℕ, if◌then◌else◌, Some};
 ghost use Rattle.sp_view.specs.Homes.{AreAlike, AreRowsHome, IsHome, IsOnceHome};
 ghost use Rattle.sp_view.specs.Stored.{count_of, row_of};
 ghost use Rattle.sp_view.specs.Views.{holds};
@@ -11,24 +11,26 @@ use crate::sharing::give_entry;
 use crate::stored::{RowName, give, holders, put, row_at};
 use sp_rows::RowPool;
 
-// The places of the new row in the old one, where each is held once. Elsewhere the new one stays. The other is let go.
-fn home(pool: &mut RowPool, old: RowName, new: RowName) -> RowName
-    requires { (r : ℕ) → holds (Some (old, new)) r ≤ count_of pool.old r }
-    ensures id { (result ≡ new) ⊎ ((result ≡ old) × (count_of pool.old old ≡ 1)) }
-    ensures row { row_of pool.new result ≡ row_of pool.old new }
-    ensures counts { (r : ℕ) → count_of pool.new r + holds (Some (old, new)) r
+// The row that a view has now goes home, to the id of the one that it had, where each is held once. Elsewhere it stays.
+// The other is let go.
+fn home(pool: &mut RowPool, was: RowName, now: RowName) -> RowName
+    requires { (r : ℕ) → holds (Some (was, now)) r ≤ count_of pool.old r }
+    ensures id { (result ≡ now) ⊎ ((result ≡ was) × (count_of pool.old was ≡ 1)) }
+    ensures home { result ≡ (if count_of pool.old was == 1 && count_of pool.old now == 1 then was else now) }
+    ensures row { row_of pool.new result ≡ row_of pool.old now }
+    ensures counts { (r : ℕ) → count_of pool.new r + holds (Some (was, now)) r
         ≡ count_of pool.old r + (if r == result then 1 else 0) }
-    ensures rows { (r : ℕ) → (if r == old then 1 else 0) < count_of pool.old r →
+    ensures rows { (r : ℕ) → (if r == was then 1 else 0) < count_of pool.old r →
         0 < count_of pool.new r → row_of pool.new r ≡ row_of pool.old r }
 {
-    if holders(pool, old) > 1 || holders(pool, new) > 1 {
-        give(pool, old);
-        return new;
+    if holders(pool, was) > 1 || holders(pool, now) > 1 {
+        give(pool, was);
+        return now;
     }
-    let row = row_at(pool, new);
-    put(pool, old, &row);
-    give(pool, new);
-    old
+    let row = row_at(pool, now);
+    put(pool, was, &row);
+    give(pool, now);
+    was
 }
 
 // The rows of an entry once an arrival is kept, by those that were saved, which are let go.
