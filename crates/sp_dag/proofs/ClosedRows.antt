@@ -1,15 +1,14 @@
 -- The rows of the blocks with their futures, when a block comes and when the last ones go.
-use Rattle.std.proofs.Common.{◌≡◌, ℕ, ◌+◌, ◌<◌, ◌≤◌, Bool, true, false, ◌||◌, ◌&&◌, Option, List, [], ◌∷◌, ◌++◌, length, take, drop, get_or, refl, sym, ap, subst, ◌∙◌, inl, inr, eqb, nat_lt, arith, length-append}
+use Rattle.std.proofs.Common.{◌≡◌, ℕ, ◌+◌, ◌<◌, ◌≤◌, Bool, true, false, ◌||◌, ◌&&◌, Option, List, [], ◌∷◌, ◌++◌, length, take, drop, get_or, refl, sym, ap, subst, ◌∙◌, eqb, nat_lt, arith, length-append}
 use Rattle.std.specs.Prelude.{if◌then◌else◌}
-use Rattle.std.proofs.lemmas.Bool.{cases_lt, eqb-true, false≢true, or_cases}
+use Rattle.std.proofs.lemmas.Bool.{eqb-true}
 use Rattle.std.proofs.lemmas.Bool.Decides.{nat_tests}
 use Rattle.std.proofs.lemmas.List.{get_or-take, length-take-le, take-append-drop}
-use Rattle.sp_model.specs.Graph.{Graph, has, in_past}
+use Rattle.sp_model.specs.Graph.{has, in_past}
 use Rattle.sp_model.specs.Loose.{in_bar}
-use Rattle.sp_bits.specs.Places.{members_below, places_where, IsRow}
+use Rattle.sp_bits.specs.Places.{members_below, places_where}
 use Rattle.sp_bits.specs.Members.{has-places_where}
-use Rattle.sp_bits.proofs.Fronts.{members_below-places, IsRow-places}
-use Rattle.sp_bits.proofs.RowSets.{has_places}
+use Rattle.sp_bits.proofs.Fronts.{members_below-places}
 use Rattle.sp_bits.proofs.Sets.{places_same}
 use Rattle.sp_dag.specs.Closed.{closed}
 use Rattle.sp_dag.specs.Numbered.{Numbered, AreInOrder, graph_of}
@@ -18,7 +17,6 @@ use Rattle.sp_dag.specs.Shapes.{shape_of}
 use Rattle.sp_dag.proofs.Adds.{Adds, each_row, past_told}
 use Rattle.sp_dag.proofs.Fronts.{future_front}
 use Rattle.sp_dag.proofs.Grown.{AreBefore, future-grown, future-new}
-use Rattle.sp_dag.proofs.Keys.{in_past-absent}
 use Rattle.sp_dag.proofs.Ranked as ranked
 
 -- the row of a block gets the new one where that has the block in its past
@@ -132,19 +130,3 @@ pub closed_shaped : (blocks : Numbered) (z : ℕ) → closed (graph_of blocks) z
 closed_shaped blocks z =
     places_same (λ w. in_bar (graph_of blocks) z w) (λ w. in_bar (shape_of blocks.parents) z w)
     (λ w _. ap (λ (c : Bool). eqb w z || c) (ranked.in_past_shaped blocks z w))
-
--- it has the block itself, and the blocks that the graph says
-pub closed_members : (blocks : Numbered) (z w : ℕ) → length blocks.parents ≤ 512 → z < length blocks.parents → has (closed (graph_of blocks) z) w ≡ in_bar (graph_of blocks) z w
-closed_members blocks z w small inside =
-    has_places (λ w. in_bar (graph_of blocks) z w) w
-    (λ there. elim (or_cases (eqb w z) (in_past (graph_of blocks) z w) there) [
-      | inl same ↦ (let e : w ≡ z = eqb-true w z same in omega arith)
-      | inr later ↦ elim (cases_lt w (length blocks.parents)) [
-        | inl less ↦ omega arith
-        | inr past ↦ absurd (false≢true (sym (in_past-absent (graph_of blocks) z w (ranked.key_out blocks w past)) ∙ later))
-      ]
-    ])
-
--- it is a row
-pub IsRow_closed : (graph : Graph) (z : ℕ) → IsRow (closed graph z)
-IsRow_closed graph z = IsRow-places (λ w. in_bar graph z w)

@@ -21,8 +21,8 @@ pub(crate) fn row_of(pasts: &[Row], parents: &[u16]) -> Row
     row
 }
 
-// Puts block `number` into the future of each block in its past, beside which a row may have the
-// block itself.
+// Puts block `number` into the row of each block in its past; all other rows stay. The rows are the
+// futures of the blocks, or the blocks together with their futures: both change alike.
 pub(crate) fn set_in_futures(futures: &mut Vec<Row>, past: &Row, number: u16)
     requires small { number < 512 }
     requires long { vec_len futures.old ≡ number }
