@@ -43,7 +43,8 @@ fn number_of(engine: &Engine, id: &BlockId) -> u16
     }
 }
 
-// Sets the numbers of these blocks.
+// Writes into `numbers`, for each of these ids in turn, the number of its block, or how many blocks are present
+// where that one isn't.
 fn set_numbers(engine: &Engine, ids: &[BlockId], numbers: &mut [u16])
     requires long { length numbers.old ≡ length ids.now }
     ensures { AreNumbers engine.now.kept ids.now numbers.new }
