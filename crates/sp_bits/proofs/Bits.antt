@@ -226,12 +226,14 @@ none_pass test a (suc n) fails =
     none_pass test (a + 1) n (λ k more less. fails k (omega arith) (omega arith))
     ∙ sym (ap (λ (c : Bool). length (cond c (a ∷ filter test (range_with_len (a + 1) n)) (filter test (range_with_len (a + 1) n)))) (fails a (omega arith) (omega arith)))
 
--- two words in which the one has no place share none
-pub none-shared : (own other : List ℕ) (word : ℕ) → ((p : ℕ) → bit_in own p ≡ true → 64 * word ≤ p → p < 64 * word + 128 → ⊥) → 0 ≡ shared_in own other word
+-- two words in which the one has no place share none, so that a count stays
+pub none-shared : (own other : List ℕ) (word count : ℕ) → ((p : ℕ) → bit_in own p ≡ true → 64 * word ≤ p → p < 64 * word + 128 → ⊥) → count ≡ count + shared_in own other word
 unfolding shared_in
-none-shared own other word none =
+none-shared own other word count none =
+    let zero : 0 ≡ length (filter (λ p. bit_in own p && bit_in other p) (range_with_len (64 * word) 128)) =
     none_pass (λ p. bit_in own p && bit_in other p) (64 * word) 128
-    (λ k low high. ap (λ (c : Bool). c && bit_in other k) (false_from_ne_true (bit_in own k) (λ here. none k here low high)))
+    (λ k low high. ap (λ (c : Bool). c && bit_in other k) (false_from_ne_true (bit_in own k) (λ here. none k here low high))) in
+    omega (arith, zero)
 
 -- two words have the ones of both
 pub words-shared : (own other : List ℕ) (k : ℕ) → get_or own k 0 < 2 ^ 64 → get_or other k 0 < 2 ^ 64 → get_or own (k + 1) 0 < 2 ^ 64 → get_or other (k + 1) 0 < 2 ^ 64
@@ -251,10 +253,10 @@ words-shared own other k one two three four =
     omega (arith, first, behind, all)
 
 -- the places that are shared in two words come to those before them
-pub shared-more : (own other : List ℕ) (part count more next : ℕ) → IsCount (λ p. bit_in own p && bit_in other p) (128 * part) count
-    → more ≡ shared_in own other (2 * part) → more ≤ 128 → next ≡ count + more → IsCount (λ p. bit_in own p && bit_in other p) (128 * (part + 1)) next
+pub shared-more : (own other : List ℕ) (part count next : ℕ) → IsCount (λ p. bit_in own p && bit_in other p) (128 * part) count
+    → next ≡ count + shared_in own other (2 * part) → next ≤ count + 128 → IsCount (λ p. bit_in own p && bit_in other p) (128 * (part + 1)) next
 unfolding shared_in
-shared-more own other part count more next so_far is few sum =
+shared-more own other part count next so_far sum few =
     let test : ℕ → Bool = λ p. bit_in own p && bit_in other p in
     let start : 0 + 128 * part ≡ 64 * (2 * part) = omega arith in
     let end : 128 * (part + 1) ≡ 128 * part + 128 = omega arith in
@@ -263,7 +265,7 @@ shared-more own other part count more next so_far is few sum =
     ∙ ap (λ (l : List ℕ). length (filter test l)) (range-append 0 (128 * part) 128 ∙ ap (λ (b : ℕ). range_with_len 0 (128 * part) ++ range_with_len b 128) start)
     ∙ ap length (filter-append test (range_with_len 0 (128 * part)) (range_with_len (64 * (2 * part)) 128))
     ∙ length-append (filter test (range_with_len 0 (128 * part))) (filter test (range_with_len (64 * (2 * part)) 128)) in
-    (omega (arith, all, so_far.0, is, sum), omega (arith, so_far.1, few, sum))
+    (omega (arith, all, so_far.0, sum), omega (arith, so_far.1, few))
 
 -- ---- one set within another
 

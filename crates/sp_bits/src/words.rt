@@ -33,36 +33,39 @@ pub(crate) fn count_two(own: &[u64; 8], plus: &[u64; 8], minus: &[u64; 8]) -> (u
     (more, less)
 }
 
-// The same among the places of two words, where all of its places are from one on and below another: where
-// these two words stand outside that they aren't read.
-fn count_part(
+// Adds how many places of two words it shares with `plus`, and how many with `minus`, where all of its places
+// are from one on and below another: where these two words stand outside that they aren't read.
+fn add_part(
     own: &[u64; 8],
     plus: &[u64; 8],
     minus: &[u64; 8],
     word: u16,
     from: u16,
     end: u16,
-) -> (u32, u32)
+    more: &mut u32,
+    less: &mut u32,
+)
     requires word { word < 7 }
     requires within { (p : ℕ) → IsTrue (bit_in own.now p) → (from ≤ p) × (p < end) }
-    ensures plus { result.0 ≡ shared_in own.now plus.now word }
-    ensures minus { result.1 ≡ shared_in own.now minus.now word }
-    ensures few { (result.0 ≤ 128) × (result.1 ≤ 128) }
+    requires few { (more.old ≤ 64 * word) × (less.old ≤ 64 * word) }
+    ensures plus { more.new ≡ more.old + shared_in own.now plus.now word }
+    ensures minus { less.new ≡ less.old + shared_in own.now minus.now word }
+    ensures few { (more.new ≤ more.old + 128) × (less.new ≤ less.old + 128) }
 {
     if 64 * word + 128 <= from {
-        return (0, 0);
+        return;
     }
     if end <= 64 * word {
-        return (0, 0);
+        return;
     }
     let low = word as usize;
     let high = low + 1;
-    let more = (own[low] & plus[low]).count_ones() + (own[high] & plus[high]).count_ones();
-    let less = (own[low] & minus[low]).count_ones() + (own[high] & minus[high]).count_ones();
-    (more, less)
+    *more += (own[low] & plus[low]).count_ones() + (own[high] & plus[high]).count_ones();
+    *less += (own[low] & minus[low]).count_ones() + (own[high] & minus[high]).count_ones();
 }
 
-// The same among all places. It has as many steps for all rows, so that they are written out one after another.
+// How many places it shares with `plus`, and how many with `minus`, where all of its places are from one on and below
+// another. It has as many steps for all rows, so that they are written out one after another.
 pub(crate) fn count_span(
     own: &[u64; 8],
     plus: &[u64; 8],
@@ -78,9 +81,7 @@ pub(crate) fn count_span(
     let mut more = 0;
     let mut less = 0;
     'parts: for part in 0..4 {
-        let (ups, downs) = count_part(own, plus, minus, 2 * part, from, end);
-        more += ups;
-        less += downs;
+        add_part(own, plus, minus, 2 * part, from, end, &mut more, &mut less);
     }
     (more, less)
 }

@@ -1,4 +1,4 @@
-use Rattle.std.proofs.Common.{◌*◌, ◌&&◌, ℕ, refl, arith}
+use Rattle.std.proofs.Common.{◌*◌, ◌&&◌, ℕ, arith}
 use Rattle.sp_bits.specs.Words.{bit_in}
 use Rattle.sp_bits.proofs.Bits.{shared-more}
 use Rattle.sp_bits.proofs.Counts.{counted}
@@ -6,8 +6,8 @@ use Rattle.sp_bits.proofs.words.count_span.Goals as goal
 
 pub parts-preserved : goal.parts-preserved
 parts-preserved c = (
-  shared-more c.args.own.now c.args.plus.now c.parts.part c.parts.more c.count_part-ups.result.0 _ c.parts.invariant.0 c.count_part-ups.ensures.plus c.count_part-ups.ensures.few.0 refl,
-  shared-more c.args.own.now c.args.minus.now c.parts.part c.parts.less c.count_part-ups.result.1 _ c.parts.invariant.1 c.count_part-ups.ensures.minus c.count_part-ups.ensures.few.1 refl,
+  shared-more c.args.own.now c.args.plus.now c.parts.part c.parts.more c.add_part.new.more c.parts.invariant.0 c.add_part.ensures.plus c.add_part.ensures.few.0,
+  shared-more c.args.own.now c.args.minus.now c.parts.part c.parts.less c.add_part.new.less c.parts.invariant.1 c.add_part.ensures.minus c.add_part.ensures.few.1,
 )
 
 pub returns-clause-plus : goal.returns-clause-plus
