@@ -8,27 +8,15 @@ use Rattle.sp_model.specs.Graph.{Graph, IsDownset, has}
 use Rattle.sp_model.specs.Loose.{is_loose}
 use Rattle.sp_view.specs.Seen.{HasAbove}
 
-module _ (target voters from one two : List ℕ) (small : (z : ℕ) → has target z ≡ true → z < 512)
-    (e : one ≡ meet target voters) (e' : two ≡ difference one from) where
-  first_is : (z : ℕ) → has one z ≡ (has target z && has voters z)
-  first_is z =
-      ap (λ (l : List ℕ). has l z) e
-      ∙ has_places (λ p. has target p && has voters p) z (λ h. small z (and_parts (has target z) (has voters z) h).0)
+-- the places that two rows share
+pub meet_there : (one other both : List ℕ) (z : ℕ) → (has one z ≡ true → z < 512) → both ≡ meet one other → has one z ≡ true → has other z ≡ true → has both z ≡ true
+meet_there one other both z small e h h' =
+    ap (λ (l : List ℕ). has l z) e ∙ has_places (λ p. has one p && has other p) z (λ k. small (and_parts (has one z) (has other z) k).0) ∙ and_from (has one z) (has other z) h h'
 
-  -- the voters of one side that join
-  joining_is : (z : ℕ) → has two z ≡ ((has target z && has voters z) && not (has from z))
-  joining_is z =
-      ap (λ (l : List ℕ). has l z) e'
-      ∙ has_difference one from z (λ h. small z (and_parts (has target z) (has voters z) (sym (first_is z) ∙ h)).0)
-      ∙ ap (λ (c : Bool). c && not (has from z)) (first_is z)
-
-  pub joining_member : (z : ℕ) → has two z ≡ true → has target z ≡ true
-  joining_member z h =
-      (and_parts (has target z) (has voters z) (and_parts (has target z && has voters z) (not (has from z)) (sym (joining_is z) ∙ h)).0).0
-
-  pub joining_there : (z : ℕ) → has target z ≡ true → has from z ≡ false → has voters z ≡ true → has two z ≡ true
-  joining_there z member new voter =
-      joining_is z ∙ and_from (has target z && has voters z) (not (has from z)) (and_from (has target z) (has voters z) member voter) (not_from_false (has from z) new)
+pub meet_from : (one other both : List ℕ) (z : ℕ) → (has one z ≡ true → z < 512) → both ≡ meet one other → has both z ≡ true → (has one z ≡ true) × (has other z ≡ true)
+meet_from one other both z small e h =
+    and_parts (has one z) (has other z)
+    (sym (ap (λ (l : List ℕ). has l z) e ∙ has_places (λ p. has one p && has other p) z (λ k. small (and_parts (has one z) (has other z) k).0)) ∙ h)
 
 -- a place of a row that another one hasn't
 pub left_there : (row other left : List ℕ) (z : ℕ) → (has row z ≡ true → z < 512) → left ≡ difference row other → has row z ≡ true → has other z ≡ false → has left z ≡ true
@@ -60,7 +48,7 @@ pub none_loose : (g : Graph) (x y : ℕ) (voters : List ℕ) → voters ≡ [] �
 none_loose g x y voters e z = rw e refl
 
 -- both sides together
-module _ (g : Graph) (x y : ℕ) (one other both loose : List ℕ) (small : (z : ℕ) → has one z ≡ true → z < 512) (small' : (z : ℕ) → has other z ≡ true → z < 512)
+module _ (one other both : List ℕ) (small : (z : ℕ) → has one z ≡ true → z < 512) (small' : (z : ℕ) → has other z ≡ true → z < 512)
     (e : both ≡ union one other) where
   both_is : (z : ℕ) → has both z ≡ (has one z || has other z)
   both_is z = ap (λ (l : List ℕ). has l z) e ∙ has_union one other z (small z) (small' z)
@@ -72,8 +60,8 @@ module _ (g : Graph) (x y : ℕ) (one other both loose : List ℕ) (small : (z :
       at true e h = first e
       at false e h = second h
 
-  pub first_opens : ((z : ℕ) → has loose z ≡ (has both z && is_loose g z x y)) → (z : ℕ) → is_loose g z x y ≡ true → has one z ≡ true → has loose z ≡ true
-  first_opens is z free h = is z ∙ and_from (has both z) (is_loose g z x y) (both_is z ∙ or_left (has one z) (has other z) h) free
+  pub first_in : (z : ℕ) → has one z ≡ true → has both z ≡ true
+  first_in z h = both_is z ∙ or_left (has one z) (has other z) h
 
-  pub second_opens : ((z : ℕ) → has loose z ≡ (has both z && is_loose g z x y)) → (z : ℕ) → is_loose g z x y ≡ true → has other z ≡ true → has loose z ≡ true
-  second_opens is z free h = is z ∙ and_from (has both z) (is_loose g z x y) (both_is z ∙ or_right (has one z) (has other z) h) free
+  pub second_in : (z : ℕ) → has other z ≡ true → has both z ≡ true
+  second_in z h = both_is z ∙ or_right (has one z) (has other z) h

@@ -1,7 +1,7 @@
 -- A set of blocks whose votes can be asked: the graph, its frozen votes, and the set fit together.
-use Rattle.std.specs.Prelude.{ℕ, true, ◌≡◌, ◌<◌, List, length}
+use Rattle.std.specs.Prelude.{ℕ, true, false, ◌≡◌, ◌<◌, List, length}
 use Rattle.sp_bits.specs.Places.{IsRow}
-use Rattle.sp_model.specs.Graph.{has}
+use Rattle.sp_model.specs.Graph.{Graph, has, in_past}
 use Rattle.sp_model.specs.Joining.{Joins}
 use Rattle.sp_dag.specs.Numbered.{Numbered, graph_of, AreInOrder}
 use Rattle.sp_frozen.specs.Voters.{FrozenRows, HoldsFrozen}
@@ -26,3 +26,10 @@ pub record IsGrown (table : Numbered) (frozen : FrozenRows) (before set : List �
   pub voting : IsVoting table frozen set
   pub asked : IsAsked (graph_of table) before
   pub into : (z : ℕ) → has before z ≡ true → has set z ≡ true
+
+-- the blocks that a set grows by, and a part of the larger set that holds their pasts
+pub record IsGrowth (g : Graph) (before set blocks below : List ℕ) : Type 0 where
+  pub member : (b : ℕ) → has blocks b ≡ true → has set b ≡ true
+  pub all : (b : ℕ) → has set b ≡ true → has before b ≡ false → has blocks b ≡ true
+  pub covers : (b z : ℕ) → has blocks b ≡ true → in_past g z b ≡ true → has below z ≡ true
+  pub within : (z : ℕ) → has below z ≡ true → has set z ≡ true

@@ -6,7 +6,7 @@ ghost use Rattle.std.specs.Prelude.{◌≡◌, ◌<◌, ◌≤◌, ◌+◌, ◌-
 ghost use Rattle.sp_dag.specs.Numbered.{graph_of, pairs_of};
 ghost use Rattle.sp_rows.specs.Pool.{Pool};
 ghost use Rattle.sp_view.specs.Stored.{count_of, row_of, live};
-ghost use Rattle.sp_view.specs.Voting.{IsGrown};
+ghost use Rattle.sp_view.specs.Voting.{IsGrown, IsGrowth};
 ghost use Rattle.sp_view.specs.Views.{held, AreEntries, AreKeptIds};
 ghost use Rattle.sp_view.specs.Ends.{NoneFrom};
 ghost use Rattle.sp_view.specs.Moving.{moved_rows};
@@ -15,6 +15,7 @@ ghost use Rattle.sp_view.specs.SoFar.{AreBelow, AreSoFar};
 use crate::asking::entry_of;
 use crate::derive::derived_entry;
 use crate::ends::grow;
+use crate::growth::Growth;
 use crate::stored::RowName;
 use sp_bits::Row;
 use sp_dag::Dag;
@@ -29,12 +30,14 @@ fn derive_run(
     pool: &mut RowPool,
     from: &Row,
     target: &Row,
+    growth: &Growth,
     base: &[Option<(RowName, RowName)>],
     start: u32,
     stop: u32,
     entries: &mut Vec<Option<(RowName, RowName)>>,
 ) -> Result<(), Memory>
     requires grown { IsGrown dag.now frozen.now from.now target.now }
+    requires growth { IsGrowth (graph_of dag.now) from.now target.now growth.now.blocks growth.now.below }
     requires so_far { (before : Pool) × AreSoFar dag.now from.now target.now
         base.now before pool.old entries.old.items }
     requires start { length entries.old.items ≡ start }
@@ -56,7 +59,7 @@ fn derive_run(
             continue;
         }
         let before = entry_of(base, pair as usize);
-        let entry = derived_entry(dag, frozen, pool, from, target, pair, before)?;
+        let entry = derived_entry(dag, frozen, pool, from, target, growth, pair, before)?;
         entries.push_reserved(entry);
     }
     Ok(())
@@ -69,12 +72,14 @@ fn derive_block(
     pool: &mut RowPool,
     from: &Row,
     target: &Row,
+    growth: &Growth,
     base: &[Option<(RowName, RowName)>],
     block: u16,
     end: u32,
     entries: &mut Vec<Option<(RowName, RowName)>>,
 ) -> Result<(), Memory>
     requires grown { IsGrown dag.now frozen.now from.now target.now }
+    requires growth { IsGrowth (graph_of dag.now) from.now target.now growth.now.blocks growth.now.below }
     requires so_far { (before : Pool) × AreSoFar dag.now from.now target.now
         base.now before pool.old entries.old.items }
     requires present { block < length dag.now.parents }
@@ -94,7 +99,9 @@ fn derive_block(
     let start = dag.first_pair(block).min(end);
     let stop = dag.first_pair(block + 1).min(end);
     grow(entries, start as usize);
-    derive_run(dag, frozen, pool, from, target, base, start, stop, entries)
+    derive_run(
+        dag, frozen, pool, from, target, growth, base, start, stop, entries,
+    )
 }
 
 // The entries of the view of a set, from those of the view of a set within it: up to a number from which no
@@ -105,11 +112,13 @@ pub(crate) fn derive_entries(
     pool: &mut RowPool,
     from: &Row,
     target: &Row,
+    growth: &Growth,
     base: &[Option<(RowName, RowName)>],
     end: u32,
     entries: &mut Vec<Option<(RowName, RowName)>>,
 ) -> Result<(), Memory>
     requires grown { IsGrown dag.now frozen.now from.now target.now }
+    requires growth { IsGrowth (graph_of dag.now) from.now target.now growth.now.blocks growth.now.below }
     requires entry { AreEntries dag.now from.now pool.old base.now }
     requires live { (r : ℕ) → held base.now r ≤ count_of pool.old r }
     requires once { (r : ℕ) → held base.now r ≤ 1 }
@@ -133,7 +142,9 @@ pub(crate) fn derive_entries(
 {
     'runs: for block in 0..dag.len() {
         if target.test(block) {
-            derive_block(dag, frozen, pool, from, target, base, block, end, entries)?;
+            derive_block(
+                dag, frozen, pool, from, target, growth, base, block, end, entries,
+            )?;
         }
     }
     grow(entries, end as usize);

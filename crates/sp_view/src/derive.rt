@@ -4,11 +4,12 @@
 ghost use Rattle.std.specs.Prelude.{◌≡◌, ◌≢◌, ◌<◌, ◌≤◌, ◌+◌, ◌-◌, ◌^◌, ◌==◌, ℕ, length, IfOk, OnErr, if◌then◌else◌, slice_get, None, Some};
 ghost use Rattle.sp_dag.specs.Numbered.{graph_of, pairs_of};
 ghost use Rattle.sp_view.specs.Stored.{count_of, row_of, spare, live};
-ghost use Rattle.sp_view.specs.Voting.{IsGrown, IsVoting};
+ghost use Rattle.sp_view.specs.Voting.{IsGrown, IsGrowth, IsVoting};
 ghost use Rattle.sp_view.specs.Views.{holds, moved_of, IsEntry, IsOnce, KeepIds};
 
 use crate::anew::asked_rows;
 use crate::asking::{has_both, is_none};
+use crate::growth::Growth;
 use crate::missing::asked_by_growth;
 use crate::pair_rows::{Sides, new_rows};
 use crate::sharing::share_entry;
@@ -83,10 +84,12 @@ fn old_entry(
     pool: &mut RowPool,
     from: &Row,
     target: &Row,
+    growth: &Growth,
     pair: u32,
     entry: (RowName, RowName),
 ) -> Result<(RowName, RowName), Memory>
     requires grown { IsGrown dag.now frozen.now from.now target.now }
+    requires growth { IsGrowth (graph_of dag.now) from.now target.now growth.now.blocks growth.now.below }
     requires listed { pair < length (pairs_of dag.now) }
     requires live { (r : ℕ) → holds (Some entry) r ≤ count_of pool.old r }
     requires once { (r : ℕ) → holds (Some entry) r ≤ 1 }
@@ -109,7 +112,7 @@ fn old_entry(
     ensures moved { IfOk result (λ rows.
         live pool.new ≤ live pool.old + moved_of (Some entry) (Some rows)) }
 {
-    let todo = asked_by_growth(dag, frozen, pool, from, target, pair, &entry);
+    let todo = asked_by_growth(dag, frozen, pool, from, target, growth, pair, &entry);
     if is_none(&todo) {
         share_entry(pool, Some(entry));
         return Ok(entry);
@@ -158,10 +161,12 @@ pub(crate) fn derived_entry(
     pool: &mut RowPool,
     from: &Row,
     target: &Row,
+    growth: &Growth,
     pair: u32,
     before: Option<(RowName, RowName)>,
 ) -> Result<Option<(RowName, RowName)>, Memory>
     requires grown { IsGrown dag.now frozen.now from.now target.now }
+    requires growth { IsGrowth (graph_of dag.now) from.now target.now growth.now.blocks growth.now.below }
     requires listed { pair < length (pairs_of dag.now) }
     requires live { (r : ℕ) → holds before r ≤ count_of pool.old r }
     requires once { (r : ℕ) → holds before r ≤ 1 }
@@ -185,7 +190,7 @@ pub(crate) fn derived_entry(
 {
     match before {
         Some(entry) => {
-            let rows = old_entry(dag, frozen, pool, from, target, pair, entry)?;
+            let rows = old_entry(dag, frozen, pool, from, target, growth, pair, entry)?;
             Ok(Some(rows))
         }
         None => brought_entry(dag, frozen, pool, target, pair),

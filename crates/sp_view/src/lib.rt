@@ -10,6 +10,7 @@ mod block_runs;
 mod derive;
 mod ends;
 mod entries;
+mod growth;
 mod home;
 mod joining;
 pub mod laws;

@@ -4,15 +4,16 @@
 
 ghost use Rattle.std.specs.Prelude.{◌≡◌, ◌<◌, ◌≤◌, ◌&&◌, ℕ, List, length, IsTrue, IsFalse, slice_get, Some};
 ghost use Rattle.sp_bits.specs.Places.{difference};
-ghost use Rattle.sp_model.specs.Graph.{has, in_past, IsDownset};
+ghost use Rattle.sp_model.specs.Graph.{has, in_past};
 ghost use Rattle.sp_model.specs.Loose.{is_loose};
 ghost use Rattle.sp_dag.specs.Numbered.{graph_of, pairs_of};
 ghost use Rattle.sp_view.specs.Stored.{count_of, row_of};
 ghost use Rattle.sp_view.specs.Settled.{AreKept, AreOpen, AreSides};
-ghost use Rattle.sp_view.specs.Voting.{IsGrown};
+ghost use Rattle.sp_view.specs.Voting.{IsGrown, IsGrowth};
 ghost use Rattle.sp_view.specs.Views.{holds};
 
 use crate::asking::is_none;
+use crate::growth::Growth;
 use crate::pair_rows::bound_on;
 use crate::pasts::pasts_of;
 use crate::stored::{RowName, row_at};
@@ -20,37 +21,6 @@ use sp_bits::Row;
 use sp_dag::Dag;
 use sp_frozen::Frozen;
 use sp_rows::RowPool;
-
-// The blocks in the past of those that join among the voters of one side, without the loose voters of
-// that side, which vote so already.
-fn opened_by(
-    dag: &Dag,
-    pool: &RowPool,
-    from: &Row,
-    target: &Row,
-    voters: &Row,
-    side: RowName,
-) -> Row
-    requires below { (z : ℕ) → IsTrue (has target.now z) → z < length dag.now.parents }
-    requires down { IsDownset (graph_of dag.now) target.now }
-    requires live { 0 < count_of pool.now side }
-    ensures covers { (b z : ℕ) → IsTrue (has target.now b) → IsFalse (has from.now b) →
-        IsTrue (has voters.now b) → IsTrue (in_past (graph_of dag.now) z b) →
-        IsFalse (has (row_of pool.now side) z) → IsTrue (has result z) }
-    ensures within { (z : ℕ) → IsTrue (has result z) → IsTrue (has target.now z) }
-{
-    // Tells the proof that there are at most 512 blocks.
-    let _blocks = dag.len();
-    let mut joining = *target;
-    joining.and_with(voters);
-    joining.without(from);
-    if is_none(&joining) {
-        return joining;
-    }
-    let mut below = pasts_of(dag, &joining);
-    below.without(&row_at(pool, side));
-    below
-}
 
 // Those of some voters that are loose on a pair.
 fn loose_of(dag: &Dag, voters: &Row, pair: u32) -> Row
@@ -70,6 +40,40 @@ fn loose_of(dag: &Dag, voters: &Row, pair: u32) -> Row
     loose
 }
 
+// Those of the loose voters that the blocks which join among the voters of one side have in their pasts, without those of
+// that side, which vote so already. Where all of them do, or no such block joins, there are none.
+fn opened_by(
+    dag: &Dag,
+    pool: &RowPool,
+    growth: &Growth,
+    loose: &Row,
+    voters: &Row,
+    side: RowName,
+) -> Row
+    requires below { (b : ℕ) → IsTrue (has growth.now.blocks b) → b < length dag.now.parents }
+    requires live { 0 < count_of pool.now side }
+    requires small { (z : ℕ) → IsTrue (has loose.now z) → z < 512 }
+    ensures covers { (b z : ℕ) → IsTrue (has growth.now.blocks b) → IsTrue (has voters.now b) →
+        IsTrue (in_past (graph_of dag.now) z b) → IsTrue (has loose.now z) →
+        IsFalse (has (row_of pool.now side) z) → IsTrue (has result z) }
+    ensures within { (z : ℕ) → IsTrue (has result z) → IsTrue (has loose.now z) }
+{
+    // Tells the proof that there are at most 512 blocks.
+    let _blocks = dag.len();
+    let mut open = *loose;
+    open.without(&row_at(pool, side));
+    if is_none(&open) {
+        return open;
+    }
+    let mut joining = growth.blocks;
+    joining.and_with(voters);
+    if is_none(&joining) {
+        return joining;
+    }
+    open.and_with(&pasts_of(dag, &joining));
+    open
+}
+
 // The voters of an old pair whose votes are asked anew when the set grows. Where there are none, the
 // pair stays as it is.
 pub(crate) fn asked_by_growth(
@@ -78,10 +82,12 @@ pub(crate) fn asked_by_growth(
     pool: &RowPool,
     from: &Row,
     target: &Row,
+    growth: &Growth,
     pair: u32,
     entry: &(RowName, RowName),
 ) -> Row
     requires grown { IsGrown dag.now frozen.now from.now target.now }
+    requires growth { IsGrowth (graph_of dag.now) from.now target.now growth.now.blocks growth.now.below }
     requires listed { pair < length (pairs_of dag.now) }
     requires inside { pair < length frozen.now.pluses }
     requires live { (r : ℕ) → holds (Some entry.now) r ≤ count_of pool.now r }
@@ -96,8 +102,9 @@ pub(crate) fn asked_by_growth(
 {
     // Tells the proof that there are at most 512 blocks, in order.
     let _blocks = dag.len();
-    let mut voters = opened_by(dag, pool, from, target, frozen.plus(pair), entry.0);
-    let others = opened_by(dag, pool, from, target, frozen.minus(pair), entry.1);
+    let loose = loose_of(dag, &growth.below, pair);
+    let mut voters = opened_by(dag, pool, growth, &loose, frozen.plus(pair), entry.0);
+    let others = opened_by(dag, pool, growth, &loose, frozen.minus(pair), entry.1);
     voters.or_with(&others);
-    loose_of(dag, &voters, pair)
+    voters
 }

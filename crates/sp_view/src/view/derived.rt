@@ -13,6 +13,7 @@ ghost use Rattle.sp_view.specs.Moving.{moved_rows};
 use crate::best::start;
 use crate::block_runs::derive_entries;
 use crate::ends::end_of;
+use crate::growth::growth_of;
 use crate::sharing::give_entries;
 use crate::view::View;
 use sp_bits::Row;
@@ -73,12 +74,15 @@ impl View {
         let mut entries = Vec::with_capacity(alloc, end as usize)?;
         let nothing = View::empty(alloc);
         let base = start(views, &nothing, target);
+        let members = base.members();
+        let growth = growth_of(dag, members, target);
         match derive_entries(
             dag,
             frozen,
             pool,
-            base.members(),
+            members,
             target,
+            &growth,
             base.entries(),
             end,
             &mut entries,

@@ -1,9 +1,9 @@
-use Rattle.std.proofs.Common.{◌≡◌, ◌∙◌, ◌<◌, ℕ, List, Some, ap, subst, sym, true}
+use Rattle.std.proofs.Common.{◌≡◌, ◌∙◌, ℕ, List, Some, ap, sym, true}
 use Rattle.sp_bits.specs.Places.{members_below}
 use Rattle.sp_dag.specs.Numbered.{Numbered, graph_of}
 use Rattle.sp_dag.proofs.Ranked.{ancestors_lower}
 use Rattle.sp_model.specs.Graph.{Graph, has}
-use Rattle.sp_view.specs.Settled.{AreOpen, AreVotesBut, left_of, without}
+use Rattle.sp_view.specs.Settled.{left_of, without}
 use Rattle.sp_view.proofs.Downward.{below_is, below_only, below_opened, below_parts, highest_is_next, votes_but_same}
 use Rattle.sp_view.proofs.settle.settle_next.Goals as goal
 

@@ -12,7 +12,7 @@ derive_entries-requires-clause-grown c =
     let base : Viewed = c.start-base.result.now in
     let view : IsView c.args.dag.now base c.args.pool.now =
     view_start c.args.dag.now c.args.views.now c.args.target.now c.args.pool.now base c.len-blocks.ensures.numbered.order c.start-base.ensures c.requires.views in
-    subst (λ (l : List ℕ). IsGrown c.args.dag.now c.args.frozen.now l c.args.target.now) (sym c.members.ensures)
+    subst (λ (l : List ℕ). IsGrown c.args.dag.now c.args.frozen.now l c.args.target.now) (sym c.members-members.ensures)
     (record {
       voting = record {
         order = view.order;
@@ -30,7 +30,7 @@ derive_entries-requires-clause-entry c =
     let base : Viewed = c.start-base.result.now in
     let view : IsView c.args.dag.now base c.args.pool.now =
     view_start c.args.dag.now c.args.views.now c.args.target.now c.args.pool.now base c.len-blocks.ensures.numbered.order c.start-base.ensures c.requires.views in
-    rw (c.members.ensures, c.entries.ensures.same) view.entry
+    rw (c.members-members.ensures, c.entries.ensures.same) view.entry
 
 pub derive_entries-requires-clause-live : goal.derive_entries-requires-clause-live
 derive_entries-requires-clause-live c = λ r.
@@ -44,7 +44,7 @@ returns-in-Ok-clause-kept c = λ i base best.
     let from : Viewed = c.start-base.result.now in
     let kept : AreKeptIds c.args.dag.now from.members c.args.target.now from.entries c.derive_entries.new.entries.items =
     subst (λ (l : List (Option (ℕ × ℕ))). AreKeptIds c.args.dag.now from.members c.args.target.now l c.derive_entries.new.entries.items) c.entries.ensures.same
-    (subst (λ (l : List ℕ). AreKeptIds c.args.dag.now l c.args.target.now c.entries.result.now c.derive_entries.new.entries.items) c.members.ensures c.in-Ok.ensures.kept) in
+    (subst (λ (l : List ℕ). AreKeptIds c.args.dag.now l c.args.target.now c.entries.result.now c.derive_entries.new.entries.items) c.members-members.ensures c.in-Ok.ensures.kept) in
     subst (λ (v : Viewed). AreKeptIds c.args.dag.now v.members c.args.target.now v.entries c.derive_entries.new.entries.items)
     (start_one c.args.views.now c.args.target.now from base c.start-base.ensures (inl (i, best))) kept
 
@@ -54,4 +54,4 @@ returns-in-Ok-clause-live c = λ base started.
     let same : from ≡ base = start_one c.args.views.now c.args.target.now from base c.start-base.ensures started in
     subst (λ (v : Viewed). live c.derive_entries.new.pool ≤ live c.args.pool.now + moved_rows (graph_of c.args.dag.now) v.members c.args.target.now (pairs_of c.args.dag.now)) same
     (subst (λ (l : List ℕ). live c.derive_entries.new.pool ≤ live c.args.pool.now + moved_rows (graph_of c.args.dag.now) l c.args.target.now (pairs_of c.args.dag.now))
-    c.members.ensures c.in-Ok.ensures.live)
+    c.members-members.ensures c.in-Ok.ensures.live)
