@@ -1,5 +1,7 @@
 //! Sets of places written down by hand, with what each call makes of them.
 
+ghost use Rattle.std.specs.Prelude.{◌<◌};
+
 use sp_bits::Row;
 
 /// Two sets, their union, meet and difference, and how the first stands to the second and to the
@@ -179,4 +181,23 @@ fn mistaken(sets: &[&[u16]]) -> Option<(usize, usize)> {
 #[test]
 fn the_same_and_others(rt: HostRuntime) {
     assert_eq!(rt; mistaken(SETS), None);
+}
+
+/// How many places a row of one place shares with each of two others, where it is looked for at that place alone.
+fn shared_at(place: u16, one: &Row, other: &Row) -> (u32, u32)
+    requires { place < 512 }
+{
+    let mut row = Row::empty();
+    row.set(place);
+    row.count_span(one, other, place, place + 1)
+}
+
+#[test]
+fn shared_between_two_places(rt: HostRuntime) {
+    let (one, other) = (row_of(&[0, 63, 64, 300]), row_of(&[63, 300, 511]));
+    assert_eq!(rt; shared_at(0, &one, &other), (1, 0));
+    assert_eq!(rt; shared_at(63, &one, &other), (1, 1));
+    assert_eq!(rt; shared_at(64, &one, &other), (1, 0));
+    assert_eq!(rt; shared_at(299, &one, &other), (0, 0));
+    assert_eq!(rt; shared_at(511, &one, &other), (0, 1));
 }
