@@ -1,5 +1,5 @@
 -- The numbers of two ids are the same, and ordered, as their bytes are.
-use Rattle.std.proofs.Common.{◌≡◌, ℕ, suc, ◌+◌, ◌*◌, ◌^◌, ◌<◌, ◌≤◌, List, [], ◌∷◌, length, get_or, Ordering, eqb, refl, sym, ap, ◌∙◌, arith}
+use Rattle.std.proofs.Common.{◌≡◌, ◌≢◌, ℕ, zero, suc, ◌+◌, ◌*◌, ◌^◌, ◌<◌, ◌≤◌, List, [], ◌∷◌, length, get_or, Ordering, eqb, refl, sym, ap, ◌∙◌, arith}
 use Rattle.std.proofs.Math.Nat.{mul-le-mul_right}
 use Rattle.std.specs.Bool.{Decides}
 use Rattle.std.specs.Cmp.{nat_cmp_is}
@@ -59,3 +59,38 @@ compared (x ∷ xs) (y ∷ ys) long left right =
 pub same_order : (xs ys : List ℕ) → AreBytes xs → AreBytes ys → slice_cmp nat_cmp xs ys ≡ nat_cmp (number_of xs) (number_of ys)
 same_order xs ys left right =
     compared xs ys (left.long ∙ sym right.long) (λ k h. left.small k (omega (arith, left.long))) (λ k h. right.small k (omega (arith, right.long)))
+
+-- where two lists first have other numbers, these order them
+first_apart : (xs ys : List ℕ) (place : ℕ) → place < length xs → place < length ys → ((k : ℕ) → k < place → get_or xs k 0 ≡ get_or ys k 0)
+    → get_or xs place 0 ≢ get_or ys place 0 → slice_cmp nat_cmp xs ys ≡ nat_cmp (get_or xs place 0) (get_or ys place 0)
+first_apart [] ys place left right same apart = absurd (omega arith)
+first_apart (x ∷ xs) [] place left right same apart = absurd (omega arith)
+first_apart (x ∷ xs) (y ∷ ys) zero left right same apart = at (nat_cmp x y) (ranked x y (nat_cmp x y) refl)
+  where
+    at : (order : Ordering) → MatchOrdering order (x < y) (x ≡ y) (y < x) → ordering_then order (slice_cmp nat_cmp xs ys) ≡ order
+    at Less less = refl
+    at Equal equal = absurd (apart equal)
+    at Greater greater = refl
+first_apart (x ∷ xs) (y ∷ ys) (suc place) left right same apart =
+    ap (λ (order : Ordering). ordering_then order (slice_cmp nat_cmp xs ys)) (sym (nat_cmp_is x y Equal (same 0 (omega arith))))
+    ∙ first_apart xs ys place (omega arith) (omega arith) (λ k le. same (suc k) (omega arith)) apart
+
+-- lists of one length that nowhere have other numbers are the same in order
+never_apart : (xs ys : List ℕ) → length xs ≡ length ys → ((k : ℕ) → k < length xs → get_or xs k 0 ≡ get_or ys k 0) → Equal ≡ slice_cmp nat_cmp xs ys
+never_apart [] [] long same = refl
+never_apart [] (y ∷ ys) long same = absurd (omega arith)
+never_apart (x ∷ xs) [] long same = absurd (omega arith)
+never_apart (x ∷ xs) (y ∷ ys) long same =
+    never_apart xs ys (omega arith) (λ k le. same (suc k) (omega arith))
+    ∙ ap (λ (order : Ordering). ordering_then order (slice_cmp nat_cmp xs ys)) (nat_cmp_is x y Equal (same 0 (omega arith)))
+
+-- the first byte that two ids don't share orders them
+pub by_first_apart : (xs ys : List ℕ) (place : ℕ) → AreBytes xs → AreBytes ys → place < 32 → ((k : ℕ) → k < place → get_or xs k 0 ≡ get_or ys k 0)
+    → get_or xs place 0 ≢ get_or ys place 0 → nat_cmp (get_or xs place 0) (get_or ys place 0) ≡ nat_cmp (number_of xs) (number_of ys)
+by_first_apart xs ys place left right le same apart =
+    sym (first_apart xs ys place (omega (arith, left.long, le)) (omega (arith, right.long, le)) same apart) ∙ same_order xs ys left right
+
+-- ids that share all bytes are the same in order
+pub by_none_apart : (xs ys : List ℕ) → AreBytes xs → AreBytes ys → ((k : ℕ) → k < 32 → get_or xs k 0 ≡ get_or ys k 0) → Equal ≡ nat_cmp (number_of xs) (number_of ys)
+by_none_apart xs ys left right same =
+    never_apart xs ys (left.long ∙ sym right.long) (λ k le. same k (omega (arith, left.long, le))) ∙ same_order xs ys left right

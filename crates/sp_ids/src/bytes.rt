@@ -21,11 +21,16 @@ pub(crate) fn same(bytes: &[u8; 32], other: &[u8; 32]) -> bool
     *bytes == *other
 }
 
-// How the two numbers are ordered.
+// How the two numbers are ordered. Byte by byte is the faster way, since mostly one of the first few tells.
 pub(crate) fn compare(bytes: &[u8; 32], other: &[u8; 32]) -> Ordering
     ensures { result ≡ nat_cmp (number_of bytes.now) (number_of other.now) }
 {
-    bytes.cmp(other)
+    for place in 0..32 {
+        if bytes[place] != other[place] {
+            return bytes[place].cmp(&other[place]);
+        }
+    }
+    Ordering::Equal
 }
 
 // The SHA-256 of a text.
