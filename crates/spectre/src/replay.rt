@@ -27,6 +27,7 @@ use sp_io::{Sink, Source, write_whole};
 use sp_node::{Node, NodeFault};
 use sp_report::{Line, Naming, malformed_line, too_long_line, truncated_line};
 use std::alloc::Global;
+use std::mem::forget;
 
 /// Why a feed isn't answered to its end.
 #[derive(Clone, Copy, Debug, PartialEq, Eq)]
@@ -159,7 +160,10 @@ fn answer_behind<S: Source, K: Sink>(
 {
     let mut node = node_of(alloc, head)?;
     let mut disk = NoDisk::new();
-    answer_rest(reader, &mut node, source, sink, &mut disk)
+    let answered = answer_rest(reader, &mut node, source, sink, &mut disk);
+    // What it holds goes back with the process that ends now, and not piece by piece.
+    forget(node);
+    answered
 }
 
 /// Answers each message of a feed.

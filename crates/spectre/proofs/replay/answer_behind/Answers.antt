@@ -8,11 +8,11 @@ returns-in_err-node-clause-replies g c = λ start z gives.
     let p = err_from_is_err_and c.from_residual.result c.from_residual.ensures.1 in
     rw (p.1, p.2) (nothing_behind_head [] (g.K.Sink.taken c.args.sink.now) gives)
 
-pub answer_rest-requires-clause-live : goal.answer_rest-requires-clause-live
-answer_rest-requires-clause-live g c = ap (λ n. n.stopped) c.in_ok-node.ensures.node
+pub answer_rest-answered-requires-clause-live : goal.answer_rest-answered-requires-clause-live
+answer_rest-answered-requires-clause-live g c = ap (λ n. n.stopped) c.in_ok-node.ensures.node
 
 pub returns-clause-replies : goal.returns-clause-replies
 returns-clause-replies g c = λ start z gives.
     let old = g.K.Sink.taken c.args.sink.now in
-    (c.answer_rest.ensures.replies [] start old
+    (c.answer_rest-answered.ensures.replies [] start old
     (at_head [] old z gives c.in_ok-node.ensures.genesis (ap (λ n. n.terms) c.in_ok-node.ensures.node) (ap (λ n. n.kept) c.in_ok-node.ensures.node))).0
