@@ -1,5 +1,5 @@
 -- A block that joins a set and votes for one side: of the voters whose votes may change, those that didn't vote for the other side now vote as it does.
-use Rattle.std.proofs.Common.{◌≡◌, ◌≢◌, ℕ, ◌<◌, Bool, true, false, cond, ◌||◌, ◌&&◌, List, refl, sym, ap, ◌∙◌, eqb, inl, inr, arith}
+use Rattle.std.proofs.Common.{◌≡◌, ◌≢◌, ℕ, ◌<◌, Bool, true, false, cond, Some, ◌||◌, ◌&&◌, List, refl, sym, ap, ◌∙◌, eqb, inl, inr, arith}
 use Rattle.std.specs.Prelude.{not, ℤ, pos, negsuc, filter, ◌≤ℤ◌, neg_ℤ}
 use Rattle.std.proofs.lemmas.Bool.{false≢true, eqb-true, eq-eqb, and_parts, cases_Bool}
 use Rattle.std.proofs.lemmas.Int.{ints}
@@ -14,7 +14,7 @@ use Rattle.sp_model.specs.Votes.{vote}
 use Rattle.sp_model.proofs.Exchange.{vote_neg}
 use Rattle.sp_model.proofs.Loose.{vote_sign}
 use Rattle.sp_model.proofs.Pasts.{not_in_own_past}
-use Rattle.sp_view.specs.Settled.{AreKept, AreOpen, AreSides, IsAsked}
+use Rattle.sp_view.specs.Settled.{AreKept, AreOpen, AreSides, AreTold, IsAsked}
 use Rattle.sp_view.proofs.Following.{minus_only, plus_only}
 use Rattle.sp_view.proofs.Opened.{not_down, not_up}
 use Rattle.sp_view.proofs.Several.{vote_before, rises, AreAllUp}
@@ -113,11 +113,34 @@ module _ (g : Graph) (t : List ℕ) (x y : ℕ) (for no : ℤ → Bool) (agree o
       at true true eo ep = rw (left_at z, eo, ep, opened.member z eo, opened.loose z eo) refl
       at true false eo ep = rw (left_at z, eo, ep, opened.member z eo, opened.loose z eo, one_side (vote g t z x y) (turned z eo ep)) refl
 
+-- ---- both sides
+
+module _ (g : Graph) (t : List ℕ) (x y : ℕ) (ups downs todo : List ℕ) (asked : IsAsked g t) (ups_row : IsRow ups) (downs_row : IsRow downs) (opened : AreOpen g t x y (has todo))
+    (kept : AreKept g t x y (has todo) (difference ups todo) (difference downs todo)) where
+  pub risen_up : AreTold g t x y (Some true) todo ups downs → (left : List ℕ) → left ≡ meet todo downs
+      → AreOpen g t x y (has left) × AreKept g t x y (has left) (difference (union ups todo) left) (difference downs left)
+  risen_up told left is = (
+    left_open g t x y is_plus is_minus ups downs todo left asked ups_row downs_row opened is plus_only told,
+    record {
+      plus_is = agree_kept g t x y is_plus is_minus ups downs todo left asked ups_row downs_row opened is plus_only told kept.plus_is;
+      minus_is = opposed_kept g t x y is_plus is_minus ups downs todo left asked ups_row downs_row opened is plus_only told kept.minus_is;
+    },
+  )
+
+  pub risen_down : AreTold g t x y (Some false) todo ups downs → (left : List ℕ) → left ≡ meet todo ups
+      → AreOpen g t x y (has left) × AreKept g t x y (has left) (difference ups left) (difference (union downs todo) left)
+  risen_down told left is = (
+    left_open g t x y is_minus is_plus downs ups todo left asked downs_row ups_row opened is minus_only told,
+    record {
+      plus_is = opposed_kept g t x y is_minus is_plus downs ups todo left asked downs_row ups_row opened is minus_only told kept.plus_is;
+      minus_is = agree_kept g t x y is_minus is_plus downs ups todo left asked downs_row ups_row opened is minus_only told kept.minus_is;
+    },
+  )
+
 -- ---- the voters in the past of the block that joins
 
-module _ (g : Graph) (b : ℕ) (s t : List ℕ) (x y : ℕ) (j : Joins g b s t) (other : x ≢ y) (asked : IsAsked g t) (ups downs todo : List ℕ) (ups_row : IsRow ups) (downs_row : IsRow downs)
-    (below : (z : ℕ) → has todo z ≡ true → in_past g z b ≡ true) (sides : AreSides g s x y ups downs) (opened : AreOpen g t x y (has todo))
-    (kept : AreKept g t x y (has todo) (difference ups todo) (difference downs todo)) where
+module _ (g : Graph) (b : ℕ) (s t : List ℕ) (x y : ℕ) (j : Joins g b s t) (other : x ≢ y) (ups downs todo : List ℕ) (below : (z : ℕ) → has todo z ≡ true → in_past g z b ≡ true)
+    (sides : AreSides g s x y ups downs) (opened : AreOpen g t x y (has todo)) where
   before : (z : ℕ) → has todo z ≡ true → has s z ≡ true
   before z h = there_before g b s t j z (opened.member z h) (below z h)
 
@@ -127,32 +150,11 @@ module _ (g : Graph) (b : ℕ) (s t : List ℕ) (x y : ℕ) (j : Joins g b s t) 
       sym (ap (λ (m : Bool). m && (is_loose g z x y && votes (vote g s z x y))) (before z h) ∙ ap (λ (l : Bool). l && votes (vote g s z x y)) (opened.loose z h))
       ∙ sym (has-filter (λ z. is_loose g z x y && votes (vote g s z x y)) s z) ∙ ap (λ (l : List ℕ). has l z) (sym is) ∙ out
 
-  pub risen_up : vote g t b x y ≡ pos 1 → (left : List ℕ) → left ≡ meet todo downs
-      → AreOpen g t x y (has left) × AreKept g t x y (has left) (difference (union ups todo) left) (difference downs left)
-  risen_up up left is = (
-    left_open g t x y is_plus is_minus ups downs todo left asked ups_row downs_row opened is plus_only turned,
-    record {
-      plus_is = agree_kept g t x y is_plus is_minus ups downs todo left asked ups_row downs_row opened is plus_only turned kept.plus_is;
-      minus_is = opposed_kept g t x y is_plus is_minus ups downs todo left asked ups_row downs_row opened is plus_only turned kept.minus_is;
-    },
-  )
-    where
-      turned : (z : ℕ) → has todo z ≡ true → has downs z ≡ false → is_plus (vote g t z x y) ≡ true
-      turned z h out =
-          ap is_plus (one_rises g b s t j x y z (opened.member z h) (opened.loose z h) (below z h) up
-          (not_down (vote g s z x y) (vote_sign g s z x y j.down (before z h)) (not_so is_minus downs sides.minus_is z h out)))
-
-  pub risen_down : vote g t b x y ≡ negsuc 0 → (left : List ℕ) → left ≡ meet todo ups
-      → AreOpen g t x y (has left) × AreKept g t x y (has left) (difference ups left) (difference (union downs todo) left)
-  risen_down down left is = (
-    left_open g t x y is_minus is_plus downs ups todo left asked downs_row ups_row opened is minus_only turned,
-    record {
-      plus_is = opposed_kept g t x y is_minus is_plus downs ups todo left asked downs_row ups_row opened is minus_only turned kept.plus_is;
-      minus_is = agree_kept g t x y is_minus is_plus downs ups todo left asked downs_row ups_row opened is minus_only turned kept.minus_is;
-    },
-  )
-    where
-      turned : (z : ℕ) → has todo z ≡ true → has ups z ≡ false → is_minus (vote g t z x y) ≡ true
-      turned z h out =
-          ap is_minus (one_falls g b s t j x y z other (opened.member z h) (opened.loose z h) (below z h) down
-          (not_up (vote g s z x y) (vote_sign g s z x y j.down (before z h)) (not_so is_plus ups sides.plus_is z h out)))
+  -- by the block's vote it is told how those of them vote that didn't vote against it
+  pub one_told : (up : Bool) → vote g t b x y ≡ cond up (pos 1) (negsuc 0) → AreTold g t x y (Some up) todo ups downs
+  one_told true up = λ z h out.
+      ap is_plus (one_rises g b s t j x y z (opened.member z h) (opened.loose z h) (below z h) up
+      (not_down (vote g s z x y) (vote_sign g s z x y j.down (before z h)) (not_so is_minus downs sides.minus_is z h out)))
+  one_told false down = λ z h out.
+      ap is_minus (one_falls g b s t j x y z other (opened.member z h) (opened.loose z h) (below z h) down
+      (not_up (vote g s z x y) (vote_sign g s z x y j.down (before z h)) (not_so is_plus ups sides.plus_is z h out)))

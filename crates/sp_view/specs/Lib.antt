@@ -17,3 +17,4 @@ pub mod Padded
 pub mod Homes
 pub mod Keeping
 pub mod Steps
+pub mod Facts

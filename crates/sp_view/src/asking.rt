@@ -3,20 +3,19 @@
 //! its vote, and only those that voted against it are asked (`anew.rt`).
 
 ghost use Rattle.std.specs.Prelude.{◌≡◌, ◌<◌, ◌≤◌, ◌&&◌, ◌↔◌, [], ℕ, List, length, IsTrue, if◌then◌else◌, slice_get, unwrap_or, Some, pos, negsuc};
-ghost use Rattle.sp_bits.specs.Places.{difference, IsRow};
+ghost use Rattle.sp_bits.specs.Places.{difference};
 ghost use Rattle.sp_model.specs.Graph.{has, in_past};
-ghost use Rattle.sp_model.specs.Joining.{Joins};
 ghost use Rattle.sp_model.specs.Votes.{vote};
 ghost use Rattle.sp_dag.specs.Numbered.{graph_of, pairs_of};
 ghost use Rattle.sp_view.specs.Idle.{IsPlace};
 ghost use Rattle.sp_view.specs.Stored.{count_of, row_of};
-ghost use Rattle.sp_view.specs.Settled.{AreKept, AreOpen, AreSides, IsAsked};
+ghost use Rattle.sp_view.specs.Settled.{AreKept, AreOpen, AreSides};
 ghost use Rattle.sp_view.specs.Views.{holds, entry_at};
 
+use crate::joining::Joining;
 use crate::runs::Place;
 use crate::stored::{RowName, row_at};
 use sp_bits::Row;
-use sp_dag::Dag;
 use sp_rows::RowPool;
 
 // The row of a pair's voters of +1, or that of those of -1.
@@ -35,40 +34,34 @@ pub(crate) fn is_none(row: &Row) -> bool
     row.highest().is_none()
 }
 
-// The voters of an old pair whose votes may change when block `b` joins, which votes +1 on it, or else -1. Where there are
-// none, the pair stays as it is. The pair's first block is given. Those of them that voted for neither side are told then (`risen`
-// in `anew.rt`), and only those that voted against `b` are asked.
+// The voters of an old pair whose votes may change when the block joins, which votes +1 on it, or else -1. Where there are none, the
+// pair stays as it is. The pair's first block is given. Those of them that voted for neither side are told then (`risen` in
+// `anew.rt`), and only those that voted against the block are asked.
 pub(crate) fn asked(
-    dag: &Dag,
+    join: &Joining,
     pool: &RowPool,
-    members: &Row,
-    b: u16,
     place: &Place,
     x: u16,
     entry: &(RowName, RowName),
     up: bool,
 ) -> Option<Row>
-    requires asked { IsAsked (graph_of dag.now) members.now }
-    requires below { b < length dag.now.parents }
-    requires joined { IsTrue (has members.now b) }
-    requires place { IsPlace dag.now b place.now.pair place.now.second place.now.end
+    requires place { IsPlace join.now.set.dag.now join.now.b place.now.pair place.now.second place.now.end
         place.now.above place.now.free }
-    requires pair { slice_get (pairs_of dag.now) place.now.pair ≡ Some (x, place.now.second) }
+    requires pair { slice_get (pairs_of join.now.set.dag.now) place.now.pair ≡ Some (x, place.now.second) }
     requires live { (r : ℕ) → holds (Some entry.now) r ≤ count_of pool.now r }
-    ensures within { (z : ℕ) → IsTrue (has (unwrap_or result []) z) → IsTrue (has members.now z) }
-    ensures below { (z : ℕ) → IsTrue (has (unwrap_or result []) z) → IsTrue (in_past (graph_of dag.now) z b) }
-    ensures kept { (before : List ℕ) (x y : ℕ) →
-        slice_get (pairs_of dag.now) place.now.pair ≡ Some (x, y) →
-        Joins (graph_of dag.now) b before members.now → IsRow before →
-        AreSides (graph_of dag.now) before x y
+    ensures within { (z : ℕ) → IsTrue (has (unwrap_or result []) z) → IsTrue (has join.now.set.members.now z) }
+    ensures below { (z : ℕ) → IsTrue (has (unwrap_or result []) z) → IsTrue (in_past (graph_of join.now.set.dag.now) z join.now.b) }
+    ensures kept { (x y : ℕ) → slice_get (pairs_of join.now.set.dag.now) place.now.pair ≡ Some (x, y) →
+        AreSides (graph_of join.now.set.dag.now) join.now.before.now x y
         (row_of pool.now entry.now.0) (row_of pool.now entry.now.1) →
-        vote (graph_of dag.now) members.now b x y ≡ (if up then pos 1 else negsuc 0) →
-        AreOpen (graph_of dag.now) members.now x y (has (unwrap_or result []))
-        × AreKept (graph_of dag.now) members.now x y (has (unwrap_or result []))
+        vote (graph_of join.now.set.dag.now) join.now.set.members.now join.now.b x y ≡ (if up then pos 1 else negsuc 0) →
+        AreOpen (graph_of join.now.set.dag.now) join.now.set.members.now x y (has (unwrap_or result []))
+        × AreKept (graph_of join.now.set.dag.now) join.now.set.members.now x y (has (unwrap_or result []))
         (difference (row_of pool.now entry.now.0) (unwrap_or result []))
         (difference (row_of pool.now entry.now.1) (unwrap_or result [])) }
 {
     // Tells the proof that there are at most 512 blocks, in order.
+    let dag = join.set.dag;
     let _blocks = dag.len();
     // Those that vote as it does, and those that the first block binds.
     let mut settled = side_of(pool, entry, up);

@@ -4,19 +4,18 @@
 ghost use Rattle.std.specs.Prelude.{◌≡◌, ◌≢◌, ◌<◌, ◌≤◌, ◌+◌, ◌-◌, ◌^◌, ◌==◌, ℕ, length, IfOk, OnErr, if◌then◌else◌, slice_get, None, Some};
 ghost use Rattle.sp_dag.specs.Numbered.{graph_of, pairs_of};
 ghost use Rattle.sp_view.specs.Stored.{count_of, row_of, spare, live};
-ghost use Rattle.sp_view.specs.Voting.{IsGrown, IsGrowth, IsVoting};
 ghost use Rattle.sp_view.specs.Views.{holds, moved_of, IsEntry, IsOnce, KeepIds};
 
-use crate::anew::asked_rows;
+use crate::anew::rows_anew;
 use crate::asking::{has_both, is_none};
 use crate::growth::Growth;
 use crate::missing::asked_by_growth;
-use crate::pair_rows::{Sides, new_rows};
+use crate::new_pairs::new_entry;
+use crate::pair_rows::Sides;
 use crate::sharing::share_entry;
 use crate::stored::{RowName, row_at, share, taken};
+use crate::voting::Voting;
 use sp_bits::Row;
-use sp_dag::Dag;
-use sp_frozen::Frozen;
 use sp_ids::Memory;
 use sp_rows::RowPool;
 
@@ -62,47 +61,26 @@ fn shared_entry(pool: &mut RowPool, entry: (RowName, RowName), new: &Sides) -> (
     (plus, minus)
 }
 
-// Two new rows.
-fn taken_entry(pool: &mut RowPool, new: &Sides) -> (RowName, RowName)
-    requires room { 2 ≤ spare pool.old }
-    ensures plus { row_of pool.new result.0 ≡ new.now.plus }
-    ensures minus { row_of pool.new result.1 ≡ new.now.minus }
-    ensures counts { (r : ℕ) → count_of pool.new r ≡ count_of pool.old r + holds (Some result) r }
-    ensures others { (r : ℕ) → 0 < count_of pool.old r → row_of pool.new r ≡ row_of pool.old r }
-    ensures once { (r : ℕ) → IsOnce (count_of pool.old r) 0 (holds (Some result) r) }
-    ensures live { live pool.new ≡ live pool.old + 2 }
-{
-    let plus = taken(pool, &new.plus);
-    let minus = taken(pool, &new.minus);
-    (plus, minus)
-}
-
 // The rows of a pair that was inside the view before. Where no vote is asked, both are shared.
 fn old_entry(
-    dag: &Dag,
-    frozen: &Frozen,
-    pool: &mut RowPool,
-    from: &Row,
-    target: &Row,
     growth: &Growth,
+    pool: &mut RowPool,
     pair: u32,
     entry: (RowName, RowName),
 ) -> Result<(RowName, RowName), Memory>
-    requires grown { IsGrown dag.now frozen.now from.now target.now }
-    requires growth { IsGrowth (graph_of dag.now) from.now target.now growth.now.blocks growth.now.below }
-    requires listed { pair < length (pairs_of dag.now) }
+    requires listed { pair < length (pairs_of growth.now.set.dag.now) }
     requires live { (r : ℕ) → holds (Some entry) r ≤ count_of pool.old r }
     requires once { (r : ℕ) → holds (Some entry) r ≤ 1 }
     requires few { (r : ℕ) → 0 < holds (Some entry) r → count_of pool.old r < 2 ^ 32 - 1 }
     requires room { live pool.old + 2 ≤ 2 ^ 31 }
-    requires entry { (x y : ℕ) → slice_get (pairs_of dag.now) pair ≡ Some (x, y) →
-        IsEntry (graph_of dag.now) from.now x y pool.old (Some entry) }
+    requires entry { (x y : ℕ) → slice_get (pairs_of growth.now.set.dag.now) pair ≡ Some (x, y) →
+        IsEntry (graph_of growth.now.set.dag.now) growth.now.before.now x y pool.old (Some entry) }
     ensures entry { IfOk result (λ rows. (x y : ℕ) →
-        slice_get (pairs_of dag.now) pair ≡ Some (x, y) →
-        IsEntry (graph_of dag.now) target.now x y pool.new (Some rows)) }
+        slice_get (pairs_of growth.now.set.dag.now) pair ≡ Some (x, y) →
+        IsEntry (graph_of growth.now.set.dag.now) growth.now.set.members.now x y pool.new (Some rows)) }
     ensures kept { IfOk result (λ rows. (x y : ℕ) →
-        slice_get (pairs_of dag.now) pair ≡ Some (x, y) →
-        KeepIds (graph_of dag.now) from.now target.now x y (Some entry) (Some rows)) }
+        slice_get (pairs_of growth.now.set.dag.now) pair ≡ Some (x, y) →
+        KeepIds (graph_of growth.now.set.dag.now) growth.now.before.now growth.now.set.members.now x y (Some entry) (Some rows)) }
     ensures counts { IfOk result (λ rows. (r : ℕ) →
         count_of pool.new r ≡ count_of pool.old r + holds (Some rows) r) }
     ensures err { OnErr result (pool.new.rows ≡ pool.old.rows) }
@@ -112,30 +90,27 @@ fn old_entry(
     ensures moved { IfOk result (λ rows.
         live pool.new ≤ live pool.old + moved_of (Some entry) (Some rows)) }
 {
-    let todo = asked_by_growth(dag, frozen, pool, from, target, growth, pair, &entry);
+    let todo = asked_by_growth(growth, pool, pair, &entry);
     if is_none(&todo) {
         share_entry(pool, Some(entry));
         return Ok(entry);
     }
     pool.reserve(2)?;
-    let new = asked_rows(dag, frozen, pool, target, pair, &entry, &todo);
+    let new = rows_anew(&growth.set, pool, pair, &entry, &todo, None);
     Ok(shared_entry(pool, entry, &new))
 }
 
 // The entry of a pair that was not inside the view before.
 fn brought_entry(
-    dag: &Dag,
-    frozen: &Frozen,
+    set: &Voting,
     pool: &mut RowPool,
-    target: &Row,
     pair: u32,
 ) -> Result<Option<(RowName, RowName)>, Memory>
-    requires voting { IsVoting dag.now frozen.now target.now }
-    requires listed { pair < length (pairs_of dag.now) }
+    requires listed { pair < length (pairs_of set.now.dag.now) }
     requires room { live pool.old + 2 ≤ 2 ^ 31 }
     ensures entry { IfOk result (λ entry. (x y : ℕ) →
-        slice_get (pairs_of dag.now) pair ≡ Some (x, y) →
-        IsEntry (graph_of dag.now) target.now x y pool.new entry) }
+        slice_get (pairs_of set.now.dag.now) pair ≡ Some (x, y) →
+        IsEntry (graph_of set.now.dag.now) set.now.members.now x y pool.new entry) }
     ensures counts { IfOk result (λ entry. (r : ℕ) →
         count_of pool.new r ≡ count_of pool.old r + holds entry r) }
     ensures err { OnErr result (pool.new.rows ≡ pool.old.rows) }
@@ -144,42 +119,35 @@ fn brought_entry(
     ensures moved { IfOk result (λ entry. live pool.new ≤ live pool.old + moved_of None entry) }
 {
     // Tells the proof that there are at most 512 blocks.
-    let _blocks = dag.len();
-    let (x, y) = dag.pair(pair);
-    if !has_both(target, x, y) {
+    let _blocks = set.dag.len();
+    let (x, y) = set.dag.pair(pair);
+    if !has_both(set.members, x, y) {
         return Ok(None);
     }
     pool.reserve(2)?;
-    let new = new_rows(dag, target, frozen.plus(pair), frozen.minus(pair), x, y);
-    Ok(Some(taken_entry(pool, &new)))
+    Ok(Some(new_entry(set, pool, pair)))
 }
 
 // The entry of a pair in the view of the set, from that in the view of a set within it.
 pub(crate) fn derived_entry(
-    dag: &Dag,
-    frozen: &Frozen,
-    pool: &mut RowPool,
-    from: &Row,
-    target: &Row,
     growth: &Growth,
+    pool: &mut RowPool,
     pair: u32,
     before: Option<(RowName, RowName)>,
 ) -> Result<Option<(RowName, RowName)>, Memory>
-    requires grown { IsGrown dag.now frozen.now from.now target.now }
-    requires growth { IsGrowth (graph_of dag.now) from.now target.now growth.now.blocks growth.now.below }
-    requires listed { pair < length (pairs_of dag.now) }
+    requires listed { pair < length (pairs_of growth.now.set.dag.now) }
     requires live { (r : ℕ) → holds before r ≤ count_of pool.old r }
     requires once { (r : ℕ) → holds before r ≤ 1 }
     requires few { (r : ℕ) → 0 < holds before r → count_of pool.old r < 2 ^ 32 - 1 }
     requires room { live pool.old + 2 ≤ 2 ^ 31 }
-    requires entry { (x y : ℕ) → slice_get (pairs_of dag.now) pair ≡ Some (x, y) →
-        IsEntry (graph_of dag.now) from.now x y pool.old before }
+    requires entry { (x y : ℕ) → slice_get (pairs_of growth.now.set.dag.now) pair ≡ Some (x, y) →
+        IsEntry (graph_of growth.now.set.dag.now) growth.now.before.now x y pool.old before }
     ensures entry { IfOk result (λ entry. (x y : ℕ) →
-        slice_get (pairs_of dag.now) pair ≡ Some (x, y) →
-        IsEntry (graph_of dag.now) target.now x y pool.new entry) }
+        slice_get (pairs_of growth.now.set.dag.now) pair ≡ Some (x, y) →
+        IsEntry (graph_of growth.now.set.dag.now) growth.now.set.members.now x y pool.new entry) }
     ensures kept { IfOk result (λ entry. (x y : ℕ) →
-        slice_get (pairs_of dag.now) pair ≡ Some (x, y) →
-        KeepIds (graph_of dag.now) from.now target.now x y before entry) }
+        slice_get (pairs_of growth.now.set.dag.now) pair ≡ Some (x, y) →
+        KeepIds (graph_of growth.now.set.dag.now) growth.now.before.now growth.now.set.members.now x y before entry) }
     ensures counts { IfOk result (λ entry. (r : ℕ) →
         count_of pool.new r ≡ count_of pool.old r + holds entry r) }
     ensures err { OnErr result (pool.new.rows ≡ pool.old.rows) }
@@ -190,9 +158,9 @@ pub(crate) fn derived_entry(
 {
     match before {
         Some(entry) => {
-            let rows = old_entry(dag, frozen, pool, from, target, growth, pair, entry)?;
+            let rows = old_entry(growth, pool, pair, entry)?;
             Ok(Some(rows))
         }
-        None => brought_entry(dag, frozen, pool, target, pair),
+        None => brought_entry(&growth.set, pool, pair),
     }
 }

@@ -15,7 +15,9 @@ mod home;
 mod joining;
 pub mod laws;
 mod missing;
+mod new_pairs;
 mod old_pairs;
+mod own_vote;
 mod pair_rows;
 mod pasts;
 mod rooted;
@@ -30,6 +32,7 @@ mod sums;
 mod tally;
 mod turned;
 mod view;
+mod voting;
 mod writing;
 
 // A crate can name a view in a contract only if the types of its fields are exported.

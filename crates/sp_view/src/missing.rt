@@ -9,7 +9,6 @@ ghost use Rattle.sp_model.specs.Loose.{is_loose};
 ghost use Rattle.sp_dag.specs.Numbered.{graph_of, pairs_of};
 ghost use Rattle.sp_view.specs.Stored.{count_of, row_of};
 ghost use Rattle.sp_view.specs.Settled.{AreKept, AreOpen, AreSides};
-ghost use Rattle.sp_view.specs.Voting.{IsGrown, IsGrowth};
 ghost use Rattle.sp_view.specs.Views.{holds};
 
 use crate::asking::is_none;
@@ -19,7 +18,6 @@ use crate::pasts::pasts_of;
 use crate::stored::{RowName, row_at};
 use sp_bits::Row;
 use sp_dag::Dag;
-use sp_frozen::Frozen;
 use sp_rows::RowPool;
 
 // Those of some voters that are loose on a pair.
@@ -43,68 +41,61 @@ fn loose_of(dag: &Dag, voters: &Row, pair: u32) -> Row
 // Those of the loose voters that the blocks which join among the voters of one side have in their pasts, without those of
 // that side, which vote so already. Where all of them do, or no such block joins, there are none.
 fn opened_by(
-    dag: &Dag,
-    pool: &RowPool,
     growth: &Growth,
+    pool: &RowPool,
     loose: &Row,
     voters: &Row,
     side: RowName,
 ) -> Row
-    requires below { (b : ℕ) → IsTrue (has growth.now.blocks b) → b < length dag.now.parents }
     requires live { 0 < count_of pool.now side }
     requires small { (z : ℕ) → IsTrue (has loose.now z) → z < 512 }
-    ensures covers { (b z : ℕ) → IsTrue (has growth.now.blocks b) → IsTrue (has voters.now b) →
-        IsTrue (in_past (graph_of dag.now) z b) → IsTrue (has loose.now z) →
+    ensures covers { (b z : ℕ) → IsTrue (has growth.now.blocks.now b) → IsTrue (has voters.now b) →
+        IsTrue (in_past (graph_of growth.now.set.dag.now) z b) → IsTrue (has loose.now z) →
         IsFalse (has (row_of pool.now side) z) → IsTrue (has result z) }
     ensures within { (z : ℕ) → IsTrue (has result z) → IsTrue (has loose.now z) }
 {
     // Tells the proof that there are at most 512 blocks.
-    let _blocks = dag.len();
+    let _blocks = growth.set.dag.len();
     let mut open = *loose;
     open.without(&row_at(pool, side));
     if is_none(&open) {
         return open;
     }
-    let mut joining = growth.blocks;
+    let mut joining = *growth.blocks;
     joining.and_with(voters);
     if is_none(&joining) {
         return joining;
     }
-    open.and_with(&pasts_of(dag, &joining));
+    open.and_with(&pasts_of(growth.set.dag, &joining));
     open
 }
 
 // The voters of an old pair whose votes are asked anew when the set grows. Where there are none, the
 // pair stays as it is.
 pub(crate) fn asked_by_growth(
-    dag: &Dag,
-    frozen: &Frozen,
-    pool: &RowPool,
-    from: &Row,
-    target: &Row,
     growth: &Growth,
+    pool: &RowPool,
     pair: u32,
     entry: &(RowName, RowName),
 ) -> Row
-    requires grown { IsGrown dag.now frozen.now from.now target.now }
-    requires growth { IsGrowth (graph_of dag.now) from.now target.now growth.now.blocks growth.now.below }
-    requires listed { pair < length (pairs_of dag.now) }
-    requires inside { pair < length frozen.now.pluses }
+    requires listed { pair < length (pairs_of growth.now.set.dag.now) }
+    requires inside { pair < length growth.now.set.frozen.now.pluses }
     requires live { (r : ℕ) → holds (Some entry.now) r ≤ count_of pool.now r }
-    ensures within { (z : ℕ) → IsTrue (has result z) → IsTrue (has target.now z) }
-    ensures kept { (x y : ℕ) → slice_get (pairs_of dag.now) pair ≡ Some (x, y) →
-        AreSides (graph_of dag.now) from.now x y
+    ensures within { (z : ℕ) → IsTrue (has result z) → IsTrue (has growth.now.set.members.now z) }
+    ensures kept { (x y : ℕ) → slice_get (pairs_of growth.now.set.dag.now) pair ≡ Some (x, y) →
+        AreSides (graph_of growth.now.set.dag.now) growth.now.before.now x y
         (row_of pool.now entry.now.0) (row_of pool.now entry.now.1) →
-        AreOpen (graph_of dag.now) target.now x y (has result)
-        × AreKept (graph_of dag.now) target.now x y (has result)
+        AreOpen (graph_of growth.now.set.dag.now) growth.now.set.members.now x y (has result)
+        × AreKept (graph_of growth.now.set.dag.now) growth.now.set.members.now x y (has result)
         (difference (row_of pool.now entry.now.0) result)
         (difference (row_of pool.now entry.now.1) result) }
 {
     // Tells the proof that there are at most 512 blocks, in order.
-    let _blocks = dag.len();
-    let loose = loose_of(dag, &growth.below, pair);
-    let mut voters = opened_by(dag, pool, growth, &loose, frozen.plus(pair), entry.0);
-    let others = opened_by(dag, pool, growth, &loose, frozen.minus(pair), entry.1);
+    let set = &growth.set;
+    let _blocks = set.dag.len();
+    let loose = loose_of(set.dag, growth.below, pair);
+    let mut voters = opened_by(growth, pool, &loose, set.frozen.plus(pair), entry.0);
+    let others = opened_by(growth, pool, &loose, set.frozen.minus(pair), entry.1);
     voters.or_with(&others);
     voters
 }

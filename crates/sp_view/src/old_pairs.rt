@@ -10,19 +10,17 @@ ghost use Rattle.sp_view.specs.Keeping.{IsSavingStep};
 ghost use Rattle.sp_view.specs.Steps.{AreAnew, IsNew, IsOld};
 ghost use Rattle.sp_view.specs.Stored.{count_of};
 ghost use Rattle.sp_view.specs.Summed.{IsSum};
-ghost use Rattle.sp_view.specs.Voting.{IsJoined};
 
 use crate::anew::asked_entry;
 use crate::asking::asked;
-use crate::joining::joining_vote;
+use crate::joining::Joining;
+use crate::own_vote::own_vote;
 use crate::rooted::root_turn;
 use crate::runs::Place;
 use crate::saved::Saved;
 use crate::stored::RowName;
 use crate::turned::turned_entry;
 use sp_bits::Row;
-use sp_dag::Dag;
-use sp_frozen::Frozen;
 use sp_rows::RowPool;
 
 // The rows after a block joined, and what came to the sum of the votes, where that is known.
@@ -37,38 +35,33 @@ pub(crate) struct Joined {
 // is given, which isn't 0. By the sum before, where one is kept, the vote of genesis is told, if no other vote may change. The
 // entry is saved before it changes.
 fn opened_entry(
-    dag: &Dag,
-    frozen: &Frozen,
+    join: &Joining,
     pool: &mut RowPool,
     saved: &mut Saved,
-    before: &Row,
-    members: &Row,
-    b: u16,
     pair: u32,
     entry: (RowName, RowName),
     todo: &Row,
     own: i32,
     sum: Option<i32>,
 ) -> Joined
-    requires joined { IsJoined dag.now frozen.now b before.now members.now }
-    requires listed { pair < length (pairs_of dag.now) }
-    requires inside { pair < length frozen.now.pluses }
-    requires rows { IsOld dag.now before.now members.now pair pool.old entry }
-    requires anew { AreAnew dag.now members.now pair pool.old entry todo.now }
-    requires sum { (x y : ℕ) → slice_get (pairs_of dag.now) pair ≡ Some (x, y) →
-        IsSum (graph_of dag.now) before.now x y sum }
+    requires listed { pair < length (pairs_of join.now.set.dag.now) }
+    requires inside { pair < length join.now.set.frozen.now.pluses }
+    requires rows { IsOld join.now.set.dag.now join.now.before.now join.now.set.members.now pair pool.old entry }
+    requires anew { AreAnew join.now.set.dag.now join.now.set.members.now pair pool.old entry todo.now }
+    requires sum { (x y : ℕ) → slice_get (pairs_of join.now.set.dag.now) pair ≡ Some (x, y) →
+        IsSum (graph_of join.now.set.dag.now) join.now.before.now x y sum }
     requires few { pair < length saved.old → (r : ℕ) → count_of pool.old r + 2 < 2 ^ 32 }
-    requires below { (z : ℕ) → IsTrue (has todo.now z) → IsTrue (in_past (graph_of dag.now) z b) }
-    requires own { (x y : ℕ) → slice_get (pairs_of dag.now) pair ≡ Some (x, y) →
-        own ≡ vote (graph_of dag.now) members.now b x y }
+    requires below { (z : ℕ) → IsTrue (has todo.now z) → IsTrue (in_past (graph_of join.now.set.dag.now) z join.now.b) }
+    requires own { (x y : ℕ) → slice_get (pairs_of join.now.set.dag.now) pair ≡ Some (x, y) →
+        own ≡ vote (graph_of join.now.set.dag.now) join.now.set.members.now join.now.b x y }
     requires some { own ≢ pos 0 }
-    ensures rows { IsNew dag.now before.now members.now pair pool.new entry (result.plus, result.minus) }
+    ensures rows { IsNew join.now.set.dag.now join.now.before.now join.now.set.members.now pair pool.new entry (result.plus, result.minus) }
     ensures step { IsSavingStep pool.old pool.new pair (Some entry) (Some (result.plus, result.minus)) saved.old saved.new }
-    ensures gain { (x y : ℕ) → slice_get (pairs_of dag.now) pair ≡ Some (x, y) →
-        IfSome result.gain (IsGain (graph_of dag.now) before.now members.now x y) }
+    ensures gain { (x y : ℕ) → slice_get (pairs_of join.now.set.dag.now) pair ≡ Some (x, y) →
+        IfSome result.gain (IsGain (graph_of join.now.set.dag.now) join.now.before.now join.now.set.members.now x y) }
 {
     // Tells the proof that there are at most 512 blocks, from genesis on.
-    let _blocks = dag.len();
+    let _blocks = join.set.dag.len();
     match root_turn(todo, sum, own) {
         Some(turn) => {
             if turn.before == turn.after {
@@ -79,18 +72,14 @@ fn opened_entry(
                 };
             }
             saved.save(pool, pair, &entry);
-            let (plus, minus) = turned_entry(
-                dag, frozen, pool, before, members, b, pair, entry, todo, &turn,
-            );
+            let (plus, minus) = turned_entry(join, pool, pair, entry, todo, &turn);
             let gain = Some(turn.after - turn.before + own);
             Joined { plus, minus, gain }
         }
         None => {
             saved.save(pool, pair, &entry);
             let up = own > 0;
-            let (plus, minus) = asked_entry(
-                dag, frozen, pool, before, members, b, pair, entry, todo, up,
-            );
+            let (plus, minus) = asked_entry(join, pool, pair, entry, todo, up);
             Joined {
                 plus,
                 minus,
@@ -102,34 +91,29 @@ fn opened_entry(
 
 // Those of any such pair, by the sum of its votes before, where one is kept.
 pub(crate) fn joined_entry(
-    dag: &Dag,
-    frozen: &Frozen,
+    join: &Joining,
     pool: &mut RowPool,
     saved: &mut Saved,
-    before: &Row,
-    members: &Row,
-    b: u16,
     place: &Place,
     entry: (RowName, RowName),
     sum: Option<i32>,
 ) -> Joined
-    requires joined { IsJoined dag.now frozen.now b before.now members.now }
-    requires place { IsPlace dag.now b place.now.pair place.now.second place.now.end
+    requires place { IsPlace join.now.set.dag.now join.now.b place.now.pair place.now.second place.now.end
         place.now.above place.now.free }
-    requires listed { place.now.pair < length (pairs_of dag.now) }
-    requires inside { place.now.pair < length frozen.now.pluses }
-    requires rows { IsOld dag.now before.now members.now place.now.pair pool.old entry }
+    requires listed { place.now.pair < length (pairs_of join.now.set.dag.now) }
+    requires inside { place.now.pair < length join.now.set.frozen.now.pluses }
+    requires rows { IsOld join.now.set.dag.now join.now.before.now join.now.set.members.now place.now.pair pool.old entry }
     requires few { place.now.pair < length saved.old → (r : ℕ) → count_of pool.old r + 2 < 2 ^ 32 }
-    requires sum { (x y : ℕ) → slice_get (pairs_of dag.now) place.now.pair ≡ Some (x, y) →
-        IsSum (graph_of dag.now) before.now x y sum }
-    ensures rows { IsNew dag.now before.now members.now place.now.pair pool.new entry (result.plus, result.minus) }
+    requires sum { (x y : ℕ) → slice_get (pairs_of join.now.set.dag.now) place.now.pair ≡ Some (x, y) →
+        IsSum (graph_of join.now.set.dag.now) join.now.before.now x y sum }
+    ensures rows { IsNew join.now.set.dag.now join.now.before.now join.now.set.members.now place.now.pair pool.new entry (result.plus, result.minus) }
     ensures step { IsSavingStep pool.old pool.new place.now.pair (Some entry) (Some (result.plus, result.minus))
         saved.old saved.new }
-    ensures gain { (x y : ℕ) → slice_get (pairs_of dag.now) place.now.pair ≡ Some (x, y) →
-        IfSome result.gain (IsGain (graph_of dag.now) before.now members.now x y) }
+    ensures gain { (x y : ℕ) → slice_get (pairs_of join.now.set.dag.now) place.now.pair ≡ Some (x, y) →
+        IfSome result.gain (IsGain (graph_of join.now.set.dag.now) join.now.before.now join.now.set.members.now x y) }
 {
-    let (x, _) = dag.pair(place.pair);
-    let own = joining_vote(dag, frozen, b, place, x);
+    let (x, _) = join.set.dag.pair(place.pair);
+    let own = own_vote(join, place, x);
     if own == 0 {
         return Joined {
             plus: entry.0,
@@ -138,9 +122,9 @@ pub(crate) fn joined_entry(
         };
     }
     let pair = place.pair;
-    match asked(dag, pool, members, b, place, x, &entry, own > 0) {
+    match asked(join, pool, place, x, &entry, own > 0) {
         Some(todo) => opened_entry(
-            dag, frozen, pool, saved, before, members, b, pair, entry, &todo, own, sum,
+            join, pool, saved, pair, entry, &todo, own, sum,
         ),
         None => Joined {
             plus: entry.0,

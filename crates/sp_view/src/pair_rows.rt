@@ -1,16 +1,15 @@
-//! The loose voters of one pair in a set, found anew for a new pair, and from those before for an
-//! old one when a block joins. Rows alone are spoken of here: where they are kept is the view's.
+//! The loose voters of one pair in a set. Rows alone are spoken of here: where they are kept is the view's.
 
-ghost use Rattle.std.specs.Prelude.{◌≡◌, ◌<◌, ◌&&◌, not, ℕ, length, IsTrue};
-ghost use Rattle.sp_bits.specs.Places.{places_where, difference};
-ghost use Rattle.sp_model.specs.Graph.{has, in_past};
+ghost use Rattle.std.specs.Prelude.{◌≡◌, ◌<◌, not, ℕ, length, IsTrue, slice_get, Some};
+ghost use Rattle.sp_bits.specs.Places.{places_where};
+ghost use Rattle.sp_model.specs.Graph.{has};
 ghost use Rattle.sp_model.specs.Loose.{is_loose};
-ghost use Rattle.sp_dag.specs.Numbered.{graph_of};
-ghost use Rattle.sp_frozen.specs.Voters.{AreFrozen};
-ghost use Rattle.sp_view.specs.Settled.{AreKept, AreOpen, AreSides, IsAsked};
+ghost use Rattle.sp_dag.specs.Numbered.{graph_of, pairs_of};
+ghost use Rattle.sp_view.specs.Settled.{AreKept, AreOpen, AreSides};
 
 use crate::seeing::{known_votes, told};
 use crate::settle::settle;
+use crate::voting::Voting;
 use sp_bits::Row;
 use sp_dag::Dag;
 
@@ -34,33 +33,26 @@ pub(crate) fn bound_on(dag: &Dag, x: u16, y: u16) -> Row
 
 // The loose members that vote +1 and -1 on a pair, by the frozen voters and the kept loose ones,
 // where the votes of `todo` alone are open.
-pub(crate) fn settled_rows(
-    dag: &Dag,
-    members: &Row,
-    frozen_plus: &Row,
-    frozen_minus: &Row,
-    kept: &Sides,
-    todo: &Row,
-) -> Sides
-    requires asked { IsAsked (graph_of dag.now) members.now }
-    requires below { (z : ℕ) → IsTrue (has members.now z) → z < length dag.now.parents }
-    requires within { (z : ℕ) → IsTrue (has todo.now z) → IsTrue (has members.now z) }
-    ensures rows { (x y : ℕ) →
-        AreFrozen (graph_of dag.now) members.now x y frozen_plus.now frozen_minus.now →
-        AreOpen (graph_of dag.now) members.now x y (has todo.now) →
-        AreKept (graph_of dag.now) members.now x y (has todo.now)
+pub(crate) fn settled_rows(set: &Voting, pair: u32, kept: &Sides, todo: &Row) -> Sides
+    requires inside { pair < length set.now.frozen.now.pluses }
+    requires within { (z : ℕ) → IsTrue (has todo.now z) → IsTrue (has set.now.members.now z) }
+    ensures rows { (x y : ℕ) → slice_get (pairs_of set.now.dag.now) pair ≡ Some (x, y) →
+        AreOpen (graph_of set.now.dag.now) set.now.members.now x y (has todo.now) →
+        AreKept (graph_of set.now.dag.now) set.now.members.now x y (has todo.now)
         kept.now.plus kept.now.minus →
-        AreSides (graph_of dag.now) members.now x y result.plus result.minus }
+        AreSides (graph_of set.now.dag.now) set.now.members.now x y result.plus result.minus }
 {
     // Tells the proof that the blocks stand in order.
-    let _blocks = dag.len();
+    let _blocks = set.dag.len();
+    let frozen_plus = set.frozen.plus(pair);
+    let frozen_minus = set.frozen.minus(pair);
     let mut plus = *frozen_plus;
-    plus.and_with(members);
+    plus.and_with(set.members);
     plus.or_with(&kept.plus);
     let mut minus = *frozen_minus;
-    minus.and_with(members);
+    minus.and_with(set.members);
     minus.or_with(&kept.minus);
-    settle(dag, todo, &mut plus, &mut minus);
+    settle(set.dag, todo, &mut plus, &mut minus);
     plus.without(frozen_plus);
     minus.without(frozen_minus);
     Sides { plus, minus }
@@ -68,56 +60,16 @@ pub(crate) fn settled_rows(
 
 // The loose voters of a new pair. It takes a few passes over rows for each of them that sees both sides, and for
 // each frozen voter that isn't in the past of another one of its side.
-pub(crate) fn new_rows(
-    dag: &Dag,
-    members: &Row,
-    frozen_plus: &Row,
-    frozen_minus: &Row,
-    x: u16,
-    y: u16,
-) -> Sides
-    requires asked { IsAsked (graph_of dag.now) members.now }
-    requires below { (z : ℕ) → IsTrue (has members.now z) → z < length dag.now.parents }
-    requires x_in { x < length dag.now.parents }
-    requires y_in { y < length dag.now.parents }
-    requires frozen { AreFrozen (graph_of dag.now) members.now x y frozen_plus.now frozen_minus.now }
-    ensures { AreSides (graph_of dag.now) members.now x y result.plus result.minus }
+pub(crate) fn new_rows(set: &Voting, pair: u32) -> Sides
+    requires listed { pair < length (pairs_of set.now.dag.now) }
+    requires inside { pair < length set.now.frozen.now.pluses }
+    ensures { (x y : ℕ) → slice_get (pairs_of set.now.dag.now) pair ≡ Some (x, y) →
+        AreSides (graph_of set.now.dag.now) set.now.members.now x y result.plus result.minus }
 {
-    let mut loose = *members;
-    loose.without(&bound_on(dag, x, y));
-    let seen = known_votes(dag, members, frozen_plus, frozen_minus, &loose);
-    let known = told(dag, members, frozen_plus, frozen_minus, x, y, &seen);
-    settled_rows(
-        dag,
-        members,
-        frozen_plus,
-        frozen_minus,
-        &known.sides,
-        &known.todo,
-    )
-}
-
-// The loose voters of a pair in a set that grew, from those before, where the votes of `todo` are asked anew.
-pub(crate) fn joined_rows(
-    dag: &Dag,
-    members: &Row,
-    frozen_plus: &Row,
-    frozen_minus: &Row,
-    sides: &Sides,
-    todo: &Row,
-) -> Sides
-    requires asked { IsAsked (graph_of dag.now) members.now }
-    requires below { (z : ℕ) → IsTrue (has members.now z) → z < length dag.now.parents }
-    requires within { (z : ℕ) → IsTrue (has todo.now z) → IsTrue (has members.now z) }
-    ensures rows { (x y : ℕ) →
-        AreFrozen (graph_of dag.now) members.now x y frozen_plus.now frozen_minus.now →
-        AreOpen (graph_of dag.now) members.now x y (has todo.now) →
-        AreKept (graph_of dag.now) members.now x y (has todo.now)
-        (difference sides.now.plus todo.now) (difference sides.now.minus todo.now) →
-        AreSides (graph_of dag.now) members.now x y result.plus result.minus }
-{
-    let mut kept = *sides;
-    kept.plus.without(todo);
-    kept.minus.without(todo);
-    settled_rows(dag, members, frozen_plus, frozen_minus, &kept, todo)
+    let (x, y) = set.dag.pair(pair);
+    let mut loose = *set.members;
+    loose.without(&bound_on(set.dag, x, y));
+    let seen = known_votes(set, pair, &loose);
+    let known = told(set, pair, x, y, &seen);
+    settled_rows(set, pair, &known.sides, &known.todo)
 }

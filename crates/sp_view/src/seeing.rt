@@ -2,17 +2,17 @@
 //! the other side, vote so, and those that have neither vote for nobody. Only those that have both are asked,
 //! and of these none where they all have all frozen voters above them, and no other loose voter votes.
 
-ghost use Rattle.std.specs.Prelude.{◌≡◌, ◌<◌, ◌&&◌, [], ℕ, length, IsTrue};
+ghost use Rattle.std.specs.Prelude.{◌≡◌, ◌<◌, ◌&&◌, [], ℕ, length, IsTrue, slice_get, Some};
 ghost use Rattle.sp_model.specs.Graph.{has, in_past};
 ghost use Rattle.sp_model.specs.Loose.{is_loose};
-ghost use Rattle.sp_dag.specs.Numbered.{graph_of};
-ghost use Rattle.sp_frozen.specs.Voters.{AreFrozen};
+ghost use Rattle.sp_dag.specs.Numbered.{graph_of, pairs_of};
 ghost use Rattle.sp_view.specs.Seen.{HasAbove};
-ghost use Rattle.sp_view.specs.Settled.{AreKept, AreOpen, IsAsked};
+ghost use Rattle.sp_view.specs.Settled.{AreKept, AreOpen};
 
 use crate::asking::is_none;
 use crate::pair_rows::Sides;
 use crate::pasts::pasts_of;
+use crate::voting::Voting;
 use sp_bits::Row;
 use sp_dag::Dag;
 
@@ -43,27 +43,19 @@ fn seen_by(dag: &Dag, members: &Row, voters: &Row, loose: &Row) -> Row
 
 // The votes of a new pair's loose voters, by what they see. It takes three steps over rows for each frozen
 // voter of a side that isn't in the past of another one.
-pub(crate) fn known_votes(
-    dag: &Dag,
-    members: &Row,
-    frozen_plus: &Row,
-    frozen_minus: &Row,
-    loose: &Row,
-) -> Known
-    requires asked { IsAsked (graph_of dag.now) members.now }
-    requires below { (z : ℕ) → IsTrue (has members.now z) → z < length dag.now.parents }
+pub(crate) fn known_votes(set: &Voting, pair: u32, loose: &Row) -> Known
+    requires inside { pair < length set.now.frozen.now.pluses }
     ensures within { (z : ℕ) → IsTrue (has result.todo z) → IsTrue (has loose.now z) }
-    ensures rows { (x y : ℕ) →
-        ((z : ℕ) → has loose.now z ≡ (has members.now z && is_loose (graph_of dag.now) z x y)) →
-        AreFrozen (graph_of dag.now) members.now x y frozen_plus.now frozen_minus.now →
-        AreOpen (graph_of dag.now) members.now x y (has result.todo)
-        × AreKept (graph_of dag.now) members.now x y (has result.todo)
+    ensures rows { (x y : ℕ) → slice_get (pairs_of set.now.dag.now) pair ≡ Some (x, y) →
+        ((z : ℕ) → has loose.now z ≡ (has set.now.members.now z && is_loose (graph_of set.now.dag.now) z x y)) →
+        AreOpen (graph_of set.now.dag.now) set.now.members.now x y (has result.todo)
+        × AreKept (graph_of set.now.dag.now) set.now.members.now x y (has result.todo)
         result.sides.plus result.sides.minus }
 {
     // Tells the proof that there are at most 512 blocks, in order.
-    let _blocks = dag.len();
-    let plus = seen_by(dag, members, frozen_plus, loose);
-    let minus = seen_by(dag, members, frozen_minus, loose);
+    let _blocks = set.dag.len();
+    let plus = seen_by(set.dag, set.members, set.frozen.plus(pair), loose);
+    let minus = seen_by(set.dag, set.members, set.frozen.minus(pair), loose);
     let mut todo = plus;
     todo.and_with(&minus);
     let mut sides = Sides { plus, minus };
@@ -96,35 +88,26 @@ fn are_told(dag: &Dag, x: u16, y: u16, known: &Known) -> bool
 
 // The votes of a new pair's loose voters, from those that are known. Where none of them is known to vote, and
 // each open one has all frozen voters above it, the open ones vote as most of these.
-pub(crate) fn told(
-    dag: &Dag,
-    members: &Row,
-    frozen_plus: &Row,
-    frozen_minus: &Row,
-    x: u16,
-    y: u16,
-    known: &Known,
-) -> Known
-    requires asked { IsAsked (graph_of dag.now) members.now }
-    requires below { (z : ℕ) → IsTrue (has members.now z) → z < length dag.now.parents }
-    requires x_in { x < length dag.now.parents }
-    requires y_in { y < length dag.now.parents }
+pub(crate) fn told(set: &Voting, pair: u32, x: u16, y: u16, known: &Known) -> Known
+    requires pair { slice_get (pairs_of set.now.dag.now) pair ≡ Some (x, y) }
+    requires inside { pair < length set.now.frozen.now.pluses }
+    requires x_in { x < length set.now.dag.now.parents }
+    requires y_in { y < length set.now.dag.now.parents }
     ensures within { (z : ℕ) → IsTrue (has result.todo z) → IsTrue (has known.now.todo z) }
-    ensures rows { AreFrozen (graph_of dag.now) members.now x y frozen_plus.now frozen_minus.now →
-        AreOpen (graph_of dag.now) members.now x y (has known.now.todo) →
-        AreKept (graph_of dag.now) members.now x y (has known.now.todo)
+    ensures rows { AreOpen (graph_of set.now.dag.now) set.now.members.now x y (has known.now.todo) →
+        AreKept (graph_of set.now.dag.now) set.now.members.now x y (has known.now.todo)
         known.now.sides.plus known.now.sides.minus →
-        AreOpen (graph_of dag.now) members.now x y (has result.todo)
-        × AreKept (graph_of dag.now) members.now x y (has result.todo)
+        AreOpen (graph_of set.now.dag.now) set.now.members.now x y (has result.todo)
+        × AreKept (graph_of set.now.dag.now) set.now.members.now x y (has result.todo)
         result.sides.plus result.sides.minus }
 {
     // Tells the proof that there are at most 512 blocks, in order.
-    let _blocks = dag.len();
-    if !are_told(dag, x, y, known) {
+    let _blocks = set.dag.len();
+    if !are_told(set.dag, x, y, known) {
         return *known;
     }
-    let ups = members.count_and(frozen_plus);
-    let downs = members.count_and(frozen_minus);
+    let ups = set.members.count_and(set.frozen.plus(pair));
+    let downs = set.members.count_and(set.frozen.minus(pair));
     let none = Row::empty();
     if ups > downs {
         return Known {

@@ -9,14 +9,12 @@ ghost use Rattle.sp_model.specs.Votes.{vote};
 ghost use Rattle.sp_view.specs.Steps.{AreAnew, IsNew, IsOld, IsStep, IsWritten};
 ghost use Rattle.sp_view.specs.Stored.{count_of, row_of, spare};
 ghost use Rattle.sp_view.specs.Sums.{IsLone};
-ghost use Rattle.sp_view.specs.Voting.{IsJoined};
 
+use crate::joining::Joining;
 use crate::rooted::{Turn, with_root};
 use crate::stored::{RowName, row_at};
 use crate::writing::replaced;
 use sp_bits::Row;
-use sp_dag::Dag;
-use sp_frozen::Frozen;
 use sp_rows::RowPool;
 
 // Writes a row anew with genesis in it, or without, if that isn't how it stands.
@@ -41,27 +39,22 @@ fn turned_row(pool: &mut RowPool, id: RowName, was_in: bool, is_in: bool) -> Row
 // The rows of a pair that was inside the set before the block joined, where genesis' vote alone may change; that before and
 // that after are given.
 pub(crate) fn turned_entry(
-    dag: &Dag,
-    frozen: &Frozen,
+    join: &Joining,
     pool: &mut RowPool,
-    before: &Row,
-    members: &Row,
-    b: u16,
     pair: u32,
     entry: (RowName, RowName),
     todo: &Row,
     turn: &Turn,
 ) -> (RowName, RowName)
-    requires joined { IsJoined dag.now frozen.now b before.now members.now }
-    requires listed { pair < length (pairs_of dag.now) }
-    requires rows { IsOld dag.now before.now members.now pair pool.old entry }
-    requires anew { AreAnew dag.now members.now pair pool.old entry todo.now }
+    requires listed { pair < length (pairs_of join.now.set.dag.now) }
+    requires rows { IsOld join.now.set.dag.now join.now.before.now join.now.set.members.now pair pool.old entry }
+    requires anew { AreAnew join.now.set.dag.now join.now.set.members.now pair pool.old entry todo.now }
     requires lone { IsLone todo.now 0 }
-    requires root { IsTrue (has before.now 0) }
-    requires votes { (x y : ℕ) → slice_get (pairs_of dag.now) pair ≡ Some (x, y) →
-        (turn.now.before ≡ vote (graph_of dag.now) before.now 0 x y)
-        × (turn.now.after ≡ vote (graph_of dag.now) members.now 0 x y) }
-    ensures rows { IsNew dag.now before.now members.now pair pool.new entry result }
+    requires root { IsTrue (has join.now.before.now 0) }
+    requires votes { (x y : ℕ) → slice_get (pairs_of join.now.set.dag.now) pair ≡ Some (x, y) →
+        (turn.now.before ≡ vote (graph_of join.now.set.dag.now) join.now.before.now 0 x y)
+        × (turn.now.after ≡ vote (graph_of join.now.set.dag.now) join.now.set.members.now 0 x y) }
+    ensures rows { IsNew join.now.set.dag.now join.now.before.now join.now.set.members.now pair pool.new entry result }
     ensures step { IsStep pool.old pool.new (Some entry) (Some result) }
 {
     let plus = turned_row(pool, entry.0, turn.before > 0, turn.after > 0);

@@ -19,10 +19,12 @@ mod virtual_votes;
 use crate::asking::entry_of;
 use crate::ends::{end_of, grow};
 use crate::entries::join_entries;
+use crate::joining::Joining;
 use crate::saved::Saved;
 use crate::sharing::{give_entries, share_entries};
 use crate::stored::RowName;
 use crate::sums::Sums;
+use crate::voting::Voting;
 use sp_bits::Row;
 use sp_dag::Dag;
 use sp_frozen::Frozen;
@@ -145,10 +147,10 @@ impl View {
     /// # Errors
     ///
     /// Memory was refused; the view, all live rows, the sums and what is saved are as before.
-    pub fn add_with_sums(
+    pub fn add_with_sums<'a>(
         &mut self,
-        dag: &Dag,
-        frozen: &Frozen,
+        dag: &'a Dag,
+        frozen: &'a Frozen,
         pool: &mut RowPool,
         sums: &mut Sums,
         saved: &mut Saved,
@@ -199,17 +201,17 @@ impl View {
         // Each pair may take both its rows anew.
         pool.reserve(2 * pairs)?;
         grow(&mut self.entries, end);
-        join_entries(
+        let set = Voting {
             dag,
             frozen,
-            pool,
-            &before,
-            &members,
+            members: &members,
+        };
+        let join = Joining {
+            set,
+            before: &before,
             b,
-            &mut self.entries,
-            sums,
-            saved,
-        );
+        };
+        join_entries(&join, pool, &mut self.entries, sums, saved);
         self.members = members;
         Ok(())
     }

@@ -13,9 +13,11 @@ ghost use Rattle.sp_view.specs.Moving.{moved_rows};
 use crate::best::start;
 use crate::block_runs::derive_entries;
 use crate::ends::end_of;
-use crate::growth::growth_of;
+use crate::growth::Growth;
+use crate::pasts::pasts_of;
 use crate::sharing::give_entries;
 use crate::view::View;
+use crate::voting::Voting;
 use sp_bits::Row;
 use sp_dag::Dag;
 use sp_frozen::Frozen;
@@ -38,13 +40,13 @@ impl View {
     /// # Errors
     ///
     /// Memory was refused; the live rows are as before.
-    pub fn derive(
+    pub fn derive<'a>(
         alloc: Global,
-        views: &[View],
-        dag: &Dag,
-        frozen: &Frozen,
+        views: &'a [View],
+        dag: &'a Dag,
+        frozen: &'a Frozen,
         pool: &mut RowPool,
-        target: &Row,
+        target: &'a Row,
     ) -> Result<View, Memory>
         requires views { (i : ℕ) (view : Viewed) → slice_get views.now i ≡ Some view →
             IsView dag.now view pool.old }
@@ -75,18 +77,21 @@ impl View {
         let nothing = View::empty(alloc);
         let base = start(views, &nothing, target);
         let members = base.members();
-        let growth = growth_of(dag, members, target);
-        match derive_entries(
+        let mut blocks = *target;
+        blocks.without(members);
+        let below = pasts_of(dag, &blocks);
+        let set = Voting {
             dag,
             frozen,
-            pool,
-            members,
-            target,
-            &growth,
-            base.entries(),
-            end,
-            &mut entries,
-        ) {
+            members: target,
+        };
+        let growth = Growth {
+            set,
+            before: members,
+            blocks: &blocks,
+            below: &below,
+        };
+        match derive_entries(&growth, pool, base.entries(), end, &mut entries) {
             Ok(()) => Ok(View {
                 alloc,
                 members: *target,

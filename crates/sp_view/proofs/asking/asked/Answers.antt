@@ -49,9 +49,9 @@ kept_of table b members i x' y' ups downs agree todo up asked there pair agree_i
 
 pub closed-requires : goal.closed-requires
 closed-requires c =
-    let kind : IsPair c.args.dag.now (c.args.x, c.args.place.now.second) = pair_kind c.args.dag.now c.args.place.now.pair (c.args.x, c.args.place.now.second) c.requires.pair in
+    let kind : IsPair c.args.join.now.set.dag.now (c.args.x, c.args.place.now.second) = pair_kind c.args.join.now.set.dag.now c.args.place.now.pair (c.args.x, c.args.place.now.second) c.requires.pair in
     let less : c.args.x < c.args.place.now.second = kind.order in
-    let within : c.args.place.now.second < length c.args.dag.now.parents = kind.within in
+    let within : c.args.place.now.second < length c.args.join.now.set.dag.now.parents = kind.within in
     omega (arith, less, within)
 
 pub returns-then-is_none-clause-below : goal.returns-then-is_none-clause-below
@@ -59,47 +59,49 @@ returns-then-is_none-clause-below c = λ z h. absurd (false≢true h)
 
 pub returns-clause-below : goal.returns-clause-below
 returns-clause-below c =
-    let table : Numbered = c.args.dag.now in
+    let table : Numbered = c.args.join.now.set.dag.now in
     let listed : c.args.place.now.pair < length (pairs_of table) = slice_get_within (pairs_of table) c.args.place.now.pair (c.args.x, c.args.place.now.second) c.requires.pair in
-    let told : (z : ℕ) → has c.without.new.self z ≡ ((in_past (graph_of table) z c.args.b && is_loose (graph_of table) z c.args.x c.args.place.now.second) && not (has c.side_of-settled.result z)) =
-    todo_told (graph_of table) c.args.b c.args.x c.args.place.now.second c.args.place.now.free c.side_of-settled.result c.closed.result.now c.or_with.new.self
-    (c.requires.place.free_is listed) (small_past table c.args.b c.len-blocks.ensures.numbered.order c.len-blocks.ensures.numbered.small c.requires.below)
+    let told : (z : ℕ) → has c.without.new.self z ≡ ((in_past (graph_of table) z c.args.join.now.b && is_loose (graph_of table) z c.args.x c.args.place.now.second) && not (has c.side_of-settled.result z)) =
+    todo_told (graph_of table) c.args.join.now.b c.args.x c.args.place.now.second c.args.place.now.free c.side_of-settled.result c.closed.result.now c.or_with.new.self
+    (c.requires.place.free_is listed) (small_past table c.args.join.now.b c.len-blocks.ensures.numbered.order c.len-blocks.ensures.numbered.small (c.args.join.now.joined.voting.below c.args.join.now.b c.args.join.now.joined.joins.there))
     c.closed.ensures c.or_with.ensures c.without.new.self c.without.ensures in
     λ z h.
-    (and_parts (in_past (graph_of table) z c.args.b) (is_loose (graph_of table) z c.args.x c.args.place.now.second)
-    (and_parts (in_past (graph_of table) z c.args.b && is_loose (graph_of table) z c.args.x c.args.place.now.second) (not (has c.side_of-settled.result z)) (sym (told z) ∙ h)).0).0
+    (and_parts (in_past (graph_of table) z c.args.join.now.b) (is_loose (graph_of table) z c.args.x c.args.place.now.second)
+    (and_parts (in_past (graph_of table) z c.args.join.now.b && is_loose (graph_of table) z c.args.x c.args.place.now.second) (not (has c.side_of-settled.result z)) (sym (told z) ∙ h)).0).0
 
 pub returns-then-is_none-clause-within : goal.returns-then-is_none-clause-within
 returns-then-is_none-clause-within c = λ z h. absurd (false≢true h)
 
 pub returns-then-is_none-clause-kept : goal.returns-then-is_none-clause-kept
 returns-then-is_none-clause-kept c =
-    let table : Numbered = c.args.dag.now in
+    let table : Numbered = c.args.join.now.set.dag.now in
     let listed : c.args.place.now.pair < length (pairs_of table) = slice_get_within (pairs_of table) c.args.place.now.pair (c.args.x, c.args.place.now.second) c.requires.pair in
     let g : Graph = graph_of table in
-    kept_of table c.args.b c.args.members.now c.args.place.now.pair c.args.x c.args.place.now.second (row_of c.args.pool.now c.args.entry.now.0) (row_of c.args.pool.now c.args.entry.now.1)
-    c.side_of-settled.result [] c.args.up c.requires.asked c.requires.joined c.requires.pair c.side_of-settled.ensures
-    (subst (λ (l : List ℕ). (z : ℕ) → has l z ≡ ((in_past g z c.args.b && is_loose g z c.args.x c.args.place.now.second) && not (has c.side_of-settled.result z)))
+    λ x y at sides votes. kept_of table c.args.join.now.b c.args.join.now.set.members.now c.args.place.now.pair c.args.x c.args.place.now.second (row_of c.args.pool.now c.args.entry.now.0) (row_of c.args.pool.now c.args.entry.now.1)
+    c.side_of-settled.result [] c.args.up c.args.join.now.joined.voting.asked c.args.join.now.joined.joins.there c.requires.pair c.side_of-settled.ensures
+    (subst (λ (l : List ℕ). (z : ℕ) → has l z ≡ ((in_past g z c.args.join.now.b && is_loose g z c.args.x c.args.place.now.second) && not (has c.side_of-settled.result z)))
     (c.is_none.ensures.0 c.if-is_none.true)
-    (todo_told (graph_of table) c.args.b c.args.x c.args.place.now.second c.args.place.now.free c.side_of-settled.result c.closed.result.now c.or_with.new.self
-    (c.requires.place.free_is listed) (small_past table c.args.b c.len-blocks.ensures.numbered.order c.len-blocks.ensures.numbered.small c.requires.below)
+    (todo_told (graph_of table) c.args.join.now.b c.args.x c.args.place.now.second c.args.place.now.free c.side_of-settled.result c.closed.result.now c.or_with.new.self
+    (c.requires.place.free_is listed) (small_past table c.args.join.now.b c.len-blocks.ensures.numbered.order c.len-blocks.ensures.numbered.small (c.args.join.now.joined.voting.below c.args.join.now.b c.args.join.now.joined.joins.there))
     c.closed.ensures c.or_with.ensures c.without.new.self c.without.ensures))
+    c.args.join.now.before.now x y at c.args.join.now.joined.joins c.args.join.now.joined.row sides votes
 
 pub returns-clause-within : goal.returns-clause-within
 returns-clause-within c =
-    let table : Numbered = c.args.dag.now in
+    let table : Numbered = c.args.join.now.set.dag.now in
     let listed : c.args.place.now.pair < length (pairs_of table) = slice_get_within (pairs_of table) c.args.place.now.pair (c.args.x, c.args.place.now.second) c.requires.pair in
-    (open_joined (graph_of table) c.args.b c.args.members.now c.args.x c.args.place.now.second c.side_of-settled.result c.without.new.self c.requires.asked c.requires.joined
-    (todo_told (graph_of table) c.args.b c.args.x c.args.place.now.second c.args.place.now.free c.side_of-settled.result c.closed.result.now c.or_with.new.self
-    (c.requires.place.free_is listed) (small_past table c.args.b c.len-blocks.ensures.numbered.order c.len-blocks.ensures.numbered.small c.requires.below)
+    (open_joined (graph_of table) c.args.join.now.b c.args.join.now.set.members.now c.args.x c.args.place.now.second c.side_of-settled.result c.without.new.self c.args.join.now.joined.voting.asked c.args.join.now.joined.joins.there
+    (todo_told (graph_of table) c.args.join.now.b c.args.x c.args.place.now.second c.args.place.now.free c.side_of-settled.result c.closed.result.now c.or_with.new.self
+    (c.requires.place.free_is listed) (small_past table c.args.join.now.b c.len-blocks.ensures.numbered.order c.len-blocks.ensures.numbered.small (c.args.join.now.joined.voting.below c.args.join.now.b c.args.join.now.joined.joins.there))
     c.closed.ensures c.or_with.ensures c.without.new.self c.without.ensures)).member
 
 pub returns-clause-kept : goal.returns-clause-kept
 returns-clause-kept c =
-    let table : Numbered = c.args.dag.now in
+    let table : Numbered = c.args.join.now.set.dag.now in
     let listed : c.args.place.now.pair < length (pairs_of table) = slice_get_within (pairs_of table) c.args.place.now.pair (c.args.x, c.args.place.now.second) c.requires.pair in
-    kept_of table c.args.b c.args.members.now c.args.place.now.pair c.args.x c.args.place.now.second (row_of c.args.pool.now c.args.entry.now.0) (row_of c.args.pool.now c.args.entry.now.1)
-    c.side_of-settled.result c.without.new.self c.args.up c.requires.asked c.requires.joined c.requires.pair c.side_of-settled.ensures
-    (todo_told (graph_of table) c.args.b c.args.x c.args.place.now.second c.args.place.now.free c.side_of-settled.result c.closed.result.now c.or_with.new.self
-    (c.requires.place.free_is listed) (small_past table c.args.b c.len-blocks.ensures.numbered.order c.len-blocks.ensures.numbered.small c.requires.below)
+    λ x y at sides votes. kept_of table c.args.join.now.b c.args.join.now.set.members.now c.args.place.now.pair c.args.x c.args.place.now.second (row_of c.args.pool.now c.args.entry.now.0) (row_of c.args.pool.now c.args.entry.now.1)
+    c.side_of-settled.result c.without.new.self c.args.up c.args.join.now.joined.voting.asked c.args.join.now.joined.joins.there c.requires.pair c.side_of-settled.ensures
+    (todo_told (graph_of table) c.args.join.now.b c.args.x c.args.place.now.second c.args.place.now.free c.side_of-settled.result c.closed.result.now c.or_with.new.self
+    (c.requires.place.free_is listed) (small_past table c.args.join.now.b c.len-blocks.ensures.numbered.order c.len-blocks.ensures.numbered.small (c.args.join.now.joined.voting.below c.args.join.now.b c.args.join.now.joined.joins.there))
     c.closed.ensures c.or_with.ensures c.without.new.self c.without.ensures)
+    c.args.join.now.before.now x y at c.args.join.now.joined.joins c.args.join.now.joined.row sides votes

@@ -32,21 +32,21 @@ runs-preserved c =
         capacity = ap vec_capacity w.entries-is ∙ c.runs.invariant.capacity;
         so_far = rw (w.pool-is, w.entries-is) c.runs.invariant.so_far;
         below = rw (w.entries-is)
-            (below_outside c.args.dag.now c.args.target.now c.args.end c.runs.block (length c.runs.entries.items) (sym c.test.ensures.value ∙ w.if-test.false) c.runs.invariant.below);
+            (below_outside c.args.growth.now.set.dag.now c.args.growth.now.set.members.now c.args.end c.runs.block (length c.runs.entries.items) (sym c.test.ensures.value ∙ w.if-test.false) c.runs.invariant.below);
       }
     ]
 
 pub returns-clause-entry : goal.returns-clause-entry
 returns-clause-entry c =
-    let all : length c.args.dag.now.parents ≡ c.runs.block = omega (arith, c.runs-test.false, c.len-block-end.ensures.value, c.runs.auto.block-end) in
-    let below : AreBelow c.args.dag.now c.args.target.now c.args.end (length c.args.dag.now.parents) (length c.runs.entries.items) =
-    subst (λ (y : ℕ). AreBelow c.args.dag.now c.args.target.now c.args.end y (length c.runs.entries.items)) (sym all) c.runs.invariant.below in
+    let all : length c.args.growth.now.set.dag.now.parents ≡ c.runs.block = omega (arith, c.runs-test.false, c.len-block-end.ensures.value, c.runs.auto.block-end) in
+    let below : AreBelow c.args.growth.now.set.dag.now c.args.growth.now.set.members.now c.args.end (length c.args.growth.now.set.dag.now.parents) (length c.runs.entries.items) =
+    subst (λ (y : ℕ). AreBelow c.args.growth.now.set.dag.now c.args.growth.now.set.members.now c.args.end y (length c.runs.entries.items)) (sym all) c.runs.invariant.below in
     let long : length c.grow.new.entries.items ≡ c.args.end = omega (arith, c.grow.ensures.long, c.grow.new.entries.ok.0) in
     let so_far =
-    so_far_past c.args.dag.now c.args.from.now c.args.target.now c.args.base.now c.args.pool.now c.runs.pool c.runs.entries.items c.grow.new.entries.items
-    c.requires.grown.into c.runs.invariant.so_far (omega (arith, long, below.ends)) c.grow.ensures.entry c.grow.ensures.held
-    (λ i x z le less at. below_all c.args.dag.now c.args.target.now c.args.end (length c.runs.entries.items) below i x z le at) in
-    entries_end c.args.dag.now c.args.target.now c.args.end c.requires.none c.runs.pool c.grow.new.entries.items long
+    so_far_past c.args.growth.now.set.dag.now c.args.growth.now.before.now c.args.growth.now.set.members.now c.args.base.now c.args.pool.now c.runs.pool c.runs.entries.items c.grow.new.entries.items
+    c.args.growth.now.grown.into c.runs.invariant.so_far (omega (arith, long, below.ends)) c.grow.ensures.entry c.grow.ensures.held
+    (λ i x z le less at. below_all c.args.growth.now.set.dag.now c.args.growth.now.set.members.now c.args.end (length c.runs.entries.items) below i x z le at) in
+    entries_end c.args.growth.now.set.dag.now c.args.growth.now.set.members.now c.args.end c.requires.none c.runs.pool c.grow.new.entries.items long
     (λ j x y less at. so_far.entry j x y (omega (arith, less, long)) at)
 
 pub returns-clause-once : goal.returns-clause-once
@@ -59,5 +59,5 @@ returns-clause-live c =
     omega (
       arith,
       c.runs.invariant.so_far.moved,
-      moved_take_le (graph_of c.args.dag.now) c.args.from.now c.args.target.now (pairs_of c.args.dag.now) (length c.runs.entries.items),
+      moved_take_le (graph_of c.args.growth.now.set.dag.now) c.args.growth.now.before.now c.args.growth.now.set.members.now (pairs_of c.args.growth.now.set.dag.now) (length c.runs.entries.items),
     )

@@ -8,5 +8,5 @@ abbrev pub invariant-pairs : goal.invariant-pairs
 invariant-pairs l = record {
   long : length l.entries.items ≡ l.pair;
   capacity : vec_capacity l.entries ≡ vec_capacity l.fn.entries;
-  so_far : (before : Pool) → AreSoFar l.dag l.from l.target l.base before l.fn.pool l.fn.entries.items → AreSoFar l.dag l.from l.target l.base before l.pool l.entries.items;
+  so_far : (before : Pool) → AreSoFar l.growth.set.dag.now l.growth.before.now l.growth.set.members.now l.base before l.fn.pool l.fn.entries.items → AreSoFar l.growth.set.dag.now l.growth.before.now l.growth.set.members.now l.base before l.pool l.entries.items;
 }

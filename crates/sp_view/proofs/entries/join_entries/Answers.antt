@@ -19,15 +19,15 @@ use Rattle.sp_view.proofs.entries.join_entries.Goals as goal
 
 pub step_entry-step-requires-clause-inside : goal.step_entry-step-requires-clause-inside
 step_entry-step-requires-clause-inside c =
-    let table : Numbered = c.args.dag.now in
+    let table : Numbered = c.args.join.now.set.dag.now in
     let inside : c.pairs.place.pair < length c.pairs.entries.items = omega (arith, c.pairs.entries.ok.0) in
     let listed : c.pairs.place.pair < length (pairs_of table) = omega (arith, c.requires.long) in
     let pair = get_or (pairs_of table) c.pairs.place.pair (0, 0) in
     let at : slice_get (pairs_of table) c.pairs.place.pair ≡ Some (pair.0, pair.1) = some_pair (pairs_of table) c.pairs.place.pair listed in
-    subst (λ (e : Option (ℕ × ℕ)). IfSome e (λ _. c.pairs.place.pair < length c.args.frozen.now.pluses))
+    subst (λ (e : Option (ℕ × ℕ)). IfSome e (λ _. c.pairs.place.pair < length c.args.join.now.set.frozen.now.pluses))
     (sym (c.pairs.invariant.unturned c.pairs.place.pair (omega arith)) ∙ sym (read_at c.pairs.entries.items c.pairs.place.pair c.index-entry.result.now inside c.index-entry.ensures))
-    (if_there (entry_at c.args.entries.now.items c.pairs.place.pair) (pair.1 < c.args.frozen.now.blocks) (c.pairs.place.pair < length c.args.frozen.now.pluses)
-    (c.requires.inside c.pairs.place.pair pair.0 pair.1 at) (λ y_in. c.requires.joined.voting.held.there c.pairs.place.pair pair.0 pair.1 at y_in))
+    (if_there (entry_at c.args.entries.now.items c.pairs.place.pair) (pair.1 < c.args.join.now.set.frozen.now.blocks) (c.pairs.place.pair < length c.args.join.now.set.frozen.now.pluses)
+    (c.requires.inside c.pairs.place.pair pair.0 pair.1 at) (λ y_in. c.args.join.now.joined.voting.held.there c.pairs.place.pair pair.0 pair.1 at y_in))
 
 pub step_entry-step-requires-clause-live : goal.step_entry-step-requires-clause-live
 step_entry-step-requires-clause-live c = λ r.
@@ -37,26 +37,26 @@ step_entry-step-requires-clause-live c = λ r.
 
 pub step_entry-step-requires-clause-entry : goal.step_entry-step-requires-clause-entry
 step_entry-step-requires-clause-entry c = λ x y at.
-    let table : Numbered = c.args.dag.now in
+    let table : Numbered = c.args.join.now.set.dag.now in
     let inside : c.pairs.place.pair < length c.pairs.entries.items = omega (arith, c.pairs.entries.ok.0) in
-    let now : IsEntry (graph_of table) c.args.before.now x y c.pairs.pool (entry_at c.pairs.entries.items c.pairs.place.pair) = rw (le-ltb c.pairs.place.pair c.pairs.place.pair (omega arith)) at (c.pairs.invariant.entry c.pairs.place.pair x y at) in
-    subst (λ (e : Option (ℕ × ℕ)). IsEntry (graph_of table) c.args.before.now x y c.pairs.pool e) (sym (read_at c.pairs.entries.items c.pairs.place.pair c.index-entry.result.now inside c.index-entry.ensures)) now
+    let now : IsEntry (graph_of table) c.args.join.now.before.now x y c.pairs.pool (entry_at c.pairs.entries.items c.pairs.place.pair) = rw (le-ltb c.pairs.place.pair c.pairs.place.pair (omega arith)) at (c.pairs.invariant.entry c.pairs.place.pair x y at) in
+    subst (λ (e : Option (ℕ × ℕ)). IsEntry (graph_of table) c.args.join.now.before.now x y c.pairs.pool e) (sym (read_at c.pairs.entries.items c.pairs.place.pair c.index-entry.result.now inside c.index-entry.ensures)) now
 
 pub step_entry-step-requires-clause-room : goal.step_entry-step-requires-clause-room
 step_entry-step-requires-clause-room c = λ x y at.
-    let pairs = pairs_of c.args.dag.now in
-    let g : Graph = graph_of c.args.dag.now in
+    let pairs = pairs_of c.args.join.now.set.dag.now in
+    let g : Graph = graph_of c.args.join.now.set.dag.now in
     omega (
       arith,
       c.pairs.invariant.room,
       c.requires.room,
-      moved_take g c.args.before.now c.args.members.now pairs c.pairs.place.pair x y at,
-      moved_take_le g c.args.before.now c.args.members.now pairs (c.pairs.place.pair + 1),
+      moved_take g c.args.join.now.before.now c.args.join.now.set.members.now pairs c.pairs.place.pair x y at,
+      moved_take_le g c.args.join.now.before.now c.args.join.now.set.members.now pairs (c.pairs.place.pair + 1),
     )
 
 pub step_entry-step-requires-clause-sum : goal.step_entry-step-requires-clause-sum
 step_entry-step-requires-clause-sum c = λ x y at.
-    subst (λ (o : Option ℤ). IsSum (graph_of c.args.dag.now) c.args.before.now x y o) (sym c.get-sum.ensures)
+    subst (λ (o : Option ℤ). IsSum (graph_of c.args.join.now.set.dag.now) c.args.join.now.before.now x y o) (sym c.get-sum.ensures)
     (rw (le-ltb c.pairs.place.pair c.pairs.place.pair (omega arith)) at (c.pairs.invariant.sums c.pairs.place.pair x y at))
 
 pub note_sum-requires-clause-live : goal.note_sum-requires-clause-live
@@ -76,10 +76,10 @@ pairs-init c = record {
   long = refl;
   unturned = λ j _. refl;
   entry =
-      entries_idle c.args.dag.now c.args.b c.args.before.now c.args.members.now c.requires.joined.joins 0 c.busy_from-place.result.pair (omega arith)
-      (λ k x y at _ less. c.busy_from-place.ensures.idle c.args.before.now k x y at c.requires.joined.joins (omega arith) less)
-      c.args.pool.now c.args.entries.now.items c.requires.joined.row c.requires.joined.voting.asked (λ k x y at. rw (le-ltb k 0 (omega arith)) (c.requires.entry k x y at));
-  kept = λ k x y at. keeps_itself (graph_of c.args.dag.now) c.args.before.now c.args.members.now x y (entry_at c.args.entries.now.items k);
+      entries_idle c.args.join.now.set.dag.now c.args.join.now.b c.args.join.now.before.now c.args.join.now.set.members.now c.args.join.now.joined.joins 0 c.busy_from-place.result.pair (omega arith)
+      (λ k x y at _ less. c.busy_from-place.ensures.idle c.args.join.now.before.now k x y at c.args.join.now.joined.joins (omega arith) less)
+      c.args.pool.now c.args.entries.now.items c.args.join.now.joined.row c.args.join.now.joined.voting.asked (λ k x y at. rw (le-ltb k 0 (omega arith)) (c.requires.entry k x y at));
+  kept = λ k x y at. keeps_itself (graph_of c.args.join.now.set.dag.now) c.args.join.now.before.now c.args.join.now.set.members.now x y (entry_at c.args.entries.now.items k);
   counts = λ r. refl;
   patched_is = refl;
   saved_rows = λ r _. refl;
@@ -93,8 +93,8 @@ pairs-init c = record {
   room = omega arith;
   as_long = refl;
   sums =
-      sums_idle c.args.dag.now c.args.b c.args.before.now c.args.members.now c.requires.joined.joins 0 c.busy_from-place.result.pair (omega arith)
-      (λ k x y at _ less. c.busy_from-place.ensures.idle c.args.before.now k x y at c.requires.joined.joins (omega arith) less)
+      sums_idle c.args.join.now.set.dag.now c.args.join.now.b c.args.join.now.before.now c.args.join.now.set.members.now c.args.join.now.joined.joins 0 c.busy_from-place.result.pair (omega arith)
+      (λ k x y at _ less. c.busy_from-place.ensures.idle c.args.join.now.before.now k x y at c.args.join.now.joined.joins (omega arith) less)
       c.args.sums.now (λ j x y at. rw (le-ltb j 0 (omega arith)) (c.requires.sums j x y at));
 }
 
@@ -111,13 +111,13 @@ turn c =
       step = c.step_entry-step.ensures.step;
     }
 
-passing : (c : goal.After-go_on) → IsPassing c.args.dag.now c.args.b c.args.before.now c.args.members.now c.pairs.place.pair c.go_on.new.place.pair
+passing : (c : goal.After-go_on) → IsPassing c.args.join.now.set.dag.now c.args.join.now.b c.args.join.now.before.now c.args.join.now.set.members.now c.pairs.place.pair c.go_on.new.place.pair
 passing c = record {
-  joins = c.requires.joined.joins;
-  row = c.requires.joined.row;
-  asked = c.requires.joined.voting.asked;
+  joins = c.args.join.now.joined.joins;
+  row = c.args.join.now.joined.row;
+  asked = c.args.join.now.joined.voting.asked;
   later = (let less : c.pairs.place.pair < c.go_on.new.place.pair = c.go_on.ensures.later in omega arith);
-  idle = λ k x y at more less. c.go_on.ensures.idle c.args.before.now k x y at c.requires.joined.joins (omega arith) less;
+  idle = λ k x y at more less. c.go_on.ensures.idle c.args.join.now.before.now k x y at c.args.join.now.joined.joins (omega arith) less;
 }
 
 -- still only so many may be saved as there are entries
@@ -163,7 +163,7 @@ returns c =
     let n : ℕ = vec_len c.args.entries.now in
     record {
       long = c.pairs.invariant.long;
-      entry = entries_end c.args.dag.now c.args.members.now n c.requires.none c.pairs.pool c.pairs.entries.items (omega (arith, c.pairs.entries.ok.0, c.pairs.invariant.long))
+      entry = entries_end c.args.join.now.set.dag.now c.args.join.now.set.members.now n c.requires.none c.pairs.pool c.pairs.entries.items (omega (arith, c.pairs.entries.ok.0, c.pairs.invariant.long))
           (λ j x y less at. rw (lt-ltb j c.pairs.place.pair (omega (arith, less))) at (c.pairs.invariant.entry j x y at));
       kept = c.pairs.invariant.kept;
       counts = c.pairs.invariant.counts;
@@ -172,9 +172,9 @@ returns c =
       others = c.pairs.invariant.others;
       once = c.pairs.invariant.once;
       fresh = c.pairs.invariant.fresh;
-      sums = sums_end c.args.dag.now c.args.members.now n c.requires.none c.args.before.now c.pairs.place.pair c.pairs.sums (omega arith) c.pairs.invariant.sums;
+      sums = sums_end c.args.join.now.set.dag.now c.args.join.now.set.members.now n c.requires.none c.args.join.now.before.now c.pairs.place.pair c.pairs.sums (omega arith) c.pairs.invariant.sums;
       as_long = c.pairs.invariant.as_long;
-      live = omega (arith, c.pairs.invariant.live, moved_take_le (graph_of c.args.dag.now) c.args.before.now c.args.members.now (pairs_of c.args.dag.now) c.pairs.place.pair);
+      live = omega (arith, c.pairs.invariant.live, moved_take_le (graph_of c.args.join.now.set.dag.now) c.args.join.now.before.now c.args.join.now.set.members.now (pairs_of c.args.join.now.set.dag.now) c.pairs.place.pair);
     }
 
 pub step_entry-step-requires-clause-few : goal.step_entry-step-requires-clause-few

@@ -13,69 +13,63 @@ use Rattle.sp_view.proofs.TwoRows.{frozen_among}
 use Rattle.sp_view.proofs.missing.asked_by_growth.Goals as goal
 
 pub loose_of-loose-requires-clause-small : goal.loose_of-loose-requires-clause-small
-loose_of-loose-requires-clause-small c = λ z h. (let lt = c.requires.grown.voting.below z (c.requires.growth.within z h) in omega (arith, lt, c.len-blocks.ensures.numbered.small))
-
-pub opened_by-voters-requires-clause-below : goal.opened_by-voters-requires-clause-below
-opened_by-voters-requires-clause-below c = λ b h. c.requires.grown.voting.below b (c.requires.growth.member b h)
+loose_of-loose-requires-clause-small c = λ z h. (let lt = c.args.growth.now.grown.voting.below z (c.args.growth.now.growth.within z h) in omega (arith, lt, c.len-blocks.ensures.numbered.small))
 
 pub opened_by-voters-requires-clause-small : goal.opened_by-voters-requires-clause-small
 opened_by-voters-requires-clause-small c = λ z h.
-    let pair = get_or (pairs_of c.args.dag.now) c.args.pair (0, 0) in
-    let is = c.loose_of-loose.ensures pair.0 pair.1 (some_pair (pairs_of c.args.dag.now) c.args.pair c.requires.listed) z in
-    let lt = c.requires.grown.voting.below z (c.requires.growth.within z (and_parts (has c.args.growth.now.below z) (is_loose (graph_of c.args.dag.now) z pair.0 pair.1) (sym is ∙ h)).0) in
+    let pair = get_or (pairs_of c.args.growth.now.set.dag.now) c.args.pair (0, 0) in
+    let is = c.loose_of-loose.ensures pair.0 pair.1 (some_pair (pairs_of c.args.growth.now.set.dag.now) c.args.pair c.requires.listed) z in
+    let lt = c.args.growth.now.grown.voting.below z (c.args.growth.now.growth.within z (and_parts (has c.args.growth.now.below.now z) (is_loose (graph_of c.args.growth.now.set.dag.now) z pair.0 pair.1) (sym is ∙ h)).0) in
     omega (arith, lt, c.len-blocks.ensures.numbered.small)
-
-pub opened_by-others-requires-clause-below : goal.opened_by-others-requires-clause-below
-opened_by-others-requires-clause-below c = λ b h. c.requires.grown.voting.below b (c.requires.growth.member b h)
 
 pub opened_by-others-requires-clause-small : goal.opened_by-others-requires-clause-small
 opened_by-others-requires-clause-small c = λ z h.
-    let pair = get_or (pairs_of c.args.dag.now) c.args.pair (0, 0) in
-    let is = c.loose_of-loose.ensures pair.0 pair.1 (some_pair (pairs_of c.args.dag.now) c.args.pair c.requires.listed) z in
-    let lt = c.requires.grown.voting.below z (c.requires.growth.within z (and_parts (has c.args.growth.now.below z) (is_loose (graph_of c.args.dag.now) z pair.0 pair.1) (sym is ∙ h)).0) in
+    let pair = get_or (pairs_of c.args.growth.now.set.dag.now) c.args.pair (0, 0) in
+    let is = c.loose_of-loose.ensures pair.0 pair.1 (some_pair (pairs_of c.args.growth.now.set.dag.now) c.args.pair c.requires.listed) z in
+    let lt = c.args.growth.now.grown.voting.below z (c.args.growth.now.growth.within z (and_parts (has c.args.growth.now.below.now z) (is_loose (graph_of c.args.growth.now.set.dag.now) z pair.0 pair.1) (sym is ∙ h)).0) in
     omega (arith, lt, c.len-blocks.ensures.numbered.small)
 
 pub returns-clause-within : goal.returns-clause-within
 returns-clause-within c = λ z h.
-    let pair = get_or (pairs_of c.args.dag.now) c.args.pair (0, 0) in
-    let is : (z : ℕ) → has c.loose_of-loose.result z ≡ (has c.args.growth.now.below z && is_loose (graph_of c.args.dag.now) z pair.0 pair.1) =
-    c.loose_of-loose.ensures pair.0 pair.1 (some_pair (pairs_of c.args.dag.now) c.args.pair c.requires.listed) in
-    let into : (z : ℕ) → has c.loose_of-loose.result z ≡ true → has c.args.target.now z ≡ true =
-    λ z h. c.requires.growth.within z (and_parts (has c.args.growth.now.below z) (is_loose (graph_of c.args.dag.now) z pair.0 pair.1) (sym (is z) ∙ h)).0 in
-    let below : (z : ℕ) → has c.args.target.now z ≡ true → z < 512 = λ z h. (let lt = c.requires.grown.voting.below z h in omega (arith, lt, c.len-blocks.ensures.numbered.small)) in
+    let pair = get_or (pairs_of c.args.growth.now.set.dag.now) c.args.pair (0, 0) in
+    let is : (z : ℕ) → has c.loose_of-loose.result z ≡ (has c.args.growth.now.below.now z && is_loose (graph_of c.args.growth.now.set.dag.now) z pair.0 pair.1) =
+    c.loose_of-loose.ensures pair.0 pair.1 (some_pair (pairs_of c.args.growth.now.set.dag.now) c.args.pair c.requires.listed) in
+    let into : (z : ℕ) → has c.loose_of-loose.result z ≡ true → has c.args.growth.now.set.members.now z ≡ true =
+    λ z h. c.args.growth.now.growth.within z (and_parts (has c.args.growth.now.below.now z) (is_loose (graph_of c.args.growth.now.set.dag.now) z pair.0 pair.1) (sym (is z) ∙ h)).0 in
+    let below : (z : ℕ) → has c.args.growth.now.set.members.now z ≡ true → z < 512 = λ z h. (let lt = c.args.growth.now.grown.voting.below z h in omega (arith, lt, c.len-blocks.ensures.numbered.small)) in
     both_parts c.opened_by-voters.result c.opened_by-others.result c.or_with.new.self
-    (λ z h. below z (into z (c.opened_by-voters.ensures.within z h))) (λ z h. below z (into z (c.opened_by-others.ensures.within z h))) c.or_with.ensures (has c.args.target.now z ≡ true) z
+    (λ z h. below z (into z (c.opened_by-voters.ensures.within z h))) (λ z h. below z (into z (c.opened_by-others.ensures.within z h))) c.or_with.ensures (has c.args.growth.now.set.members.now z ≡ true) z
     (λ h. into z (c.opened_by-voters.ensures.within z h)) (λ h. into z (c.opened_by-others.ensures.within z h)) h
 
 pub returns-clause-kept : goal.returns-clause-kept
 returns-clause-kept c = λ x y at sides.
-    let table : Numbered = c.args.dag.now in
+    let table : Numbered = c.args.growth.now.set.dag.now in
     let g : Graph = graph_of table in
     let kind : IsPair table (x, y) = pair_kind table c.args.pair (x, y) at in
     let apart : x ≢ y = λ e. (let le : x < y = kind.order in omega arith) in
-    let below : (z : ℕ) → has c.args.target.now z ≡ true → z < 512 = λ z h. (let lt = c.requires.grown.voting.below z h in omega (arith, lt, c.len-blocks.ensures.numbered.small)) in
-    let is : (z : ℕ) → has c.loose_of-loose.result z ≡ (has c.args.growth.now.below z && is_loose g z x y) = c.loose_of-loose.ensures x y at in
-    let parts : (z : ℕ) → has c.loose_of-loose.result z ≡ true → (has c.args.growth.now.below z ≡ true) × (is_loose g z x y ≡ true) =
-    λ z h. and_parts (has c.args.growth.now.below z) (is_loose g z x y) (sym (is z) ∙ h) in
-    let into : (z : ℕ) → has c.loose_of-loose.result z ≡ true → has c.args.target.now z ≡ true = λ z h. c.requires.growth.within z (parts z h).0 in
-    let frozen : AreFrozen g c.args.target.now x y c.plus.result.now c.minus.result.now =
-    rw (c.plus.ensures, c.minus.ensures) (frozen_among table c.args.frozen.now c.args.target.now c.args.pair x y c.requires.grown.voting.held at c.requires.inside c.requires.grown.voting.added) in
+    let below : (z : ℕ) → has c.args.growth.now.set.members.now z ≡ true → z < 512 = λ z h. (let lt = c.args.growth.now.grown.voting.below z h in omega (arith, lt, c.len-blocks.ensures.numbered.small)) in
+    let is : (z : ℕ) → has c.loose_of-loose.result z ≡ (has c.args.growth.now.below.now z && is_loose g z x y) = c.loose_of-loose.ensures x y at in
+    let parts : (z : ℕ) → has c.loose_of-loose.result z ≡ true → (has c.args.growth.now.below.now z ≡ true) × (is_loose g z x y ≡ true) =
+    λ z h. and_parts (has c.args.growth.now.below.now z) (is_loose g z x y) (sym (is z) ∙ h) in
+    let into : (z : ℕ) → has c.loose_of-loose.result z ≡ true → has c.args.growth.now.set.members.now z ≡ true = λ z h. c.args.growth.now.growth.within z (parts z h).0 in
+    let frozen : AreFrozen g c.args.growth.now.set.members.now x y c.plus.result.now c.minus.result.now =
+    rw (c.plus.ensures, c.minus.ensures) (frozen_among table c.args.growth.now.set.frozen.now c.args.growth.now.set.members.now c.args.pair x y c.args.growth.now.grown.voting.held at c.requires.inside c.args.growth.now.grown.voting.added) in
     let small : (z : ℕ) → has c.opened_by-voters.result z ≡ true → z < 512 = λ z h. below z (into z (c.opened_by-voters.ensures.within z h)) in
     let small' : (z : ℕ) → has c.opened_by-others.result z ≡ true → z < 512 = λ z h. below z (into z (c.opened_by-others.ensures.within z h)) in (
       record {
-        member = λ z h. both_parts c.opened_by-voters.result c.opened_by-others.result c.or_with.new.self small small' c.or_with.ensures (has c.args.target.now z ≡ true) z
+        member = λ z h. both_parts c.opened_by-voters.result c.opened_by-others.result c.or_with.new.self small small' c.or_with.ensures (has c.args.growth.now.set.members.now z ≡ true) z
             (λ h. into z (c.opened_by-voters.ensures.within z h)) (λ h. into z (c.opened_by-others.ensures.within z h)) h;
         loose = λ z h. both_parts c.opened_by-voters.result c.opened_by-others.result c.or_with.new.self small small' c.or_with.ensures (is_loose g z x y ≡ true) z
             (λ h. (parts z (c.opened_by-voters.ensures.within z h)).1) (λ h. (parts z (c.opened_by-others.ensures.within z h)).1) h;
       },
-      several_kept g c.args.from.now c.args.target.now x y c.plus.result.now c.minus.result.now (row_of c.args.pool.now c.args.entry.now.0) (row_of c.args.pool.now c.args.entry.now.1) c.or_with.new.self
-          (downset_numbered table c.len-blocks.ensures.numbered.order) apart c.requires.grown.asked c.requires.grown.voting.asked c.requires.grown.into frozen sides
+      several_kept g c.args.growth.now.before.now c.args.growth.now.set.members.now x y c.plus.result.now c.minus.result.now (row_of c.args.pool.now c.args.entry.now.0) (row_of c.args.pool.now c.args.entry.now.1) c.or_with.new.self
+          (downset_numbered table c.len-blocks.ensures.numbered.order) apart c.args.growth.now.grown.asked c.args.growth.now.grown.voting.asked c.args.growth.now.grown.into frozen sides
           (λ b z member new voter r free out.
-          (let joins : has c.args.growth.now.blocks b ≡ true = c.requires.growth.all b member new in
+          (let joins : has c.args.growth.now.blocks.now b ≡ true = c.args.growth.now.growth.all b member new in
           first_in c.opened_by-voters.result c.opened_by-others.result c.or_with.new.self small small' c.or_with.ensures z
-          (c.opened_by-voters.ensures.covers b z joins voter r (is z ∙ and_from (has c.args.growth.now.below z) (is_loose g z x y) (c.requires.growth.covers b z joins r) free) out)))
+          (c.opened_by-voters.ensures.covers b z joins voter r (is z ∙ and_from (has c.args.growth.now.below.now z) (is_loose g z x y) (c.args.growth.now.growth.covers b z joins r) free) out)))
           (λ b z member new voter r free out.
-          (let joins : has c.args.growth.now.blocks b ≡ true = c.requires.growth.all b member new in
+          (let joins : has c.args.growth.now.blocks.now b ≡ true = c.args.growth.now.growth.all b member new in
           second_in c.opened_by-voters.result c.opened_by-others.result c.or_with.new.self small small' c.or_with.ensures z
-          (c.opened_by-others.ensures.covers b z joins voter r (is z ∙ and_from (has c.args.growth.now.below z) (is_loose g z x y) (c.requires.growth.covers b z joins r) free) out))),
+          (c.opened_by-others.ensures.covers b z joins voter r (is z ∙ and_from (has c.args.growth.now.below.now z) (is_loose g z x y) (c.args.growth.now.growth.covers b z joins r) free) out))),
     )

@@ -11,7 +11,7 @@ pub sum_after-requires-clause-sum : goal.sum_after-requires-clause-sum
 sum_after-requires-clause-sum c = λ x y at inside.
     let f : FitsSigned w32 c.in-Some.sum = search rules in
     to_z-of_z w32 c.in-Some.sum f
-    ∙ subst (λ (o : Option ℤ). IsSum (graph_of c.args.dag.now) c.args.before.now x y o) (sym c.get.ensures ∙ c.in-Some.is) (c.requires.sum x y at) inside
+    ∙ subst (λ (o : Option ℤ). IsSum (graph_of c.args.join.now.set.dag.now) c.args.join.now.before.now x y o) (sym c.get.ensures ∙ c.in-Some.is) (c.requires.sum x y at) inside
 
 pub set-requires : goal.set-requires
 set-requires c = slice_get_within c.args.sums.now c.args.pair c.in-Some.sum (sym c.get.ensures ∙ c.in-Some.is)

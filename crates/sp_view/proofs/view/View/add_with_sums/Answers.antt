@@ -18,12 +18,22 @@ use Rattle.sp_view.proofs.view.View.add_with_sums.Goals as goal
 pub returns-in_err-reserve-2-clause-others : goal.returns-in_err-reserve-2-clause-others
 returns-in_err-reserve-2-clause-others c = λ r _. row_of_words c.args.pool.now c.reserve-2.new.self r (ap (λ (l : List Counted). words_of l r) c.in_err-reserve-2.ensures.rows)
 
-pub join_entries-requires-clause-joined : goal.join_entries-requires-clause-joined
-join_entries-requires-clause-joined c =
+pub invariant_of-set : goal.invariant_of-set
+invariant_of-set c =
     let more : c.set.new.self ≡ places_where (λ p. has c.args.self.now.members p || eqb p c.args.b) = c.set.ensures ∙ ap (λ (v : Viewed). places_where (λ p. has v.members p || eqb p c.args.b)) c.self.view_is in
-    subst (λ (s : List ℕ). IsJoined c.args.dag.now c.args.frozen.now c.args.b s c.set.new.self) (sym (ap (λ (v : Viewed). v.members) c.self.view_is))
-    (view_joined c.args.dag.now c.args.frozen.now c.args.self.now c.args.pool.now c.args.b c.set.new.self c.len-blocks.ensures.numbered.small
-    c.requires.view c.requires.frozen c.requires.added c.requires.b_added c.requires.new c.requires.past more)
+    record {
+      voting = (view_joined c.args.dag.now c.args.frozen.now c.args.self.now c.args.pool.now c.args.b c.set.new.self c.len-blocks.ensures.numbered.small
+          c.requires.view c.requires.frozen c.requires.added c.requires.b_added c.requires.new c.requires.past more).voting;
+    }
+
+pub invariant_of-join : goal.invariant_of-join
+invariant_of-join c =
+    let more : c.set.new.self ≡ places_where (λ p. has c.args.self.now.members p || eqb p c.args.b) = c.set.ensures ∙ ap (λ (v : Viewed). places_where (λ p. has v.members p || eqb p c.args.b)) c.self.view_is in
+    record {
+      joined = subst (λ (s : List ℕ). IsJoined c.args.dag.now c.args.frozen.now c.args.b s c.set.new.self) (sym (ap (λ (v : Viewed). v.members) c.self.view_is))
+          (view_joined c.args.dag.now c.args.frozen.now c.args.self.now c.args.pool.now c.args.b c.set.new.self c.len-blocks.ensures.numbered.small
+          c.requires.view c.requires.frozen c.requires.added c.requires.b_added c.requires.new c.requires.past more);
+    }
 
 pub join_entries-requires-clause-entry : goal.join_entries-requires-clause-entry
 join_entries-requires-clause-entry c =

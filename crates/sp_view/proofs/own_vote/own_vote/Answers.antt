@@ -12,7 +12,7 @@ use Rattle.sp_model.specs.Loose.{is_loose, is_plus, is_minus}
 use Rattle.sp_model.specs.Votes.{vote}
 use Rattle.sp_view.proofs.JoinedVotes.{vote_first, vote_second, vote_neither, vote_both}
 use Rattle.sp_view.proofs.TwoRows.{pair_same}
-use Rattle.sp_view.proofs.joining.joining_vote.Goals as goal
+use Rattle.sp_view.proofs.own_vote.own_vote.Goals as goal
 
 -- what is told of a pair's block, by the same number
 read : (table : Numbered) (b x x' : ℕ) (r v : Bool) → x' ≡ x → r ≡ in_past (graph_of table) x b → r ≡ v → in_past (graph_of table) x' b ≡ v
@@ -31,45 +31,45 @@ read_frozen table frozen i x y b plus minus holds at listed added e e' =
 
 pub in_past-first-requires-clause-a_in : goal.in_past-first-requires-clause-a_in
 in_past-first-requires-clause-a_in c =
-    let kind : IsPair c.args.dag.now (c.args.x, c.args.place.now.second) = pair_kind c.args.dag.now c.args.place.now.pair (c.args.x, c.args.place.now.second) c.requires.pair in
+    let kind : IsPair c.args.join.now.set.dag.now (c.args.x, c.args.place.now.second) = pair_kind c.args.join.now.set.dag.now c.args.place.now.pair (c.args.x, c.args.place.now.second) c.requires.pair in
     let less : c.args.x < c.args.place.now.second = kind.order in
-    let within : c.args.place.now.second < length c.args.dag.now.parents = kind.within in
+    let within : c.args.place.now.second < length c.args.join.now.set.dag.now.parents = kind.within in
     omega (arith, less, within)
 
 pub returns-then-first : goal.returns-then-first
-returns-then-first c = λ before more x y at j inside.
-    let table : Numbered = c.args.dag.now in
+returns-then-first c = λ x y at inside.
+    let table : Numbered = c.args.join.now.set.dag.now in
     let listed : c.args.place.now.pair < length (pairs_of table) = slice_get_within (pairs_of table) c.args.place.now.pair (x, y) at in
     let same = pair_same (pairs_of table) c.args.place.now.pair x y (c.args.x, c.args.place.now.second) at c.requires.pair in
-    sym (vote_first (graph_of table) c.args.b before more x y j inside
-    (read table c.args.b c.args.x x c.in_past-first.result _ same.0 c.in_past-first.ensures c.if-first.true)
-    (read table c.args.b c.args.place.now.second y c.args.place.now.above _ same.1 (c.requires.place.above_is listed) c.if-not-place.true))
+    sym (vote_first (graph_of table) c.args.join.now.b c.args.join.now.before.now c.args.join.now.set.members.now x y c.args.join.now.joined.joins inside
+    (read table c.args.join.now.b c.args.x x c.in_past-first.result _ same.0 c.in_past-first.ensures c.if-first.true)
+    (read table c.args.join.now.b c.args.place.now.second y c.args.place.now.above _ same.1 (c.requires.place.above_is listed) c.if-not-place.true))
 
 pub returns-else-first : goal.returns-else-first
-returns-else-first c = λ before more x y at j inside.
-    let table : Numbered = c.args.dag.now in
+returns-else-first c = λ x y at inside.
+    let table : Numbered = c.args.join.now.set.dag.now in
     let listed : c.args.place.now.pair < length (pairs_of table) = slice_get_within (pairs_of table) c.args.place.now.pair (x, y) at in
     let same = pair_same (pairs_of table) c.args.place.now.pair x y (c.args.x, c.args.place.now.second) at c.requires.pair in
-    sym (vote_neither (graph_of table) c.args.b before more x y j inside
-    (read table c.args.b c.args.x x c.in_past-first.result _ same.0 c.in_past-first.ensures c.if-first.false)
-    (read table c.args.b c.args.place.now.second y c.args.place.now.above _ same.1 (c.requires.place.above_is listed) c.if-not-place.true))
+    sym (vote_neither (graph_of table) c.args.join.now.b c.args.join.now.before.now c.args.join.now.set.members.now x y c.args.join.now.joined.joins inside
+    (read table c.args.join.now.b c.args.x x c.in_past-first.result _ same.0 c.in_past-first.ensures c.if-first.false)
+    (read table c.args.join.now.b c.args.place.now.second y c.args.place.now.above _ same.1 (c.requires.place.above_is listed) c.if-not-place.true))
 
 pub returns-then-not-first : goal.returns-then-not-first
-returns-then-not-first c = λ before more x y at j inside.
-    let table : Numbered = c.args.dag.now in
+returns-then-not-first c = λ x y at inside.
+    let table : Numbered = c.args.join.now.set.dag.now in
     let listed : c.args.place.now.pair < length (pairs_of table) = slice_get_within (pairs_of table) c.args.place.now.pair (x, y) at in
     let same = pair_same (pairs_of table) c.args.place.now.pair x y (c.args.x, c.args.place.now.second) at c.requires.pair in
-    sym (vote_second (graph_of table) c.args.b before more x y j inside
-    (read table c.args.b c.args.x x c.in_past-first.result _ same.0 c.in_past-first.ensures c.if-not-first.true)
-    (read table c.args.b c.args.place.now.second y c.args.place.now.above _ same.1 (c.requires.place.above_is listed) c.if-not-place.false))
+    sym (vote_second (graph_of table) c.args.join.now.b c.args.join.now.before.now c.args.join.now.set.members.now x y c.args.join.now.joined.joins inside
+    (read table c.args.join.now.b c.args.x x c.in_past-first.result _ same.0 c.in_past-first.ensures c.if-not-first.true)
+    (read table c.args.join.now.b c.args.place.now.second y c.args.place.now.above _ same.1 (c.requires.place.above_is listed) c.if-not-place.false))
 
 pub returns : goal.returns
-returns c = λ before more x y at j inside.
-    let table : Numbered = c.args.dag.now in
+returns c = λ x y at inside.
+    let table : Numbered = c.args.join.now.set.dag.now in
     let f : FitsSigned w32 c.vote_of.result = search rules in
     let same = pair_same (pairs_of table) c.args.place.now.pair x y (c.args.x, c.args.place.now.second) at c.requires.pair in
-    let rows = read_frozen table c.args.frozen.now c.args.place.now.pair x y c.args.b c.plus.result.now c.minus.result.now c.requires.held at c.requires.inside c.requires.added c.plus.ensures c.minus.ensures in
+    let rows = read_frozen table c.args.join.now.set.frozen.now c.args.place.now.pair x y c.args.join.now.b c.plus.result.now c.minus.result.now c.args.join.now.joined.voting.held at c.requires.inside (c.args.join.now.joined.voting.added c.args.join.now.b c.args.join.now.joined.joins.there) c.plus.ensures c.minus.ensures in
     to_z-of_z w32 c.vote_of.result f ∙ c.vote_of.ensures
-    ∙ sym (vote_both (graph_of table) c.args.b before more x y j inside (has c.plus.result.now c.args.b) (has c.minus.result.now c.args.b) (downset_numbered table c.len-blocks.ensures.numbered.order)
-    (read table c.args.b c.args.x x c.in_past-first.result _ same.0 c.in_past-first.ensures c.if-not-first.false)
+    ∙ sym (vote_both (graph_of table) c.args.join.now.b c.args.join.now.before.now c.args.join.now.set.members.now x y c.args.join.now.joined.joins inside (has c.plus.result.now c.args.join.now.b) (has c.minus.result.now c.args.join.now.b) (downset_numbered table c.len-blocks.ensures.numbered.order)
+    (read table c.args.join.now.b c.args.x x c.in_past-first.result _ same.0 c.in_past-first.ensures c.if-not-first.false)
     rows.0 rows.1)
