@@ -8,6 +8,7 @@ pub mod Bound
 pub mod JoinedRows
 pub mod Several
 pub mod Opened
+pub mod OneSide
 pub mod Reached
 pub mod Opening
 pub mod SameRows

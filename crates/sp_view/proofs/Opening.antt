@@ -27,6 +27,14 @@ pub left_from : (row other left : List ℕ) (z : ℕ) → (has row z ≡ true �
 left_from row other left z small e h =
     (and_parts (has row z) (not (has other z)) (sym (ap (λ (l : List ℕ). has l z) e ∙ has_difference row other z small) ∙ h)).0
 
+pub left_out : (row other left : List ℕ) (z : ℕ) → (has row z ≡ true → z < 512) → left ≡ difference row other → has left z ≡ true → has other z ≡ false
+left_out row other left z small e h =
+    not_true (has other z) (and_parts (has row z) (not (has other z)) (sym (ap (λ (l : List ℕ). has l z) e ∙ has_difference row other z small) ∙ h)).1
+  where
+    not_true : (b : Bool) → not b ≡ true → b ≡ false
+    not_true true h = sym h
+    not_true false h = refl
+
 -- a set that holds the past of each member holds what has members above it
 pub above_within : (g : Graph) (set : List ℕ) (test : ℕ → Bool) → IsDownset g set → ((b : ℕ) → test b ≡ true → has set b ≡ true) → (z : ℕ) → HasAbove g test z → has set z ≡ true
 above_within g set test down among z above = down.closed above.0 z (among above.0 above.1) above.2

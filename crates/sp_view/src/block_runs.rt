@@ -85,9 +85,7 @@ fn derive_block(
     let start = dag.first_pair(block).min(end);
     let stop = dag.first_pair(block + 1).min(end);
     grow(entries, start as usize);
-    derive_run(
-        growth, pool, base, start, stop, entries,
-    )
+    derive_run(growth, pool, base, start, stop, entries)
 }
 
 // The entries of the view of a set, from those of the view of a set within it: up to a number from which no
@@ -123,9 +121,7 @@ pub(crate) fn derive_entries(
     let set = &growth.set;
     'runs: for block in 0..set.dag.len() {
         if set.members.test(block) {
-            derive_block(
-                growth, pool, base, block, end, entries,
-            )?;
+            derive_block(growth, pool, base, block, end, entries)?;
         }
     }
     grow(entries, end as usize);

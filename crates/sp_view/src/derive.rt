@@ -9,7 +9,7 @@ ghost use Rattle.sp_view.specs.Views.{holds, moved_of, IsEntry, IsOnce, KeepIds}
 use crate::anew::rows_anew;
 use crate::asking::{has_both, is_none};
 use crate::growth::Growth;
-use crate::missing::asked_by_growth;
+use crate::missing::{asked_by_growth, one_side};
 use crate::new_pairs::new_entry;
 use crate::pair_rows::Sides;
 use crate::sharing::share_entry;
@@ -96,7 +96,8 @@ fn old_entry(
         return Ok(entry);
     }
     pool.reserve(2)?;
-    let new = rows_anew(&growth.set, pool, pair, &entry, &todo, None);
+    let up = one_side(growth, pair);
+    let new = rows_anew(&growth.set, pool, pair, &entry, &todo, up);
     Ok(shared_entry(pool, entry, &new))
 }
 

@@ -1,15 +1,18 @@
-//! Which votes on an old pair are asked anew when several blocks join the set at once: those of the
+//! Which votes on an old pair may change when several blocks join the set at once: those of the
 //! loose voters in the past of a frozen block that joins, unless they vote as that block does. The two
-//! sides are looked at apart. Where there are none, the pair stays as it is.
+//! sides are looked at apart. Where there are none, the pair stays as it is. Where these blocks vote for one side alone, the voters
+//! that voted for neither vote for it now (`risen` in `anew.rt`), and only those that voted against it are asked.
 
-ghost use Rattle.std.specs.Prelude.{◌≡◌, ◌<◌, ◌≤◌, ◌&&◌, ℕ, List, length, IsTrue, IsFalse, slice_get, Some};
+ghost use Rattle.std.specs.Prelude.{◌≡◌, ◌<◌, ◌≤◌, ◌&&◌, ℕ, List, length, IfSome, IsTrue, IsFalse, slice_get, Some};
 ghost use Rattle.sp_bits.specs.Places.{difference};
 ghost use Rattle.sp_model.specs.Graph.{has, in_past};
 ghost use Rattle.sp_model.specs.Loose.{is_loose};
 ghost use Rattle.sp_dag.specs.Numbered.{graph_of, pairs_of};
 ghost use Rattle.sp_view.specs.Stored.{count_of, row_of};
+ghost use Rattle.sp_view.specs.Seen.{HasAbove};
 ghost use Rattle.sp_view.specs.Settled.{AreKept, AreOpen, AreSides};
 ghost use Rattle.sp_view.specs.Views.{holds};
+ghost use Rattle.sp_view.specs.Voting.{is_voter, opposed};
 
 use crate::asking::is_none;
 use crate::growth::Growth;
@@ -38,31 +41,37 @@ fn loose_of(dag: &Dag, voters: &Row, pair: u32) -> Row
     loose
 }
 
+// The blocks that join among the voters of one side.
+fn voting_for(growth: &Growth, voters: &Row) -> Row
+    ensures only { (b : ℕ) → IsTrue (has result b) →
+        IsTrue (has growth.now.blocks.now b) × IsTrue (has voters.now b) }
+    ensures all { (b : ℕ) → IsTrue (has growth.now.blocks.now b) → IsTrue (has voters.now b) → IsTrue (has result b) }
+{
+    // Tells the proof that there are at most 512 blocks.
+    let _blocks = growth.set.dag.len();
+    let mut joining = *growth.blocks;
+    joining.and_with(voters);
+    joining
+}
+
 // Those of the loose voters that the blocks which join among the voters of one side have in their pasts, without those of
 // that side, which vote so already. Where all of them do, or no such block joins, there are none.
-fn opened_by(
-    growth: &Growth,
-    pool: &RowPool,
-    loose: &Row,
-    voters: &Row,
-    side: RowName,
-) -> Row
+fn opened_by(growth: &Growth, pool: &RowPool, loose: &Row, voters: &Row, side: RowName) -> Row
     requires live { 0 < count_of pool.now side }
     requires small { (z : ℕ) → IsTrue (has loose.now z) → z < 512 }
     ensures covers { (b z : ℕ) → IsTrue (has growth.now.blocks.now b) → IsTrue (has voters.now b) →
         IsTrue (in_past (graph_of growth.now.set.dag.now) z b) → IsTrue (has loose.now z) →
         IsFalse (has (row_of pool.now side) z) → IsTrue (has result z) }
     ensures within { (z : ℕ) → IsTrue (has result z) → IsTrue (has loose.now z) }
+    ensures only { (z : ℕ) → IsTrue (has result z) → HasAbove (graph_of growth.now.set.dag.now)
+        (λ b. has growth.now.blocks.now b && has voters.now b) z }
 {
-    // Tells the proof that there are at most 512 blocks.
-    let _blocks = growth.set.dag.len();
     let mut open = *loose;
     open.without(&row_at(pool, side));
     if is_none(&open) {
         return open;
     }
-    let mut joining = *growth.blocks;
-    joining.and_with(voters);
+    let joining = voting_for(growth, voters);
     if is_none(&joining) {
         return joining;
     }
@@ -70,8 +79,7 @@ fn opened_by(
     open
 }
 
-// The voters of an old pair whose votes are asked anew when the set grows. Where there are none, the
-// pair stays as it is.
+// The voters of an old pair whose votes may change when the set grows. Where there are none, the pair stays as it is.
 pub(crate) fn asked_by_growth(
     growth: &Growth,
     pool: &RowPool,
@@ -82,6 +90,8 @@ pub(crate) fn asked_by_growth(
     requires inside { pair < length growth.now.set.frozen.now.pluses }
     requires live { (r : ℕ) → holds (Some entry.now) r ≤ count_of pool.now r }
     ensures within { (z : ℕ) → IsTrue (has result z) → IsTrue (has growth.now.set.members.now z) }
+    ensures above { (z : ℕ) → IsTrue (has result z) → HasAbove (graph_of growth.now.set.dag.now)
+        (λ b. has growth.now.blocks.now b && is_voter growth.now.set.frozen.now pair b) z }
     ensures kept { (x y : ℕ) → slice_get (pairs_of growth.now.set.dag.now) pair ≡ Some (x, y) →
         AreSides (graph_of growth.now.set.dag.now) growth.now.before.now x y
         (row_of pool.now entry.now.0) (row_of pool.now entry.now.1) →
@@ -98,4 +108,16 @@ pub(crate) fn asked_by_growth(
     let others = opened_by(growth, pool, &loose, set.frozen.minus(pair), entry.1);
     voters.or_with(&others);
     voters
+}
+
+// The side for which all those of the blocks that join vote which are frozen on a pair, +1 or else -1. Where both sides have some of
+// them, or neither has, there is none.
+pub(crate) fn one_side(growth: &Growth, pair: u32) -> Option<bool>
+    requires inside { pair < length growth.now.set.frozen.now.pluses }
+    ensures { IfSome result (λ up. (b : ℕ) → IsTrue (has growth.now.blocks.now b) →
+        IsFalse (has (opposed growth.now.set.frozen.now pair up) b)) }
+{
+    let ups = is_none(&voting_for(growth, growth.set.frozen.plus(pair)));
+    let downs = is_none(&voting_for(growth, growth.set.frozen.minus(pair)));
+    if ups == downs { None } else { Some(downs) }
 }

@@ -123,9 +123,7 @@ pub(crate) fn joined_entry(
     }
     let pair = place.pair;
     match asked(join, pool, place, x, &entry, own > 0) {
-        Some(todo) => opened_entry(
-            join, pool, saved, pair, entry, &todo, own, sum,
-        ),
+        Some(todo) => opened_entry(join, pool, saved, pair, entry, &todo, own, sum),
         None => Joined {
             plus: entry.0,
             minus: entry.1,

@@ -32,5 +32,9 @@ pub(crate) fn own_vote(join: &Joining, place: &Place, x: u16) -> i32
     if !first {
         return 1;
     }
-    vote_of(join.b, set.frozen.plus(place.pair), set.frozen.minus(place.pair))
+    vote_of(
+        join.b,
+        set.frozen.plus(place.pair),
+        set.frozen.minus(place.pair),
+    )
 }

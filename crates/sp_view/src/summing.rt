@@ -17,13 +17,7 @@ use crate::tally::tally;
 use sp_rows::RowPool;
 
 // The sum of a pair's votes after the block joined, from that before. Where the pair isn't inside the set it is any number.
-fn sum_after(
-    join: &Joining,
-    pool: &RowPool,
-    pair: u32,
-    step: &Step,
-    sum: i32,
-) -> i32
+fn sum_after(join: &Joining, pool: &RowPool, pair: u32, step: &Step, sum: i32) -> i32
     requires listed { pair < length (pairs_of join.now.set.dag.now) }
     requires live { (r : ℕ) → holds step.now.entry r ≤ count_of pool.now r }
     requires entry { (x y : ℕ) → slice_get (pairs_of join.now.set.dag.now) pair ≡ Some (x, y) →
@@ -54,13 +48,7 @@ fn sum_after(
 }
 
 // Writes the sum of a pair after the block joined, where sums are kept.
-pub(crate) fn note_sum(
-    join: &Joining,
-    pool: &RowPool,
-    pair: u32,
-    step: &Step,
-    sums: &mut Sums,
-)
+pub(crate) fn note_sum(join: &Joining, pool: &RowPool, pair: u32, step: &Step, sums: &mut Sums)
     requires listed { pair < length (pairs_of join.now.set.dag.now) }
     requires live { (r : ℕ) → holds step.now.entry r ≤ count_of pool.now r }
     requires entry { (x y : ℕ) → slice_get (pairs_of join.now.set.dag.now) pair ≡ Some (x, y) →

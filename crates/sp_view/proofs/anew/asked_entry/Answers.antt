@@ -86,13 +86,13 @@ returns-clause-rows c =
       sides = λ x y at.
           let new : AreSides (graph_of c.args.join.now.set.dag.now) c.args.join.now.set.members.now x y c.rows_anew-new.result.plus c.rows_anew-new.result.minus =
           sides_told c.args.join.now.set.dag.now c.args.join.now.b c.args.join.now.before.now c.args.join.now.set.members.now c.args.pair c.args.pool.now c.args.entry c.args.todo.now c.args.up c.rows_anew-new.result.plus c.rows_anew-new.result.minus
-    c.args.join.now.joined.joins c.requires.rows c.requires.anew c.requires.below c.requires.vote c.rows_anew-new.ensures x y at in
+          c.args.join.now.joined.joins c.requires.rows c.requires.anew c.requires.below c.requires.vote c.rows_anew-new.ensures x y at in
           record { plus_is = first ∙ c.written-plus.ensures.row ∙ new.plus_is; minus_is = c.written-minus.ensures.row ∙ new.minus_is };
       kept = λ x y at.
           let sides : AreSides (graph_of c.args.join.now.set.dag.now) c.args.join.now.before.now x y (row_of c.args.pool.now c.args.entry.0) (row_of c.args.pool.now c.args.entry.1) = c.requires.rows.sides x y at in
           let new : AreSides (graph_of c.args.join.now.set.dag.now) c.args.join.now.set.members.now x y c.rows_anew-new.result.plus c.rows_anew-new.result.minus =
           sides_told c.args.join.now.set.dag.now c.args.join.now.b c.args.join.now.before.now c.args.join.now.set.members.now c.args.pair c.args.pool.now c.args.entry c.args.todo.now c.args.up c.rows_anew-new.result.plus c.rows_anew-new.result.minus
-    c.args.join.now.joined.joins c.requires.rows c.requires.anew c.requires.below c.requires.vote c.rows_anew-new.ensures x y at in
+          c.args.join.now.joined.joins c.requires.rows c.requires.anew c.requires.below c.requires.vote c.rows_anew-new.ensures x y at in
           (λ e. c.written-plus.ensures.kept (new.plus_is ∙ sym e ∙ sym sides.plus_is), λ e. c.written-minus.ensures.kept (new.minus_is ∙ sym e ∙ sym sides.minus_is ∙ sym second));
     }
 

@@ -6,7 +6,7 @@ use Rattle.sp_view.specs.Moving.{moved_rows}
 use Rattle.sp_view.specs.Stored.{count_of, live}
 use Rattle.sp_view.specs.Views.{Viewed, held, AreKeptIds, IsView}
 use Rattle.sp_view.specs.Voting.{IsGrown}
-use Rattle.sp_view.proofs.Opening.{above_within, left_from, left_there}
+use Rattle.sp_view.proofs.Opening.{above_within, left_from, left_out, left_there}
 use Rattle.sp_view.proofs.Starting.{start_one, start_within, view_start}
 use Rattle.sp_view.proofs.view.View.derive.Goals as goal
 
@@ -38,6 +38,7 @@ invariant_of-growth c =
           });
       growth = record {
         member = member;
+        new = λ b h. left_out c.args.target.now c.members-members.result.now blocks b (inside b) c.without.ensures h;
         all = λ b there new. left_there c.args.target.now c.members-members.result.now blocks b (inside b) c.without.ensures there new;
         covers = c.pasts_of-below.ensures.covers;
         within = λ z h. above_within (graph_of c.args.dag.now) c.args.target.now (has blocks) c.requires.asked.down member z (c.pasts_of-below.ensures.only z h);
