@@ -1,13 +1,11 @@
 -- Several blocks that join a set, of which those that are frozen on a pair vote for one side alone: how the voters in their pasts vote that didn't vote against it.
 use Rattle.std.proofs.Common.{◌≡◌, ◌≢◌, ℕ, ◌<◌, Bool, true, false, cond, ◌||◌, ◌&&◌, List, [], length, Option, None, Some, refl, sym, ap, ◌∙◌, arith}
-use Rattle.std.specs.Prelude.{not, ℤ, pos, negsuc, filter, neg_ℤ, ◌≤ℤ◌, slice_get, slice_index_or, IfSome}
+use Rattle.std.specs.Prelude.{not, ℤ, pos, negsuc, ◌≤ℤ◌, slice_get, slice_index_or, IfSome}
 use Rattle.std.proofs.lemmas.Int.{ints}
-use Rattle.std.proofs.lemmas.Bool.{false≢true, and_parts, false_from_ne_true}
-use Rattle.sp_bits.specs.Members.{has-filter}
+use Rattle.std.proofs.lemmas.Bool.{false≢true, and_parts}
 use Rattle.sp_model.specs.Graph.{Graph, IsDownset, has, in_past, keys}
-use Rattle.sp_model.specs.Loose.{in_bar, is_loose, is_plus, is_minus}
+use Rattle.sp_model.specs.Loose.{is_loose, is_plus, is_minus}
 use Rattle.sp_model.specs.Votes.{vote}
-use Rattle.sp_model.proofs.Exchange.{vote_neg}
 use Rattle.sp_model.proofs.Loose.{frozen_same, vote_sign}
 use Rattle.sp_model.proofs.Pasts.{complete_key}
 use Rattle.sp_dag.specs.Numbered.{IsPair, Numbered, graph_of, pairs_of}
@@ -18,8 +16,8 @@ use Rattle.sp_view.specs.Settled.{AreOpen, AreSides, AreTold, IsAsked}
 use Rattle.sp_view.specs.Voting.{IsGrown, IsGrowth, is_voter, opposed}
 use Rattle.sp_view.proofs.JoinedRows.{plus_one, minus_one}
 use Rattle.sp_view.proofs.Members.{row_distinct}
-use Rattle.sp_view.proofs.Opened.{not_down, not_up}
-use Rattle.sp_view.proofs.Several.{rises, AreAllUp}
+use Rattle.sp_view.proofs.Opened.{not_down, not_up, not_voted}
+use Rattle.sp_view.proofs.Several.{falls, rises}
 use Rattle.sp_view.proofs.TwoRows.{frozen_among}
 
 -- a block that joins, is in a row, and has the voter in its past
@@ -50,13 +48,6 @@ module _ (g : Graph) (s t : List ℕ) (x y : ℕ) (other : x ≢ y) (whole : IsD
       ap votes (sym (same w member bound)) ∙ sym (ap (λ (l : Bool). not l && votes (vote g (keys g) w x y)) bound) ∙ sym (is w member) ∙ h
 
   module _ (ups downs todo : List ℕ) (sides : AreSides g s x y ups downs) (opened : AreOpen g t x y (has todo)) where
-    -- one that was there and isn't in the row of a side didn't vote for it
-    not_so : (votes : ℤ → Bool) (side : List ℕ) → side ≡ filter (λ z. is_loose g z x y && votes (vote g s z x y)) s
-        → (z : ℕ) → has todo z ≡ true → has side z ≡ false → has s z ≡ true → votes (vote g s z x y) ≡ false
-    not_so votes side is z h out there =
-        sym (ap (λ (m : Bool). m && (is_loose g z x y && votes (vote g s z x y))) there ∙ ap (λ (l : Bool). l && votes (vote g s z x y)) (opened.loose z h))
-        ∙ sym (has-filter (λ z. is_loose g z x y && votes (vote g s z x y)) s z) ∙ ap (λ (l : List ℕ). has l z) (sym is) ∙ out
-
     told_up : ((b : ℕ) → has t b ≡ true → has s b ≡ false → has fm b ≡ false) → ((z : ℕ) → has todo z ≡ true → IsBelow g s t fp z)
         → (z : ℕ) → has todo z ≡ true → has downs z ≡ false → vote g t z x y ≡ pos 1
     told_up none above z h out =
@@ -66,39 +57,20 @@ module _ (g : Graph) (s t : List ℕ) (x y : ℕ) (other : x ≢ y) (whole : IsD
         a.1 a.2 a.4 (plus_one (vote g t a.0 x y) (in_row is_plus fp frozen.plus_is a.0 a.1 a.3)) (least (has s z) refl)
       where
         least : (m : Bool) → has s z ≡ m → pos 0 ≤ℤ cond m (vote g s z x y) (pos 0)
-        least true e = not_down (vote g s z x y) (vote_sign g s z x y before.down e) (not_so is_minus downs sides.minus_is z h out e)
+        least true e = not_down (vote g s z x y) (vote_sign g s z x y before.down e) (not_voted g s x y is_minus downs sides.minus_is z (opened.loose z h) e out)
         least false e = omega (arith, ints)
 
     told_down : ((b : ℕ) → has t b ≡ true → has s b ≡ false → has fp b ≡ false) → ((z : ℕ) → has todo z ≡ true → IsBelow g s t fm z)
         → (z : ℕ) → has todo z ≡ true → has ups z ≡ false → vote g t z x y ≡ negsuc 0
     told_down none above z h out =
         let a : IsBelow g s t fm z = above z h in
-        let down : vote g t a.0 x y ≡ negsuc 0 = minus_one (vote g t a.0 x y) (in_row is_minus fm frozen.minus_is a.0 a.1 a.3) in
-        let turned : vote g t a.0 x y ≡ neg_ℤ (vote g t a.0 y x) = vote_neg g t a.0 x y asked.down a.1 other in
-        let up : vote g t z y x ≡ pos 1 =
-        rises g s t before.down asked.down (row_distinct s before.row) (row_distinct t asked.row) into y x z a.0 (opened.member z h) (swap (in_bar g y z) (in_bar g x z) ∙ opened.loose z h)
-        all a.1 a.2 a.4 (omega (arith, ints, down, turned)) (least (has s z) refl) in
-        vote_neg g t z x y asked.down (opened.member z h) other ∙ ap neg_ℤ up
+        falls g s t before.down asked.down (row_distinct s before.row) (row_distinct t asked.row) into x y z a.0 other (opened.member z h) (opened.loose z h)
+        (λ w member new bound bar. not_up (vote g t w x y) (vote_sign g t w x y asked.down member) (off_row is_plus fp frozen.plus_is w member bound (none w member new)))
+        a.1 a.2 a.4 (minus_one (vote g t a.0 x y) (in_row is_minus fm frozen.minus_is a.0 a.1 a.3)) (most (has s z) refl)
       where
-        swap : (a b : Bool) → not (a || b) ≡ not (b || a)
-        swap true true = refl
-        swap true false = refl
-        swap false true = refl
-        swap false false = refl
-
-        all : AreAllUp g s t before.down asked.down (row_distinct s before.row) (row_distinct t asked.row) into y x z
-        all w member new bound bar =
-            (let bound' : is_loose g w x y ≡ false = swap (in_bar g x w) (in_bar g y w) ∙ bound in
-            let least : vote g t w x y ≤ℤ pos 0 = not_up (vote g t w x y) (vote_sign g t w x y asked.down member) (off_row is_plus fp frozen.plus_is w member bound' (none w member new)) in
-            let turned : vote g t w x y ≡ neg_ℤ (vote g t w y x) = vote_neg g t w x y asked.down member other in
-            omega (arith, ints, least, turned))
-
-        least : (m : Bool) → has s z ≡ m → pos 0 ≤ℤ cond m (vote g s z y x) (pos 0)
-        least true e =
-            (let most : vote g s z x y ≤ℤ pos 0 = not_up (vote g s z x y) (vote_sign g s z x y before.down e) (not_so is_plus ups sides.plus_is z h out e) in
-            let turned : vote g s z x y ≡ neg_ℤ (vote g s z y x) = vote_neg g s z x y before.down e other in
-            omega (arith, ints, most, turned))
-        least false e = omega (arith, ints)
+        most : (m : Bool) → has s z ≡ m → cond m (vote g s z x y) (pos 0) ≤ℤ pos 0
+        most true e = not_up (vote g s z x y) (vote_sign g s z x y before.down e) (not_voted g s x y is_plus ups sides.plus_is z (opened.loose z h) e out)
+        most false e = omega (arith, ints)
 
 -- ---- by the rows of a pair
 

@@ -28,6 +28,13 @@ not_up (pos zero) e p = omega (arith, ints)
 not_up (pos (suc zero)) e p = absurd (false≢true (sym p))
 not_up (pos (suc (suc n))) e p = (let s : pos 1 ≡ pos (suc (suc n)) = e in absurd (omega (arith, ints)))
 
+-- a loose member that isn't in the row of a side doesn't vote for it
+pub not_voted : (g : Graph) (s : List ℕ) (x y : ℕ) (votes : ℤ → Bool) (side : List ℕ) → side ≡ filter (λ z. is_loose g z x y && votes (vote g s z x y)) s
+    → (z : ℕ) → is_loose g z x y ≡ true → has s z ≡ true → has side z ≡ false → votes (vote g s z x y) ≡ false
+not_voted g s x y votes side is z loose there out =
+    sym (ap (λ (m : Bool). m && (is_loose g z x y && votes (vote g s z x y))) there ∙ ap (λ (l : Bool). l && votes (vote g s z x y)) loose)
+    ∙ sym (has-filter (λ z. is_loose g z x y && votes (vote g s z x y)) s z) ∙ ap (λ (l : List ℕ). has l z) (sym is) ∙ out
+
 sign_top : (v : ℤ) → sgn v ≡ v → v ≤ℤ pos 1
 sign_top (negsuc n) e = omega (arith, ints)
 sign_top (pos zero) e = omega (arith, ints)

@@ -1,23 +1,21 @@
 -- A block that joins a set and votes for one side: of the voters whose votes may change, those that didn't vote for the other side now vote as it does.
 use Rattle.std.proofs.Common.{◌≡◌, ◌≢◌, ℕ, ◌<◌, Bool, true, false, cond, Some, ◌||◌, ◌&&◌, List, refl, sym, ap, ◌∙◌, eqb, inl, inr, arith}
-use Rattle.std.specs.Prelude.{not, ℤ, pos, negsuc, filter, ◌≤ℤ◌, neg_ℤ}
+use Rattle.std.specs.Prelude.{not, ℤ, pos, negsuc, ◌≤ℤ◌}
 use Rattle.std.proofs.lemmas.Bool.{false≢true, eqb-true, eq-eqb, and_parts, cases_Bool}
 use Rattle.std.proofs.lemmas.Int.{ints}
 use Rattle.sp_bits.specs.Places.{difference, meet, union, IsRow}
-use Rattle.sp_bits.specs.Members.{has-filter}
 use Rattle.sp_bits.proofs.Fronts.{IsRow-places}
 use Rattle.sp_bits.proofs.RowSets.{row_small, has_difference, has_meet, has_union}
 use Rattle.sp_model.specs.Graph.{Graph, has, in_past}
 use Rattle.sp_model.specs.Joining.{Joins}
-use Rattle.sp_model.specs.Loose.{in_bar, is_loose, is_plus, is_minus}
+use Rattle.sp_model.specs.Loose.{is_loose, is_plus, is_minus}
 use Rattle.sp_model.specs.Votes.{vote}
-use Rattle.sp_model.proofs.Exchange.{vote_neg}
 use Rattle.sp_model.proofs.Loose.{vote_sign}
 use Rattle.sp_model.proofs.Pasts.{not_in_own_past}
 use Rattle.sp_view.specs.Settled.{AreKept, AreOpen, AreSides, AreTold, IsAsked}
 use Rattle.sp_view.proofs.Following.{minus_only, plus_only}
-use Rattle.sp_view.proofs.Opened.{not_down, not_up}
-use Rattle.sp_view.proofs.Several.{vote_before, rises, AreAllUp}
+use Rattle.sp_view.proofs.Opened.{not_down, not_up, not_voted}
+use Rattle.sp_view.proofs.Several.{vote_before, rises, falls}
 
 -- ---- one block that joins
 
@@ -27,36 +25,31 @@ module _ (g : Graph) (b : ℕ) (s t : List ℕ) (j : Joins g b s t) where
   there_before z member below =
       j.from z member (λ e. not_in_own_past g b (j.more_down.all_complete b j.there) (ap (λ (k : ℕ). in_past g k b) (sym e) ∙ below))
 
+  before_same : (x y z : ℕ) → has t z ≡ true → in_past g z b ≡ true → vote_before g s x y z ≡ vote g s z x y
+  before_same x y z member below = ap (λ (m : Bool). cond m (vote g s z x y) (pos 0)) (there_before z member below)
+
+  -- it is the only block that joins
+  alone : (w : ℕ) → has t w ≡ true → has s w ≡ false → w ≡ b
+  alone w there new = elim (cases_Bool (eqb w b)) [
+    | inl same ↦ eqb-true w b same
+    | inr apart ↦ absurd (false≢true (sym new ∙ j.from w there (λ e. false≢true (sym apart ∙ eq-eqb w b e))))
+  ]
+
   -- where it votes for y, a loose voter in its past that didn't vote for x votes for y
   one_rises : (x y z : ℕ) → has t z ≡ true → is_loose g z x y ≡ true → in_past g z b ≡ true → vote g t b x y ≡ pos 1 → pos 0 ≤ℤ vote g s z x y
       → vote g t z x y ≡ pos 1
   one_rises x y z member loose below up least =
-      rises g s t j.down j.more_down j.distinct j.more_distinct j.into x y z b member loose alone j.there j.new below up
-      (let same : vote_before g s x y z ≡ vote g s z x y = ap (λ (m : Bool). cond m (vote g s z x y) (pos 0)) (there_before z member below) in omega (arith, ints, least, same))
-    where
-      alone : AreAllUp g s t j.down j.more_down j.distinct j.more_distinct j.into x y z
-      alone w there new frozen bar =
-          elim (cases_Bool (eqb w b)) [
-            | inl same ↦ (let e : vote g t w x y ≡ pos 1 = ap (λ (k : ℕ). vote g t k x y) (eqb-true w b same) ∙ up in omega (arith, ints, e))
-            | inr apart ↦ absurd (false≢true (sym new ∙ j.from w there (λ e. false≢true (sym apart ∙ eq-eqb w b e))))
-          ]
+      rises g s t j.down j.more_down j.distinct j.more_distinct j.into x y z b member loose
+      (λ w there new frozen bar. let e : vote g t w x y ≡ pos 1 = ap (λ (k : ℕ). vote g t k x y) (alone w there new) ∙ up in omega (arith, ints, e))
+      j.there j.new below up (omega (arith, ints, least, before_same x y z member below))
 
   -- where it votes for x, one that didn't vote for y votes for x
   one_falls : (x y z : ℕ) → x ≢ y → has t z ≡ true → is_loose g z x y ≡ true → in_past g z b ≡ true → vote g t b x y ≡ negsuc 0 → vote g s z x y ≤ℤ pos 0
       → vote g t z x y ≡ negsuc 0
   one_falls x y z other member loose below down most =
-      (let own : vote g t b x y ≡ neg_ℤ (vote g t b y x) = vote_neg g t b x y j.more_down j.there other in
-      let old : vote g s z x y ≡ neg_ℤ (vote g s z y x) = vote_neg g s z x y j.down (there_before z member below) other in
-      let new : vote g t z x y ≡ neg_ℤ (vote g t z y x) = vote_neg g t z x y j.more_down member other in
-      let up : vote g t z y x ≡ pos 1 =
-      one_rises y x z member (swap (in_bar g y z) (in_bar g x z) ∙ loose) below (omega (arith, ints, own, down)) (omega (arith, ints, old, most)) in
-      new ∙ ap neg_ℤ up)
-    where
-      swap : (a b : Bool) → not (a || b) ≡ not (b || a)
-      swap true true = refl
-      swap true false = refl
-      swap false true = refl
-      swap false false = refl
+      falls g s t j.down j.more_down j.distinct j.more_distinct j.into x y z b other member loose
+      (λ w there new frozen bar. let e : vote g t w x y ≡ negsuc 0 = ap (λ (k : ℕ). vote g t k x y) (alone w there new) ∙ down in omega (arith, ints, e))
+      j.there j.new below down (omega (arith, ints, most, before_same x y z member below))
 
 -- ---- rows of voters
 
@@ -144,17 +137,11 @@ module _ (g : Graph) (b : ℕ) (s t : List ℕ) (x y : ℕ) (j : Joins g b s t) 
   before : (z : ℕ) → has todo z ≡ true → has s z ≡ true
   before z h = there_before g b s t j z (opened.member z h) (below z h)
 
-  -- one of them that isn't in the row of a side didn't vote for it
-  not_so : (votes : ℤ → Bool) (side : List ℕ) → side ≡ filter (λ z. is_loose g z x y && votes (vote g s z x y)) s → (z : ℕ) → has todo z ≡ true → has side z ≡ false → votes (vote g s z x y) ≡ false
-  not_so votes side is z h out =
-      sym (ap (λ (m : Bool). m && (is_loose g z x y && votes (vote g s z x y))) (before z h) ∙ ap (λ (l : Bool). l && votes (vote g s z x y)) (opened.loose z h))
-      ∙ sym (has-filter (λ z. is_loose g z x y && votes (vote g s z x y)) s z) ∙ ap (λ (l : List ℕ). has l z) (sym is) ∙ out
-
   -- by the block's vote it is told how those of them vote that didn't vote against it
   pub one_told : (up : Bool) → vote g t b x y ≡ cond up (pos 1) (negsuc 0) → AreTold g t x y (Some up) todo ups downs
   one_told true up = λ z h out.
       ap is_plus (one_rises g b s t j x y z (opened.member z h) (opened.loose z h) (below z h) up
-      (not_down (vote g s z x y) (vote_sign g s z x y j.down (before z h)) (not_so is_minus downs sides.minus_is z h out)))
+      (not_down (vote g s z x y) (vote_sign g s z x y j.down (before z h)) (not_voted g s x y is_minus downs sides.minus_is z (opened.loose z h) (before z h) out)))
   one_told false down = λ z h out.
       ap is_minus (one_falls g b s t j x y z other (opened.member z h) (opened.loose z h) (below z h) down
-      (not_up (vote g s z x y) (vote_sign g s z x y j.down (before z h)) (not_so is_plus ups sides.plus_is z h out)))
+      (not_up (vote g s z x y) (vote_sign g s z x y j.down (before z h)) (not_voted g s x y is_plus ups sides.plus_is z (opened.loose z h) (before z h) out)))

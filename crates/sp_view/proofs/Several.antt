@@ -146,26 +146,44 @@ module _ (g : Graph) (s t : List ℕ) (down : IsDownset g s) (down' : IsDownset 
   abbrev pub AreAllDown : ℕ → ℕ → ℕ → Type 0
   AreAllDown x y z = (w : ℕ) → has t w ≡ true → has s w ≡ false → is_loose g w x y ≡ false → in_bar g z w ≡ true → vote g t w x y ≤ℤ pos 0
 
-  -- then the vote doesn't rise
-  pub votes_fall : (x y z : ℕ) → x ≢ y → has t z ≡ true → AreAllDown x y z → vote g t z x y ≤ℤ vote_before g s x y z
-  votes_fall x y z other member low =
-      (let turned : vote g t z x y ≡ neg_ℤ (vote g t z y x) = vote_neg g t z x y down' member other in
-      let before : vote_before g s x y z ≡ neg_ℤ (vote_before g s y x z) = turn (has s z) refl in
-      let rise : vote_before g s y x z ≤ℤ vote g t z y x = votes_rise y x z member up in
-      omega (arith, ints, turned, before, rise))
-    where
-      turn : (m : Bool) → has s z ≡ m → cond m (vote g s z x y) (pos 0) ≡ neg_ℤ (cond m (vote g s z y x) (pos 0))
-      turn true e = vote_neg g s z x y down e other
-      turn false e = refl
+  -- ---- the same, with the two blocks changed about
 
+  loose_turned : (x y z : ℕ) → is_loose g z y x ≡ is_loose g z x y
+  loose_turned x y z = swap (in_bar g y z) (in_bar g x z)
+    where
       swap : (a b : Bool) → not (a || b) ≡ not (b || a)
       swap true true = refl
       swap true false = refl
       swap false true = refl
       swap false false = refl
 
-      up : AreAllUp y x z
-      up w there new frozen bar =
-          (let down : vote g t w x y ≤ℤ pos 0 = low w there new (swap (in_bar g x w) (in_bar g y w) ∙ frozen) bar in
-          let turned : vote g t w x y ≡ neg_ℤ (vote g t w y x) = vote_neg g t w x y down' there other in
-          omega (arith, ints, down, turned))
+  all_turned : (x y z : ℕ) → x ≢ y → AreAllDown x y z → AreAllUp y x z
+  all_turned x y z other low w there new frozen bar =
+      (let down : vote g t w x y ≤ℤ pos 0 = low w there new (sym (loose_turned x y w) ∙ frozen) bar in
+      let turned : vote g t w x y ≡ neg_ℤ (vote g t w y x) = vote_neg g t w x y down' there other in
+      omega (arith, ints, down, turned))
+
+  before_turned : (x y z : ℕ) → x ≢ y → vote_before g s x y z ≡ neg_ℤ (vote_before g s y x z)
+  before_turned x y z other = turn (has s z) refl
+    where
+      turn : (m : Bool) → has s z ≡ m → cond m (vote g s z x y) (pos 0) ≡ neg_ℤ (cond m (vote g s z y x) (pos 0))
+      turn true e = vote_neg g s z x y down e other
+      turn false e = refl
+
+  -- where none of them votes for y, the vote doesn't rise
+  pub votes_fall : (x y z : ℕ) → x ≢ y → has t z ≡ true → AreAllDown x y z → vote g t z x y ≤ℤ vote_before g s x y z
+  votes_fall x y z other member low =
+      (let turned : vote g t z x y ≡ neg_ℤ (vote g t z y x) = vote_neg g t z x y down' member other in
+      let before : vote_before g s x y z ≡ neg_ℤ (vote_before g s y x z) = before_turned x y z other in
+      let rise : vote_before g s y x z ≤ℤ vote g t z y x = votes_rise y x z member (all_turned x y z other low) in
+      omega (arith, ints, turned, before, rise))
+
+  -- A loose vote for y or for neither becomes one for x where a block that joins, and that has the voter in its past, votes for x.
+  pub falls : (x y z b : ℕ) → x ≢ y → has t z ≡ true → is_loose g z x y ≡ true → AreAllDown x y z → has t b ≡ true → has s b ≡ false → in_past g z b ≡ true
+      → vote g t b x y ≡ negsuc 0 → vote_before g s x y z ≤ℤ pos 0 → vote g t z x y ≡ negsuc 0
+  falls x y z b other member loose low there new below one most =
+      (let own : vote g t b x y ≡ neg_ℤ (vote g t b y x) = vote_neg g t b x y down' there other in
+      let before : vote_before g s x y z ≡ neg_ℤ (vote_before g s y x z) = before_turned x y z other in
+      let up : vote g t z y x ≡ pos 1 =
+      rises y x z b member (loose_turned x y z ∙ loose) (all_turned x y z other low) there new below (omega (arith, ints, own, one)) (omega (arith, ints, before, most)) in
+      vote_neg g t z x y down' member other ∙ ap neg_ℤ up)

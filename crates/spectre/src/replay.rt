@@ -231,7 +231,7 @@ pub fn write_fault<K: Sink>(fault: FeedFault, sink: &mut K) -> Status
 
 /// Answers a feed: one line for each message, and then the line of the feed's fault, where it has
 /// one. What follows the frame `E` stays unread. It takes about the time of the engine for each
-/// block.
+/// block. The memory that the answered blocks take isn't given back: it goes with the process.
 pub fn replay<S: Source, K: Sink>(alloc: Global, source: &mut S, sink: &mut K) -> Status
     ensures done { result ≡ Status.Done → IfSome (S.left source.old) (λ input.
         Appends (K.taken sink.old) (K.taken sink.new) (replayed [] input) × EndsWhole (fed input).end) }

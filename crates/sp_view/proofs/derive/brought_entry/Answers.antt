@@ -4,7 +4,6 @@ use Rattle.sp_model.specs.Graph.{has}
 use Rattle.sp_rows.specs.Pool.{Counted, words_of}
 use Rattle.sp_rows.specs.Pool as counted
 use Rattle.sp_view.proofs.Pools.{row_of_words}
-use Rattle.sp_view.proofs.TwoRows.{frozen_among}
 use Rattle.sp_view.proofs.derive.brought_entry.Goals as goal
 
 pub returns-in_err-reserve-clause-others : goal.returns-in_err-reserve-clause-others

@@ -1,4 +1,4 @@
-use Rattle.std.proofs.Common.{◌≡◌, ◌∙◌, ◌&&◌, List, ℕ, [], true, ap, sym}
+use Rattle.std.proofs.Common.{◌≡◌, ◌∙◌, List, ℕ, [], true, ap, sym}
 use Rattle.std.proofs.lemmas.Bool.{false≢true, and_from}
 use Rattle.sp_model.specs.Graph.{has}
 use Rattle.sp_view.proofs.Opening.{left_from, left_there, meet_from, meet_there}
