@@ -53,8 +53,8 @@ fn risen(sides: &Sides, todo: &Row, up: Option<bool>) -> Known
     known
 }
 
-// The voters of a pair that was inside the set before it grew, where the votes of `todo` may change. Where a side is given, those of
-// them that voted for neither vote for that one now.
+// The voters of a pair that was inside the set before it grew, where the votes of `todo` may change. Where a side is given, those
+// of them that voted for neither vote for that one now.
 pub(crate) fn rows_anew(
     set: &Voting,
     pool: &RowPool,

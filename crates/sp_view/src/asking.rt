@@ -34,8 +34,8 @@ pub(crate) fn is_none(row: &Row) -> bool
     row.highest().is_none()
 }
 
-// The voters of an old pair whose votes may change when the block joins, which votes +1 on it, or else -1. Where there are none, the
-// pair stays as it is. The pair's first block is given. Those of them that voted for neither side are told then (`risen` in
+// The voters of an old pair whose votes may change when the block joins, which votes +1 on it, or else -1. Where there are none,
+// the pair stays as it is. The pair's first block is given. Those of them that voted for neither side are told then (`risen` in
 // `anew.rt`), and only those that voted against the block are asked.
 pub(crate) fn asked(
     join: &Joining,
@@ -50,7 +50,8 @@ pub(crate) fn asked(
     requires pair { slice_get (pairs_of join.now.set.dag.now) place.now.pair ≡ Some (x, place.now.second) }
     requires live { (r : ℕ) → holds (Some entry.now) r ≤ count_of pool.now r }
     ensures within { (z : ℕ) → IsTrue (has (unwrap_or result []) z) → IsTrue (has join.now.set.members.now z) }
-    ensures below { (z : ℕ) → IsTrue (has (unwrap_or result []) z) → IsTrue (in_past (graph_of join.now.set.dag.now) z join.now.b) }
+    ensures below { (z : ℕ) → IsTrue (has (unwrap_or result []) z) →
+        IsTrue (in_past (graph_of join.now.set.dag.now) z join.now.b) }
     ensures kept { (x y : ℕ) → slice_get (pairs_of join.now.set.dag.now) place.now.pair ≡ Some (x, y) →
         AreSides (graph_of join.now.set.dag.now) join.now.before.now x y
         (row_of pool.now entry.now.0) (row_of pool.now entry.now.1) →

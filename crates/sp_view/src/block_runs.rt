@@ -35,8 +35,10 @@ fn derive_run(
     requires within { stop ≤ length (pairs_of growth.now.set.dag.now) }
     requires capacity { stop ≤ vec_capacity entries.old }
     ensures so_far { (before : Pool) →
-        AreSoFar growth.now.set.dag.now growth.now.before.now growth.now.set.members.now base.now before pool.old entries.old.items →
-        AreSoFar growth.now.set.dag.now growth.now.before.now growth.now.set.members.now base.now before pool.new entries.new.items }
+        AreSoFar growth.now.set.dag.now growth.now.before.now growth.now.set.members.now
+        base.now before pool.old entries.old.items →
+        AreSoFar growth.now.set.dag.now growth.now.before.now growth.now.set.members.now
+        base.now before pool.new entries.new.items }
     ensures stop { OnOk result (length entries.new.items ≡ stop) }
     ensures capacity { vec_capacity entries.new ≡ vec_capacity entries.old }
 {
@@ -73,8 +75,10 @@ fn derive_block(
     requires below { AreBelow growth.now.set.dag.now growth.now.set.members.now end block (length entries.old.items) }
     requires capacity { end ≤ vec_capacity entries.old }
     ensures so_far { (before : Pool) →
-        AreSoFar growth.now.set.dag.now growth.now.before.now growth.now.set.members.now base.now before pool.old entries.old.items →
-        AreSoFar growth.now.set.dag.now growth.now.before.now growth.now.set.members.now base.now before pool.new entries.new.items }
+        AreSoFar growth.now.set.dag.now growth.now.before.now growth.now.set.members.now
+        base.now before pool.old entries.old.items →
+        AreSoFar growth.now.set.dag.now growth.now.before.now growth.now.set.members.now
+        base.now before pool.new entries.new.items }
     ensures below { OnOk result
         (AreBelow growth.now.set.dag.now growth.now.set.members.now end (block + 1) (length entries.new.items)) }
     ensures capacity { vec_capacity entries.new ≡ vec_capacity entries.old }
@@ -116,7 +120,8 @@ pub(crate) fn derive_entries(
     ensures others { (r : ℕ) → 0 < count_of pool.old r → row_of pool.new r ≡ row_of pool.old r }
     ensures once { (r : ℕ) → held entries.new.items r ≤ 1 }
     ensures live { OnOk result (live pool.new ≤ live pool.old
-        + moved_rows (graph_of growth.now.set.dag.now) growth.now.before.now growth.now.set.members.now (pairs_of growth.now.set.dag.now)) }
+        + moved_rows (graph_of growth.now.set.dag.now) growth.now.before.now growth.now.set.members.now
+        (pairs_of growth.now.set.dag.now)) }
 {
     let set = &growth.set;
     'runs: for block in 0..set.dag.len() {

@@ -121,7 +121,8 @@ pub(crate) fn join_entries(
     ensures once { (r : ℕ) → held entries.new.items r ≤ 1 }
     ensures fresh { AreFresh entries.old.items entries.new.items pool.old pool.new }
     ensures live { live pool.new ≤ live pool.old
-        + moved_rows (graph_of join.now.set.dag.now) join.now.before.now join.now.set.members.now (pairs_of join.now.set.dag.now) }
+        + moved_rows (graph_of join.now.set.dag.now) join.now.before.now join.now.set.members.now
+        (pairs_of join.now.set.dag.now) }
     ensures sums { AreRight join.now.set.dag.now join.now.set.members.now sums.new }
     ensures as_long { length sums.new ≡ length sums.old }
     ensures patched { patched saved.new entries.new.items ≡ patched saved.old entries.old.items }

@@ -110,14 +110,17 @@ pub(crate) fn asked_by_growth(
     voters
 }
 
-// The side for which all those of the blocks that join vote which are frozen on a pair, +1 or else -1. Where both sides have some of
-// them, or neither has, there is none.
+// The side, +1 or else -1, for which all those of the blocks that join vote which are frozen on a pair. Where each side has some
+// of them, or neither has, there is none.
 pub(crate) fn one_side(growth: &Growth, pair: u32) -> Option<bool>
     requires inside { pair < length growth.now.set.frozen.now.pluses }
     ensures { IfSome result (λ up. (b : ℕ) → IsTrue (has growth.now.blocks.now b) →
         IsFalse (has (opposed growth.now.set.frozen.now pair up) b)) }
 {
-    let ups = is_none(&voting_for(growth, growth.set.frozen.plus(pair)));
-    let downs = is_none(&voting_for(growth, growth.set.frozen.minus(pair)));
-    if ups == downs { None } else { Some(downs) }
+    let none_up = is_none(&voting_for(growth, growth.set.frozen.plus(pair)));
+    let none_down = is_none(&voting_for(growth, growth.set.frozen.minus(pair)));
+    if none_up == none_down {
+        return None;
+    }
+    Some(none_down)
 }

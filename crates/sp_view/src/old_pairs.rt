@@ -55,7 +55,8 @@ fn opened_entry(
     requires own { (x y : ℕ) → slice_get (pairs_of join.now.set.dag.now) pair ≡ Some (x, y) →
         own ≡ vote (graph_of join.now.set.dag.now) join.now.set.members.now join.now.b x y }
     requires some { own ≢ pos 0 }
-    ensures rows { IsNew join.now.set.dag.now join.now.before.now join.now.set.members.now pair pool.new entry (result.plus, result.minus) }
+    ensures rows { IsNew join.now.set.dag.now join.now.before.now join.now.set.members.now pair
+        pool.new entry (result.plus, result.minus) }
     ensures step { IsSavingStep pool.old pool.new pair (Some entry) (Some (result.plus, result.minus)) saved.old saved.new }
     ensures gain { (x y : ℕ) → slice_get (pairs_of join.now.set.dag.now) pair ≡ Some (x, y) →
         IfSome result.gain (IsGain (graph_of join.now.set.dag.now) join.now.before.now join.now.set.members.now x y) }
@@ -106,7 +107,8 @@ pub(crate) fn joined_entry(
     requires few { place.now.pair < length saved.old → (r : ℕ) → count_of pool.old r + 2 < 2 ^ 32 }
     requires sum { (x y : ℕ) → slice_get (pairs_of join.now.set.dag.now) place.now.pair ≡ Some (x, y) →
         IsSum (graph_of join.now.set.dag.now) join.now.before.now x y sum }
-    ensures rows { IsNew join.now.set.dag.now join.now.before.now join.now.set.members.now place.now.pair pool.new entry (result.plus, result.minus) }
+    ensures rows { IsNew join.now.set.dag.now join.now.before.now join.now.set.members.now place.now.pair
+        pool.new entry (result.plus, result.minus) }
     ensures step { IsSavingStep pool.old pool.new place.now.pair (Some entry) (Some (result.plus, result.minus))
         saved.old saved.new }
     ensures gain { (x y : ℕ) → slice_get (pairs_of join.now.set.dag.now) place.now.pair ≡ Some (x, y) →
