@@ -31,6 +31,14 @@ pub(crate) struct Joined {
     pub(crate) gain: Option<i32>,
 }
 
+// Such a pair, its rows before the block joined, and the sum of its votes then, where one is kept.
+#[derive(Clone, Copy)]
+struct OldPair {
+    pair: u32,
+    entry: (RowName, RowName),
+    sum: Option<i32>,
+}
+
 // Those of a pair on which the votes of `todo`, which the block has in its past, may change, and on which the block's own vote
 // is given, which isn't 0. By the sum before, where one is kept, the vote of genesis is told, if no other vote may change. The
 // entry is saved before it changes.
@@ -38,31 +46,33 @@ fn opened_entry(
     join: &Joining,
     pool: &mut RowPool,
     saved: &mut Saved,
-    pair: u32,
-    entry: (RowName, RowName),
+    known: &OldPair,
     todo: &Row,
     own: i32,
-    sum: Option<i32>,
 ) -> Joined
-    requires listed { pair < length (pairs_of join.now.set.dag.now) }
-    requires inside { pair < length join.now.set.frozen.now.pluses }
-    requires rows { IsOld join.now.set.dag.now join.now.before.now join.now.set.members.now pair pool.old entry }
-    requires anew { AreAnew join.now.set.dag.now join.now.set.members.now pair pool.old entry todo.now }
-    requires sum { (x y : ℕ) → slice_get (pairs_of join.now.set.dag.now) pair ≡ Some (x, y) →
-        IsSum (graph_of join.now.set.dag.now) join.now.before.now x y sum }
-    requires few { pair < length saved.old → (r : ℕ) → count_of pool.old r + 2 < 2 ^ 32 }
+    requires listed { known.now.pair < length (pairs_of join.now.set.dag.now) }
+    requires inside { known.now.pair < length join.now.set.frozen.now.pluses }
+    requires rows { IsOld join.now.set.dag.now join.now.before.now join.now.set.members.now known.now.pair
+        pool.old known.now.entry }
+    requires anew { AreAnew join.now.set.dag.now join.now.set.members.now known.now.pair
+        pool.old known.now.entry todo.now }
+    requires sum { (x y : ℕ) → slice_get (pairs_of join.now.set.dag.now) known.now.pair ≡ Some (x, y) →
+        IsSum (graph_of join.now.set.dag.now) join.now.before.now x y known.now.sum }
+    requires few { known.now.pair < length saved.old → (r : ℕ) → count_of pool.old r + 2 < 2 ^ 32 }
     requires below { (z : ℕ) → IsTrue (has todo.now z) → IsTrue (in_past (graph_of join.now.set.dag.now) z join.now.b) }
-    requires own { (x y : ℕ) → slice_get (pairs_of join.now.set.dag.now) pair ≡ Some (x, y) →
+    requires own { (x y : ℕ) → slice_get (pairs_of join.now.set.dag.now) known.now.pair ≡ Some (x, y) →
         own ≡ vote (graph_of join.now.set.dag.now) join.now.set.members.now join.now.b x y }
     requires some { own ≢ pos 0 }
-    ensures rows { IsNew join.now.set.dag.now join.now.before.now join.now.set.members.now pair
-        pool.new entry (result.plus, result.minus) }
-    ensures step { IsSavingStep pool.old pool.new pair (Some entry) (Some (result.plus, result.minus)) saved.old saved.new }
-    ensures gain { (x y : ℕ) → slice_get (pairs_of join.now.set.dag.now) pair ≡ Some (x, y) →
+    ensures rows { IsNew join.now.set.dag.now join.now.before.now join.now.set.members.now known.now.pair
+        pool.new known.now.entry (result.plus, result.minus) }
+    ensures step { IsSavingStep pool.old pool.new known.now.pair
+        (Some known.now.entry) (Some (result.plus, result.minus)) saved.old saved.new }
+    ensures gain { (x y : ℕ) → slice_get (pairs_of join.now.set.dag.now) known.now.pair ≡ Some (x, y) →
         IfSome result.gain (IsGain (graph_of join.now.set.dag.now) join.now.before.now join.now.set.members.now x y) }
 {
     // Tells the proof that there are at most 512 blocks, from genesis on.
     let _blocks = join.set.dag.len();
+    let OldPair { pair, entry, sum } = *known;
     match root_turn(todo, sum, own) {
         Some(turn) => {
             if turn.before == turn.after {
@@ -125,7 +135,10 @@ pub(crate) fn joined_entry(
     }
     let pair = place.pair;
     match asked(join, pool, place, x, &entry, own > 0) {
-        Some(todo) => opened_entry(join, pool, saved, pair, entry, &todo, own, sum),
+        Some(todo) => {
+            let known = OldPair { pair, entry, sum };
+            opened_entry(join, pool, saved, &known, &todo, own)
+        }
         None => Joined {
             plus: entry.0,
             minus: entry.1,
