@@ -1,14 +1,15 @@
 //! The edge where a file of the operating system is a disk. What it holds, and what a crash leaves of
 //! it, is trusted here, and nowhere above.
 
-ghost use Rattle.std.specs.Prelude.{◌≡◌, ◌+◌, ◌^◌, ◌<◌, ◌≤◌, true, length, IfOk, IfSome, None, Ok, OnOk};
+ghost use Rattle.std.specs.Prelude.{◌≡◌, ◌↔◌, ◌+◌, ◌^◌, ◌<◌, ◌≤◌, true, length, IfOk, IfSome, IsOk, None, Ok, OnOk};
+ghost use Rattle.std.specs.Fs.{file_type, IsFile};
 ghost use Rattle.sp_io.specs.Causes.{CountsFault, HasCause};
 ghost use Rattle.sp_disk.specs.Moments.{GivesFrom, Looks, Syncs, Writes};
 ghost use Rattle.sp_disk.specs.Untold.{untold, untold_is_moment};
 
 use crate::disk::Disk;
-use sp_io::Failed;
-use std::fs::{Files, OpenFile, OpenOptions};
+use sp_io::{Failed, read_retrying};
+use std::fs::{Files, Metadata, OpenFile, OpenOptions};
 use std::io;
 use std::io::{Error, ErrorKind, Read, Seek, SeekFrom, Write};
 
@@ -24,7 +25,13 @@ use std::io::{Error, ErrorKind, Read, Seek, SeekFrom, Write};
 /// - A crash between two syncs changes no byte outside the written ranges, and leaves a length from the
 ///   one at the last sync to the greatest that the writes reach.
 ///
-/// Want of memory in the system counts as a fault of the call.
+/// Want of memory in the system counts as a fault of the call. A read, a write or a seek that a signal
+/// interrupts is made again, and is no fault.
+///
+/// Only a regular file is opened, or one that a link leads to: a pipe could let a call wait for ever, and what
+/// a device takes isn't there afterwards. The file is used by a descriptor above those of the standard
+/// streams. So where one of these is closed, nothing that is read or written there comes from the file or
+/// goes into it.
 ///
 /// One that doesn't make its file is for reading alone: it opens the file so, which needs no leave to
 /// write it, and each write fails without asking the system. A sync is still asked for, since it writes
@@ -57,16 +64,28 @@ impl<'a, R: Files> FileDisk<'a, R> {
         }
     }
 
+    // Opens the file where it isn't open yet.
     fn open(&mut self) -> io::Result<()>
         ensures faults { self.new.faults ≡ self.old.faults }
         ensures make { self.new.make ≡ self.old.make }
     {
         if self.file.is_none() {
-            let mut how = OpenOptions::new();
-            how.read(true).write(self.make).create(self.make);
-            self.file = Some(self.rt.open_file(&how, self.path)?);
+            self.file = Some(self.opened()?);
         }
         Ok(())
+    }
+
+    // The file under a descriptor of its own. The system gives a file the lowest free one, which may be that
+    // of a closed standard stream. A copy gets one from 3 on; that first one is closed before a byte is read
+    // or written.
+    fn opened(&self) -> io::Result<R::File> {
+        may_be_opened(self.rt, self.path)?;
+        let mut how = OpenOptions::new();
+        how.read(true).write(self.make).create(self.make);
+        let first = self.rt.open_file(&how, self.path)?;
+        // Another one may have been put in its place since.
+        regular(&first.metadata()?)?;
+        first.try_clone()
     }
 
     fn file_len(&mut self) -> io::Result<u64>
@@ -99,7 +118,7 @@ impl<'a, R: Files> FileDisk<'a, R> {
         self.open()?;
         match &mut self.file {
             Some(file) => {
-                file.seek(SeekFrom::Start(at))?;
+                seek_to(file, at)?;
                 read_whole(file, out)
             }
             None => Ok(0),
@@ -126,12 +145,47 @@ impl<'a, R: Files> FileDisk<'a, R> {
         self.open()?;
         match &mut self.file {
             Some(file) => {
-                file.seek(SeekFrom::Start(at))?;
+                seek_to(file, at)?;
                 file.write_all(bytes)
             }
             None => Ok(()),
         }
     }
+}
+
+// Refuses what isn't a regular file.
+fn regular(found: &Metadata) -> io::Result<()>
+    ensures { IsOk result ↔ IsFile (file_type found.now) }
+{
+    if found.is_file() {
+        Ok(())
+    } else {
+        Err(Error::from(ErrorKind::InvalidInput))
+    }
+}
+
+// Refuses a path where anything but a regular file stands, without opening it.
+fn may_be_opened<R: Files>(rt: &R, path: &str) -> io::Result<()> {
+    match rt.metadata(path) {
+        Ok(found) => regular(&found),
+        Err(error) if error.kind() == ErrorKind::NotFound => Ok(()),
+        Err(error) => Err(error),
+    }
+}
+
+// Goes to a place, and again as long as a signal interrupts that.
+fn seek_to<F: Seek>(file: &mut F, at: u64) -> io::Result<()> {
+    'tries: for _ in 0..u64::MAX {
+        match file.seek(SeekFrom::Start(at)) {
+            Ok(_) => return Ok(()),
+            Err(error) => {
+                if error.kind() != ErrorKind::Interrupted {
+                    return Err(error);
+                }
+            }
+        }
+    }
+    Err(Error::from(ErrorKind::TimedOut))
 }
 
 /// Reads until `out` is full or the file ends.
@@ -141,7 +195,7 @@ fn read_whole<F: Read>(file: &mut F, out: &mut [u8]) -> io::Result<usize>
 {
     let mut count = 0;
     'pieces: while count < out.len() {
-        let got = file.read(&mut out[count..])?;
+        let got = read_retrying(file, &mut out[count..])?;
         if got == 0 {
             return Ok(count);
         }
@@ -175,7 +229,7 @@ impl<'a, R: Files> Disk for FileDisk<'a, R> {
     ///
     /// # Errors
     ///
-    /// `Failed` where the file can't be opened, or the system doesn't say its length.
+    /// `Failed` where the file can't be opened or isn't a regular one, or the system doesn't say its length.
     fn len(&mut self) -> Result<u64, Failed>
         ensures length { IfOk result (λ n. IfSome (⟦<FileDisk<'a, R> as Disk>⟧.now self.old).reads (λ bytes. n ≡ length bytes)) }
         ensures looks { Looks (⟦<FileDisk<'a, R> as Disk>⟧.now self.old) (⟦<FileDisk<'a, R> as Disk>⟧.now self.new) }
@@ -191,8 +245,8 @@ impl<'a, R: Files> Disk for FileDisk<'a, R> {
     ///
     /// # Errors
     ///
-    /// `Failed` where the file can't be opened, the place is past those that the system knows, or a read
-    /// fails; what then stands in `out` is left open.
+    /// `Failed` where the file can't be opened or isn't a regular one, the place is past those that the
+    /// system knows, or a read fails; what then stands in `out` is left open.
     fn read_at(&mut self, at: u64, out: &mut [u8]) -> Result<usize, Failed>
         ensures bound { IfOk result (λ n. n ≤ length out.new) }
         ensures bytes { IfSome (⟦<FileDisk<'a, R> as Disk>⟧.now self.old).reads (λ bytes. GivesFrom at bytes out.old out.new result) }
@@ -209,8 +263,8 @@ impl<'a, R: Files> Disk for FileDisk<'a, R> {
     ///
     /// # Errors
     ///
-    /// `Failed` where the file is for reading alone, can't be opened, or a write fails; but for the first,
-    /// any part of the bytes may stand then.
+    /// `Failed` where the file is for reading alone, can't be opened or isn't a regular one, or a write
+    /// fails; in this last case any part of the bytes may stand then.
     fn write_at(&mut self, at: u64, bytes: &[u8]) -> Result<(), Failed>
         requires place { IfSome (⟦<FileDisk<'a, R> as Disk>⟧.now self.old).reads (λ before. at ≤ length before) }
         requires end { at + length bytes.now < 2 ^ 63 }
@@ -228,7 +282,7 @@ impl<'a, R: Files> Disk for FileDisk<'a, R> {
     ///
     /// # Errors
     ///
-    /// `Failed` where the file can't be opened or the sync fails.
+    /// `Failed` where the file can't be opened or isn't a regular one, or the sync fails.
     fn sync(&mut self) -> Result<(), Failed>
         ensures syncs { Syncs (⟦<FileDisk<'a, R> as Disk>⟧.now self.old) (⟦<FileDisk<'a, R> as Disk>⟧.now self.new) result }
         ensures cause { HasCause (⟦<FileDisk<'a, R> as Disk>⟧.now self.old).faults (⟦<FileDisk<'a, R> as Disk>⟧.now self.new).faults result }

@@ -6,6 +6,7 @@ ghost use Rattle.std.specs.Io.KnownBytes.{WriteAppends};
 ghost use Rattle.sp_io.specs.Causes.{CountsFault, HasCause};
 
 use crate::failed::Failed;
+use crate::retrying::write_retrying;
 use crate::sink::Sink;
 use std::io::Write;
 
@@ -32,14 +33,13 @@ impl<W: Write> Sink for StdSink<W> {
 
     ghost faults = { λ s. s.faults };
 
-    /// Passes a front of `piece` on to the writer. The count of faults stays at 2^64 - 1 once it is
-    /// there.
+    /// Passes a front of `piece` on to the writer. A write that a signal interrupts is made again, and is
+    /// no fault. The count of faults stays at 2^64 - 1 once it is there.
     ///
     /// # Errors
     ///
-    /// `Failed` where the writer answers an error, whatever its kind, or takes nothing of a piece
-    /// that isn't empty. std's writers count no errors, so that none is passed over is tested and
-    /// not proved.
+    /// `Failed` where the writer answers any other error, or takes nothing of a piece that isn't empty.
+    /// std's writers count no errors, so that none of these is passed over is tested and not proved.
     fn write(&mut self, piece: &[u8]) -> Result<usize, Failed>
         ensures bound { IfOk result (λ n. n ≤ length piece.now) }
         ensures progress { IfOk result (λ n. 0 < length piece.now → 0 < n) }
@@ -53,7 +53,7 @@ impl<W: Write> Sink for StdSink<W> {
             (⟦<StdSink<W> as Sink>⟧.faults self.old)
             (⟦<StdSink<W> as Sink>⟧.faults self.new) result }
     {
-        match self.writer.write(piece) {
+        match write_retrying(&mut self.writer, piece) {
             Ok(count) if 0 < count || piece.is_empty() => Ok(count),
             _ => {
                 self.faults = self.faults.saturating_add(1);

@@ -7,6 +7,7 @@ ghost use Rattle.std.specs.Io.KnownBytes.{ReadConsumes};
 ghost use Rattle.sp_io.specs.Causes.{CountsFault, HasCause};
 
 use crate::failed::Failed;
+use crate::retrying::read_retrying;
 use crate::source::Source;
 use std::io::Read;
 
@@ -32,12 +33,13 @@ impl<R: Read> Source for StdSource<R> {
 
     ghost faults = { λ s. s.faults };
 
-    /// Gives what the reader gives. The count of faults stays at 2^64 - 1 once it is there.
+    /// Gives what the reader gives. A read that a signal interrupts is made again, and is no fault. The
+    /// count of faults stays at 2^64 - 1 once it is there.
     ///
     /// # Errors
     ///
-    /// `Failed` where the reader answers an error, whatever its kind. std's readers count no errors,
-    /// so that none is passed over, not even an interruption, is tested and not proved.
+    /// `Failed` where the reader answers any other error. std's readers count no errors, so that none of
+    /// these is passed over is tested and not proved.
     fn read(&mut self, out: &mut [u8]) -> Result<usize, Failed>
         ensures bound { ReadsAtMost result out.new }
         ensures bytes { ReadConsumes
@@ -50,7 +52,7 @@ impl<R: Read> Source for StdSource<R> {
             (⟦<StdSource<R> as Source>⟧.faults self.old)
             (⟦<StdSource<R> as Source>⟧.faults self.new) result }
     {
-        match self.reader.read(out) {
+        match read_retrying(&mut self.reader, out) {
             Ok(count) => Ok(count),
             Err(_) => {
                 self.faults = self.faults.saturating_add(1);

@@ -235,13 +235,13 @@ fn drains(rt: HostRuntime) -> Result<(), Fail> {
     Ok(())
 }
 
-/// A device whose reads are interrupted, and which takes nothing.
+/// A device whose reads fail, and which takes nothing.
 #[derive(Drop)]
 struct Stuck;
 
 impl Read for Stuck {
     fn read(&mut self, _out: &mut [u8]) -> io::Result<usize> {
-        Err(ErrorKind::Interrupted.into())
+        Err(ErrorKind::BrokenPipe.into())
     }
 }
 
@@ -255,24 +255,29 @@ impl Write for Stuck {
     }
 }
 
-/// A device whose first call is interrupted. It counts its calls, fills what is read with their
+/// A device whose first call fails with this error. It counts its calls, fills what is read with their
 /// number and takes one byte a write.
 #[derive(Drop)]
-struct Interrupted {
+struct Failing {
+    error: ErrorKind,
     calls: u8,
 }
 
-impl Interrupted {
+impl Failing {
+    fn new(error: ErrorKind) -> Failing {
+        Failing { error, calls: 0 }
+    }
+
     fn call(&mut self) -> io::Result<u8> {
         self.calls = self.calls.saturating_add(1);
         if self.calls == 1 {
-            return Err(ErrorKind::Interrupted.into());
+            return Err(self.error.into());
         }
         Ok(self.calls)
     }
 }
 
-impl Read for Interrupted {
+impl Read for Failing {
     fn read(&mut self, out: &mut [u8]) -> io::Result<usize> {
         let call = self.call()?;
         out.fill(call);
@@ -280,7 +285,7 @@ impl Read for Interrupted {
     }
 }
 
-impl Write for Interrupted {
+impl Write for Failing {
     fn write(&mut self, piece: &[u8]) -> io::Result<usize> {
         self.call()?;
         Ok(piece.len().min(1))
@@ -307,12 +312,15 @@ fn read_again<R: Read + Drop>(reader: R) -> [Seen; 2] {
     [first, (read_full(&mut source, &mut out), out)]
 }
 
-/// A call that is interrupted fails, and isn't tried again: the next call is the second one.
+/// A call that fails isn't made again: the next one is the second. One that is interrupted is made again.
 #[test]
-fn interrupted_reads(rt: HostRuntime) {
+fn failed_reads(rt: HostRuntime) {
     let wanted = [(FAULT, *b"----"), (Ok(4), [2; 4])];
-    assert!(rt; read_twice(Interrupted { calls: 0 }) == wanted);
-    assert!(rt; read_again(Interrupted { calls: 0 }) == wanted);
+    assert!(rt; read_twice(Failing::new(ErrorKind::TimedOut)) == wanted);
+    assert!(rt; read_again(Failing::new(ErrorKind::TimedOut)) == wanted);
+    let wanted = [(Ok(4), [2; 4]), (Ok(4), [3; 4])];
+    assert!(rt; read_twice(Failing::new(ErrorKind::Interrupted)) == wanted);
+    assert!(rt; read_again(Failing::new(ErrorKind::Interrupted)) == wanted);
     assert!(rt; read_twice(Stuck) == [(FAULT, *b"----"); 2]);
     let nothing = read_full(&mut StdSource::new(Stuck), &mut []);
     assert!(rt; nothing == Ok(0));
@@ -341,14 +349,19 @@ fn writers(rt: HostRuntime) {
     assert!(rt; write_each(Stuck) == (FAULT, Ok(0), Err(Failed)));
 }
 
-/// A call that is interrupted fails, and isn't tried again: a byte a call is taken from then on.
+/// A call that fails isn't made again: a byte a call is taken from then on. One that is interrupted is.
 #[test]
-fn interrupted_writes(rt: HostRuntime) {
-    let mut device = Interrupted { calls: 0 };
+fn failed_writes(rt: HostRuntime) {
+    let mut device = Failing::new(ErrorKind::TimedOut);
     assert!(rt; write_twice(&mut device) == [Err(Failed), Ok(())]);
     assert_eq!(rt; device.calls, 4);
-    let written = write_each(Interrupted { calls: 0 });
+    let written = write_each(Failing::new(ErrorKind::TimedOut));
     assert!(rt; written == (FAULT, Ok(0), Ok(())));
+    let mut device = Failing::new(ErrorKind::Interrupted);
+    assert!(rt; write_twice(&mut device) == [Ok(()), Ok(())]);
+    assert_eq!(rt; device.calls, 7);
+    let written = write_each(Failing::new(ErrorKind::Interrupted));
+    assert!(rt; written == (Ok(1), Ok(0), Ok(())));
 }
 
 /// How much of three pieces of 3,000 bytes was handed on behind each of them, and in the end.
