@@ -57,7 +57,7 @@ from formats import (
     spelled,
     transaction,
 )
-from talk import Path, Talk, hold, is_launcher, ready
+from talk import Path, Talk, hold, is_launcher, name_of, ready
 
 __all__ = ["Ledger", "genesis", "block", "mined", "transaction", "locked", "lock_of"]
 
@@ -122,7 +122,7 @@ class Ledger:
             except OSError:  # a file that can't be opened: the program says so
                 pass
         try:
-            words = ["node", *(["--fresh"] if fresh else []), os.fspath(file)]
+            words = ["node", *(["--fresh"] if fresh else []), name_of(file, held)]
             self.talk = Talk(words, timeout, held, name)
         finally:
             for each in held:  # the program has it now

@@ -117,11 +117,8 @@ def place_in(fault: str) -> int:
 
 def of_journal(name: str, path: Path) -> Subject:
     """A journal, of which nobody writes while it is read: a copy of it is shown to the program."""
-    held = hold(path, alone=False)
-    try:
-        data = pathlib.Path(path).read_bytes()
-    finally:
-        os.close(held)
+    with open(hold(path, alone=False), "rb") as held:
+        data = held.read()
     with tempfile.TemporaryDirectory() as folder:
         copy = os.path.join(folder, "journal")
         pathlib.Path(copy).write_bytes(data)

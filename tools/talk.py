@@ -57,6 +57,12 @@ def hold(file: Path, alone: bool = True) -> int:
     return opened
 
 
+def name_of(file: Path, held: Sequence[int]) -> str:
+    """A name of the very file that is held, where one is: a link of the other name may lead elsewhere by now."""
+    own = f"/dev/fd/{held[0]}" if held else ""
+    return own if own and os.path.exists(own) else os.fspath(file)
+
+
 class Talk:
     """A run of `spectre` with these words. What is sent is written while answers are waited for, so that
     neither side waits for the other for ever. It is for one thread at a time."""
