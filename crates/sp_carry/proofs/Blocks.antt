@@ -92,7 +92,7 @@ room_block table k ts h few next small =
 
 -- a table that counts the block
 pub counted : (table : Numbered) (k : Carried) (ts : List Transaction) (old new : Table) → Keeps old (with_carriers table k ts) → new.blocks ≡ k.blocks + 1
-    → new.txs.items ≡ old.txs.items → new.ids.keys ≡ old.ids.keys → new.rows.items ≡ old.rows.items → new.by_tx.items ≡ old.by_tx.items
+    → new.txs.items ≡ old.txs.items → new.ids ≡ old.ids → new.rows.items ≡ old.rows.items → new.by_tx.items ≡ old.by_tx.items
     → ((from : Outpoint) → kept_at new.spenders.lists from ≡ kept_at old.spenders.lists from) → Keeps new (with_block table k ts)
 counted table k ts old new h blocks txs ids rows lists spenders =
     record {

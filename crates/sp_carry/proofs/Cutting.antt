@@ -126,7 +126,7 @@ IsBlockwise-cut k n first h of =
 
 -- a table that counts fewer blocks
 pub Keeps-cut : (k : Carried) (n first : ℕ) (old new : Table) → AreOfFirst k n first → Keeps old (front k first) → new.blocks ≡ n
-    → new.txs.items ≡ old.txs.items → new.ids.keys ≡ old.ids.keys → new.rows.items ≡ old.rows.items → new.by_tx.items ≡ old.by_tx.items
+    → new.txs.items ≡ old.txs.items → new.ids ≡ old.ids → new.rows.items ≡ old.rows.items → new.by_tx.items ≡ old.by_tx.items
     → ((from : Outpoint) → kept_at new.spenders.lists from ≡ kept_at old.spenders.lists from) → Keeps new (cut_to k n)
 Keeps-cut k n first old new of h blocks txs ids rows lists spenders =
     let own = subst (λ (l : List Carrier). Keeps old (record { blocks = k.blocks; txs = take (used l) k.txs; rows = l })) of.are h in

@@ -1,12 +1,11 @@
 -- What one more transaction, and one more carrier, change in what a table keeps, and how each is taken back.
-use Rattle.std.proofs.Common.{◌≡◌, ◌↔◌, ℕ, zero, suc, Bool, true, false, cond, eqb, not, ◌||◌, ◌+◌, ◌-◌, ◌<◌, ◌≤◌, List, [], ◌∷◌, ◌++◌, length, map, take, get_or, set, Some, None, refl, sym, ap, ◌∙◌, arith, length-append, subst, IsTrue, if◌then◌else◌, inl, inr}
+use Rattle.std.proofs.Common.{◌≡◌, ◌↔◌, ℕ, zero, suc, Bool, true, false, cond, eqb, not, ◌||◌, ◌+◌, ◌-◌, ◌<◌, ◌≤◌, List, [], ◌∷◌, ◌++◌, length, map, take, get_or, set, Some, None, refl, sym, ap, ◌∙◌, arith, length-append, subst, IsTrue, inl, inr}
 use Rattle.std.proofs.lemmas.Bool.{cases_lt, eqb-true, eqb-false, eq-eqb, ne_eqb, false≢true, false_from_ne_true, lt-ltb}
 use Rattle.std.proofs.lemmas.List.{append-nil, map-append, get_or-set_same, get_or-set_other, length-set, get_or-take, length-take-le}
 use Rattle.std.proofs.Math.Seq.{take-append_seam}
 use Rattle.std.proofs.Math.ListN.{length-map}
 use Rattle.std.specs.Prelude.{All, position}
 use Rattle.std.specs.List.{list_any, position_or_len}
-use Rattle.indexmap.specs.IndexSet.{insert_key}
 use Rattle.sp_ids.specs.declared.outpoint.Outpoint.{Outpoint}
 use Rattle.sp_tx.specs.Parts.{Transaction}
 use Rattle.sp_tx.specs.Spending.{id_of}
@@ -74,10 +73,6 @@ none_found ids id none =
     some_none : {n : ℕ} → Some n ≡ None → ⊥
     some_none e = cc
 
--- and goes last
-pub fresh_key : (ids : List ℕ) (id : ℕ) → position (eqb id) ids ≡ None → insert_key eqb ids id ≡ ids ++ id ∷ []
-fresh_key ids id none = ap (λ (c : Bool). if c then ids else ids ++ id ∷ []) (none_found ids id none)
-
 -- one list behind all lists
 one_behind : (lists : List (List ℕ)) (list : List ℕ) (n : ℕ) → get_or (lists ++ list ∷ []) n [] ≡ cond (eqb (length lists) n) list (get_or lists n [])
 one_behind [] list zero = refl
@@ -98,7 +93,7 @@ any_default (x ∷ xs) zero d e lt = refl
 any_default (x ∷ xs) (suc i) d e lt = any_default xs i d e (omega arith)
 
 pub keeps_new : (t u : Table) (k : Carried) (x : Transaction) (r : Carrier) (id number : ℕ) → Keeps t k → u.blocks ≡ t.blocks
-    → u.txs.items ≡ t.txs.items ++ x ∷ [] → u.ids.keys ≡ t.ids.keys ++ id ∷ [] → id ≡ id_of x → u.rows.items ≡ t.rows.items ++ r ∷ []
+    → u.txs.items ≡ t.txs.items ++ x ∷ [] → u.ids ≡ t.ids ++ id ∷ [] → id ≡ id_of x → u.rows.items ≡ t.rows.items ++ r ∷ []
     → u.by_tx.items ≡ t.by_tx.items ++ (number ∷ []) ∷ [] → IsNoted t.spenders.lists u.spenders.lists x.inputs r.tx
     → r.tx ≡ length t.txs.items → number ≡ length t.rows.items → carriers_in k.rows r.tx ≡ [] → Keeps u (with_row (with_tx k x) r)
 keeps_new t u k x r id number h blocks txs ids is rows lists noted last place none =
@@ -126,7 +121,7 @@ keeps_new t u k x r id number h blocks txs ids is rows lists noted last place no
     at tx false e = h.lists tx ∙ sym (append-nil (carriers_in k.rows tx))
 
 pub keeps_row : (t u : Table) (k : Carried) (r : Carrier) (list : List ℕ) (number : ℕ) → Keeps t k → u.blocks ≡ t.blocks → u.txs.items ≡ t.txs.items
-    → u.ids.keys ≡ t.ids.keys → u.rows.items ≡ t.rows.items ++ r ∷ [] → r.tx < length t.by_tx.items → list ≡ get_or t.by_tx.items r.tx list
+    → u.ids ≡ t.ids → u.rows.items ≡ t.rows.items ++ r ∷ [] → r.tx < length t.by_tx.items → list ≡ get_or t.by_tx.items r.tx list
     → u.by_tx.items ≡ set t.by_tx.items r.tx (list ++ number ∷ []) → number ≡ length t.rows.items
     → ((from : Outpoint) → kept_at u.spenders.lists from ≡ kept_at t.spenders.lists from) → Keeps u (with_row k r)
 keeps_row t u k r list number h blocks txs ids rows there read lists last spenders =
@@ -172,7 +167,7 @@ last_same {X} (z ∷ xs) (w ∷ ys) x y e =
 
 -- the last carrier is taken back, and the last number of those under its transaction
 pub row_dropped : (t u : Table) (k : Carried) (r row : Carrier) (list now : List ℕ) → Keeps t (with_row k r) → u.blocks ≡ t.blocks → u.txs.items ≡ t.txs.items
-    → u.ids.keys ≡ t.ids.keys → t.rows.items ≡ u.rows.items ++ row ∷ [] → row.tx < length t.by_tx.items → list ≡ get_or t.by_tx.items row.tx list
+    → u.ids ≡ t.ids → t.rows.items ≡ u.rows.items ++ row ∷ [] → row.tx < length t.by_tx.items → list ≡ get_or t.by_tx.items row.tx list
     → ((front : List ℕ) (last : ℕ) → list ≡ front ++ last ∷ [] → now ≡ front) → u.by_tx.items ≡ set t.by_tx.items row.tx now
     → ((from : Outpoint) → kept_at u.spenders.lists from ≡ kept_at t.spenders.lists from) → Keeps u k
 row_dropped t u k r row list now h blocks txs ids rows there read popped lists spenders =
@@ -221,7 +216,7 @@ none_left t left_rows k r row list none h rows there read left =
     left (carriers_in k.rows r.tx) (length k.rows) here
 
 -- a table in which the same is found keeps the same
-pub keeps_same : (t u : Table) (k : Carried) → Keeps t k → u.blocks ≡ t.blocks → u.txs.items ≡ t.txs.items → u.ids.keys ≡ t.ids.keys → u.rows.items ≡ t.rows.items
+pub keeps_same : (t u : Table) (k : Carried) → Keeps t k → u.blocks ≡ t.blocks → u.txs.items ≡ t.txs.items → u.ids ≡ t.ids → u.rows.items ≡ t.rows.items
     → u.by_tx.items ≡ t.by_tx.items → ((from : Outpoint) → kept_at u.spenders.lists from ≡ kept_at t.spenders.lists from) → Keeps u k
 keeps_same t u k h blocks txs ids rows lists spenders =
     record {
@@ -257,14 +252,14 @@ noted_below t n h e from =
 
 -- the last transaction is taken back, which has no carrier
 pub tx_dropped : (t u : Table) (k : Carried) (x tx : Transaction) (number : ℕ) → Keeps t (with_tx k x) → carriers_in k.rows (length k.txs) ≡ []
-    → u.blocks ≡ t.blocks → t.txs.items ≡ u.txs.items ++ tx ∷ [] → number ≡ length u.txs.items → u.ids.keys ≡ take number t.ids.keys
+    → u.blocks ≡ t.blocks → t.txs.items ≡ u.txs.items ++ tx ∷ [] → number ≡ length u.txs.items → u.ids ≡ take (length t.ids - 1) t.ids
     → u.rows.items ≡ t.rows.items → u.by_tx.items ≡ take (length t.by_tx.items - 1) t.by_tx.items
     → ((first : Outpoint → List ℕ) → IsForgotten first t.spenders.lists u.spenders.lists tx.inputs number) → Keeps u k
 tx_dropped t u k x tx number h none blocks txs last ids rows lists forgotten =
     record {
       blocks = blocks ∙ h.blocks;
       txs = both.0;
-      ids = ids ∙ rw (h.ids, is_last) (ap (take (length k.txs)) (map-append id_of k.txs (x ∷ []))
+      ids = ids ∙ rw (one_less, h.ids) (ap (take (length k.txs)) (map-append id_of k.txs (x ∷ []))
           ∙ ap (λ (n : ℕ). take n (map id_of k.txs ++ id_of x ∷ [])) (sym (length-map k.txs id_of))
           ∙ take-append_seam (map id_of k.txs) (id_of x ∷ []));
       rows = rows ∙ h.rows;
@@ -282,6 +277,10 @@ tx_dropped t u k x tx number h none blocks txs last ids rows lists forgotten =
 
     is_last : number ≡ length k.txs
     is_last = last ∙ ap length both.0
+
+    one_less : length t.ids - 1 ≡ length k.txs
+    one_less =
+        (let more : length t.ids ≡ length k.txs + 1 = ap length h.ids ∙ length-map (k.txs ++ x ∷ []) id_of ∙ length-append k.txs (x ∷ []) in omega (arith, more))
 
     long : length t.by_tx.items ≡ length k.txs + 1
     long = h.long ∙ length-append k.txs (x ∷ [])

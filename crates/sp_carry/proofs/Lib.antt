@@ -8,6 +8,7 @@ pub mod Grants
 pub mod Noting
 pub mod Forgetting
 pub mod Apart
+pub mod Places
 pub mod Keeping
 pub mod Finding
 pub mod Firsts

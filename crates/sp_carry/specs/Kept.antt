@@ -10,7 +10,7 @@ use Rattle.sp_carry.specs.Carried.{Carried, carriers_in}
 pub record Keeps (t : Table) (k : Carried) : Type 0 where
   pub blocks : t.blocks ≡ k.blocks
   pub txs : t.txs.items ≡ k.txs
-  pub ids : t.ids.keys ≡ map id_of k.txs
+  pub ids : t.ids ≡ map id_of k.txs
   pub rows : t.rows.items ≡ k.rows
   pub long : length t.by_tx.items ≡ length k.txs
   pub lists : (tx : ℕ) → slice_index_or t.by_tx.items tx [] ≡ carriers_in k.rows tx

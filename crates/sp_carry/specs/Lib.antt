@@ -3,6 +3,7 @@ pub mod Ledger
 pub mod Money
 pub mod Examples
 pub mod Lookups
+pub mod Places
 pub mod Flags
 pub mod Carried
 pub mod Kept

@@ -206,7 +206,7 @@ impl Carriers {
         requires { tx < length self.now.txs }
         ensures { result ≡ id_of (tx_at self.now tx) }
     {
-        self.table.ids[tx as usize]
+        self.table.ids.at(tx)
     }
 
     /// A transaction.

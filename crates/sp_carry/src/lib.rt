@@ -10,6 +10,7 @@ mod carry;
 mod copies;
 mod few;
 mod flags;
+mod ids;
 pub mod laws;
 mod marks;
 mod numbers;

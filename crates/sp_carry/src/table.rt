@@ -1,27 +1,28 @@
 //! Transactions and carriers by number, with what is looked up of them.
 
-ghost use Rattle.std.specs.Prelude.{◌≡◌, ◌<◌, ◌↔◌, ◌^◌, [], length, All, IsTrue, OnOk, OnErr, None};
+ghost use Rattle.std.specs.Prelude.{◌≡◌, ◌<◌, ◌↔◌, ◌^◌, ◌++◌, ◌∷◌, [], length, position, nat_eq, All, IsTrue, OnOk, OnErr, None};
+ghost use Rattle.sp_ids.specs.declared.outpoint.Outpoint.{Outpoint};
 ghost use Rattle.sp_tx.specs.Parts.{Transaction};
 ghost use Rattle.sp_tx.specs.Spending.{id_of};
 ghost use Rattle.sp_carry.specs.declared.carrier.Carrier.{Carrier};
-ghost use Rattle.sp_carry.specs.Lookups.{spenders_in};
+ghost use Rattle.sp_carry.specs.Lookups.{kept_at, spenders_in, AreApart, IsNoted};
 ghost use Rattle.sp_carry.specs.Carried.{Carried, carriers_in, nothing, number_of, with_tx, with_row};
 ghost use Rattle.sp_carry.specs.Kept.{carried_of, IsKept, Keeps};
 
 use crate::carrier::Carrier;
 use crate::copies::copied;
+use crate::ids::Ids;
 use crate::numbers::Numbers;
 use crate::spenders::Spenders;
-use indexmap::IndexSet;
 use sp_ids::{Memory, Outpoint, TxId};
-use sp_tx::Tx;
+use sp_tx::{Input, Tx};
 use std::alloc::Global;
 
 // Transactions, each once, and carriers.
 pub(crate) struct Table {
     pub(crate) blocks: u16,
     pub(crate) txs: Vec<Tx>,
-    pub(crate) ids: IndexSet<TxId>,
+    pub(crate) ids: Ids,
     pub(crate) rows: Vec<Carrier>,
     pub(crate) by_tx: Vec<Numbers>,
     pub(crate) spenders: Spenders,
@@ -41,6 +42,34 @@ impl Drop for Table {
     }
 }
 
+// Notes the id and the inputs of a new transaction. After `Memory` all is as before.
+fn note(
+    ids: &mut Ids,
+    spenders: &mut Spenders,
+    alloc: Global,
+    inputs: &[Input],
+    id: TxId,
+    number: u32,
+) -> Result<(), Memory>
+    requires fresh { position (nat_eq id) ids.old ≡ None }
+    requires room { length ids.old < 2 ^ 32 }
+    requires apart { AreApart inputs.now }
+    requires below { (from : Outpoint) → All (λ m. m < number) (kept_at spenders.old.lists from) }
+    ensures ids { OnOk result (ids.new ≡ ids.old ++ id ∷ []) }
+    ensures inputs { OnOk result (IsNoted spenders.old.lists spenders.new.lists inputs.now number) }
+    ensures err_ids { OnErr result (ids.new ≡ ids.old) }
+    ensures err_inputs { OnErr result ((from : Outpoint) → kept_at spenders.new.lists from ≡ kept_at spenders.old.lists from) }
+{
+    ids.add(id)?;
+    match spenders.add(alloc, inputs, number) {
+        Ok(()) => Ok(()),
+        Err(_) => {
+            ids.pop();
+            Err(Memory)
+        }
+    }
+}
+
 impl Table {
     // Nothing yet.
     pub(crate) fn new(alloc: Global) -> Table
@@ -49,7 +78,7 @@ impl Table {
         Table {
             blocks: 0,
             txs: Vec::new(alloc),
-            ids: IndexSet::new(alloc),
+            ids: Ids::new(alloc),
             rows: Vec::new(alloc),
             by_tx: Vec::new(alloc),
             spenders: Spenders::new(alloc),
@@ -62,10 +91,7 @@ impl Table {
         requires small { length self.now.txs.items < 2 ^ 32 }
         ensures { result ≡ number_of (carried_of self.now) id.now }
     {
-        match self.ids.get_index_of(id) {
-            Some(place) => Some(place as u32),
-            None => None,
-        }
+        self.ids.number_of(id)
     }
 
     // The carriers of a transaction.
@@ -121,18 +147,14 @@ impl Table {
         self.txs.reserve(1)?;
         self.by_tx.reserve(1)?;
         self.rows.reserve(1)?;
-        self.ids.reserve(1)?;
         let copy = copied(alloc, tx)?;
         let list = Numbers::one(alloc, number)?;
-        self.spenders.add(alloc, tx.inputs.as_slice(), row.tx)?;
+        let inputs = tx.inputs.as_slice();
+        note(&mut self.ids, &mut self.spenders, alloc, inputs, id, row.tx)?;
         self.txs.push_reserved(copy);
         self.by_tx.push_reserved(list);
         self.rows.push_reserved(row);
-        match self.ids.insert(id) {
-            Ok(_) => Ok(()),
-            // Its room was reserved.
-            Err(_) => unreachable!(),
-        }
+        Ok(())
     }
 
     // Takes the last carrier back, and answers whether its transaction has none any more.
@@ -162,7 +184,7 @@ impl Table {
             Some(tx) => {
                 let number = self.txs.len();
                 self.by_tx.pop();
-                self.ids.truncate(number);
+                self.ids.pop();
                 self.spenders.take_back(tx.inputs.as_slice(), number as u32);
             }
             None => unreachable!(),

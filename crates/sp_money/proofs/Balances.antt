@@ -15,7 +15,8 @@ use Rattle.sp_money.specs.Accepted.{accepted_in}
 use Rattle.sp_money.specs.Held.{coins_of, lives, spender_count, IsOf}
 use Rattle.sp_money.specs.Kept.{coin_of, held_by, AreKept}
 use Rattle.sp_money.specs.Totals.{is_left, share, total_of}
-use Rattle.sp_money.proofs.Numbered.{found, has_place}
+use Rattle.sp_money.proofs.Numbered.{found}
+use Rattle.sp_carry.proofs.Places.{has_place}
 use Rattle.sp_money.proofs.Pushes.{get_some}
 use Rattle.sp_money.specs.Names.{is_left_under, left_names, names_under}
 

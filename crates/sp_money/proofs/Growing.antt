@@ -19,7 +19,7 @@ use Rattle.sp_money.specs.Places.{is_named}
 use Rattle.sp_money.specs.Kept.{held_of, IsKept}
 use Rattle.sp_money.specs.Growth.{set_spenders, with_outputs, with_tx, GoesOn, IsFront, IsLonger}
 use Rattle.sp_money.proofs.Counts.{count_cons, named_is}
-use Rattle.sp_money.proofs.Numbered.{eqb_flip}
+use Rattle.sp_carry.proofs.Places.{eqb_flip}
 use Rattle.sp_money.proofs.Standing.{length-coins}
 
 -- ---- one output after another

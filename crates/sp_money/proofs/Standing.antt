@@ -12,7 +12,7 @@ use Rattle.sp_tx.specs.Parts.{Transaction, of_parts}
 use Rattle.sp_tx.specs.Spending.{id_of}
 use Rattle.sp_carry.specs.Payment.{payment_of}
 use Rattle.sp_carry.specs.Money.{Coin, coins, coins_from}
-use Rattle.sp_money.proofs.Numbered.{eqb_flip}
+use Rattle.sp_carry.proofs.Places.{eqb_flip}
 use Rattle.sp_money.specs.Held.{coins_of, starts_from}
 use Rattle.sp_money.specs.Places.{is_name, StandsAt}
 

@@ -1,18 +1,10 @@
--- Where things stand: the lock in the list of locks, the output in that of outputs; and what inputs change there.
-use Rattle.std.specs.Prelude.{ℕ, zero, suc, ◌≡◌, ◌+◌, ◌-◌, ◌<◌, ◌^◌, Bool, true, false, cond, List, [], ◌∷◌, ◌++◌, length, position, nat_eq, slice_index, slice_index_or}
+-- Where an output stands in the list of outputs, and what inputs change there.
+use Rattle.std.specs.Prelude.{ℕ, zero, suc, ◌≡◌, ◌+◌, ◌-◌, ◌<◌, ◌^◌, Bool, true, false, cond, List, [], ◌∷◌, ◌++◌, length, slice_index, slice_index_or}
 use Rattle.std.specs.List.{list_any}
-use Rattle.std.specs.BTreeMap.{BTreeMap, get}
-use Rattle.std.specs.Ordering.{nat_cmp}
-use Rattle.sp_model.specs.Graph.{AreDistinct}
 use Rattle.sp_ids.specs.declared.outpoint.Outpoint.{Outpoint}
 use Rattle.sp_tx.specs.declared.parts.Input.{Input}
 use Rattle.sp_carry.specs.Payment.{is_same_outpoint}
 use Rattle.sp_carry.specs.Money.{Coin}
-
--- no number of the list repeats, and the map has the place of each, and no other
-pub record HasPlaces (map : BTreeMap ℕ ℕ) (list : List ℕ) : Type 0 where
-  pub places : (key : ℕ) → get nat_cmp map key ≡ position (nat_eq key) list
-  pub once : AreDistinct list
 
 -- whether the outpoint names the output
 abbrev pub is_name : Outpoint → Coin → Bool

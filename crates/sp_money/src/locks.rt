@@ -18,7 +18,7 @@ pub(crate) struct Locks {
 
 impl Model for Locks {
     ghost use Rattle.std.specs.Prelude.{ℕ, List};
-    ghost use Rattle.sp_money.specs.Places.{HasPlaces};
+    ghost use Rattle.sp_carry.specs.Places.{HasPlaces};
 
     ghost Value = { List ℕ };
 

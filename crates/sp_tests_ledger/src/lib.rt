@@ -1,9 +1,9 @@
 //! Tests of the transactions that blocks carry, of which are accepted, and of the engine, by public
 //! calls. They stand in a crate of their own because a crate with tests is proved twice.
 //!
-//! `rivals` tests which carriers conflict, and `collisions` that outpoints which crowd a table by hash
-//! don't make the look-ups of carriers slow, and `told` that carriers are the same where the ids of their
-//! transactions are told. `turns` tests which transactions turn as blocks come.
+//! `rivals` tests which carriers conflict, `collisions` and `id_crowds` that outpoints and ids which crowd a
+//! table by hash don't make the look-ups of carriers slow, and `told` that carriers are the same where the ids
+//! of their transactions are told. `turns` tests which transactions turn as blocks come.
 //! `votes` tests what an engine says of each two blocks, `settled` what it says where blocks settle ties,
 //! `vectors` what it says of graphs whose words were worked out apart, and `shared_rows` the rows that its
 //! views share.
@@ -49,6 +49,8 @@ mod engine;
 mod feeds;
 #[cfg(test)]
 mod full_engine;
+#[cfg(test)]
+mod id_crowds;
 #[cfg(test)]
 mod ledger;
 #[cfg(test)]

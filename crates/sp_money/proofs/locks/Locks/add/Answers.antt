@@ -1,6 +1,6 @@
 use Rattle.std.proofs.Common.{◌≡◌, ℕ, List, [], ◌∷◌, ◌++◌, length, ap, sym, ◌∙◌}
 use Rattle.std.specs.Prelude.{None, position, nat_eq}
-use Rattle.sp_money.proofs.Numbered.{places_push}
+use Rattle.sp_carry.proofs.Places.{places_push}
 use Rattle.sp_money.proofs.locks.Locks.add.Goals as goal
 
 pub invariant_of-self-2 : goal.invariant_of-self-2

@@ -1,6 +1,6 @@
 use Rattle.std.proofs.Common.{◌≡◌, ℕ, List, [], ◌∷◌, ◌++◌, subst}
-use Rattle.sp_money.specs.Places.{HasPlaces}
-use Rattle.sp_money.proofs.Numbered.{places_pop}
+use Rattle.sp_carry.specs.Places.{HasPlaces}
+use Rattle.sp_carry.proofs.Places.{places_pop}
 use Rattle.sp_money.proofs.locks.Locks.pop.Goals as goal
 
 pub invariant_of-self : goal.invariant_of-self

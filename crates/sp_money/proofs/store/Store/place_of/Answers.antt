@@ -4,7 +4,8 @@ use Rattle.std.proofs.lemmas.List.{get_or_read}
 use Rattle.sp_tx.specs.Parts.{Transaction}
 use Rattle.sp_tx.specs.Spending.{id_of}
 use Rattle.sp_carry.specs.Carried.{tx_at}
-use Rattle.sp_money.proofs.Numbered.{found, has_place}
+use Rattle.sp_money.proofs.Numbered.{found}
+use Rattle.sp_carry.proofs.Places.{has_place}
 use Rattle.sp_money.proofs.Standing.{id_within, length-starts, none_at, none_stands, stands}
 use Rattle.sp_money.proofs.store.Store.place_of.Goals as goal
 
