@@ -172,7 +172,8 @@ bytes_arrive ids kept (Ok block) few among there =
     ok_ok : {a b : ReadBlock} → ◌≡◌ {A = Result ReadBlock Refusal} (Ok a) (Ok b) → a ≡ b
     ok_ok e = cc
 
-id_stays : (bits : ℕ) (kept : List ReadBlock) (arrivals : List (List ℕ)) (id : ℕ) → has (ids_of kept) id ≡ true → has (ids_of (fold (kept_after bits) kept arrivals)) id ≡ true
+-- the id of a kept block stays
+pub id_stays : (bits : ℕ) (kept : List ReadBlock) (arrivals : List (List ℕ)) (id : ℕ) → has (ids_of kept) id ≡ true → has (ids_of (fold (kept_after bits) kept arrivals)) id ≡ true
 id_stays bits kept arrivals id there =
     let x : (x : ReadBlock) × IsIn kept x × (x.id ≡ id) = block_of_id kept id there in
     let now : List ReadBlock = fold (kept_after bits) kept arrivals in

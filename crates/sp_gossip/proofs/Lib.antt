@@ -3,6 +3,7 @@ pub mod Growing
 pub mod Outside
 pub mod Heard
 pub mod Peers
+pub mod Known
 pub mod Taking
 pub mod Reports
 pub mod Spelled

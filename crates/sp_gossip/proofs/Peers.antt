@@ -1,6 +1,6 @@
 -- One node among others: the list of its ids as blocks join, and the lists that it makes of ids, of blocks and of answers.
 use Rattle.std.proofs.Common.{◌≡◌, ℕ, ◌+◌, ◌<◌, ◌≤◌, Bool, true, false, cond, ◌||◌, eqb, Bor, List, [], ◌∷◌, ◌++◌, length, drop, get_or, Option, Some, None, is_some, Result, Ok, refl, sym, ap, ap₂, subst, ◌∙◌, append_assoc, add-one}
-use Rattle.std.specs.Prelude.{filter, find, fold}
+use Rattle.std.specs.Prelude.{filter, find}
 use Rattle.std.specs.Option.{option_copied}
 use Rattle.std.proofs.Math.Seq.{drop-cons}
 use Rattle.std.proofs.Math.ListN.{drop_of_length-le}
@@ -14,8 +14,9 @@ use Rattle.sp_engine.specs.Arrivals.{answer_of, kept_after}
 use Rattle.sp_engine.specs.Engine.{IsLedger, Ledger}
 use Rattle.sp_engine.specs.declared.answer.Answer.{Answer}
 use Rattle.sp_gossip.specs.Gossip.{bytes_of, bytes_or_none, others}
-use Rattle.sp_gossip.specs.Network.{answers_to}
+use Rattle.sp_gossip.specs.Pieces.{StandForAll, StandsFor}
 use Rattle.sp_gossip.specs.Peer.{Keeper}
+use Rattle.sp_gossip.specs.declared.piece.Piece.{Piece}
 use Rattle.sp_node.specs.Journalled.{kept_id}
 use Rattle.sp_node.proofs.Changes.{Joins, told_changes, told_joins}
 
@@ -83,51 +84,34 @@ fails p ids list i x lt is no_ e =
     ap (λ (b : Bool). list ++ cond b (x ∷ filter p (drop (i + 1) ids)) (filter p (drop (i + 1) ids))) (sym no_)
     ∙ ap (λ (ys : List ℕ). list ++ filter p ys) (sym (next ids i x lt is)) ∙ e
 
--- bytes of blocks
-pub one_found : (kept : List ReadBlock) (ids : List ℕ) (list more : List (List ℕ)) (i x : ℕ) (r : Option (Bor ReadBlock)) (b : Bor ReadBlock) (bytes : List ℕ) → i < length ids → x ≡ get_or ids i x
-    → option_copied r ≡ find (λ (y : ReadBlock). eqb y.id x) kept → r ≡ Some b → bytes ≡ b.now.bytes → more ≡ list ++ bytes ∷ [] → list ++ bytes_of kept (drop i ids) ≡ bytes_of kept ids
-    → more ++ bytes_of kept (drop (i + 1) ids) ≡ bytes_of kept ids
-one_found kept ids list more i x r b bytes lt is copied some copy pushed e =
-    ap (λ (l : List (List ℕ)). l ++ bytes_of kept (drop (i + 1) ids)) (pushed ∙ ap (λ (d : List ℕ). list ++ d ∷ []) copy)
-    ∙ append_assoc list (b.now.bytes ∷ []) (bytes_of kept (drop (i + 1) ids))
-    ∙ ap (λ (o : Option ReadBlock). list ++ (bytes_or_none o ++ bytes_of kept (drop (i + 1) ids))) (sym (ap option_copied some) ∙ copied)
-    ∙ ap (λ (ys : List ℕ). list ++ bytes_of kept ys) (sym (next ids i x lt is)) ∙ e
+-- what stands for the bytes of blocks: what there is so far, and what stands for the rest, stands for all
+abbrev pub AreToCome : ℕ → List ReadBlock → List ReadBlock → List ℕ → List Piece → ℕ → Type 0
+AreToCome bits kept own ids list i = (rest : List Piece) → StandForAll bits kept rest (bytes_of own (drop i ids)) → StandForAll bits kept (list ++ rest) (bytes_of own ids)
 
-pub none_found : (kept : List ReadBlock) (ids : List ℕ) (list : List (List ℕ)) (i x : ℕ) (r : Option (Bor ReadBlock)) → i < length ids → x ≡ get_or ids i x
-    → option_copied r ≡ find (λ (y : ReadBlock). eqb y.id x) kept → r ≡ None → list ++ bytes_of kept (drop i ids) ≡ bytes_of kept ids
-    → list ++ bytes_of kept (drop (i + 1) ids) ≡ bytes_of kept ids
-none_found kept ids list i x r lt is copied none e =
-    ap (λ (o : Option ReadBlock). list ++ (bytes_or_none o ++ bytes_of kept (drop (i + 1) ids))) (sym (ap option_copied none) ∙ copied)
-    ∙ ap (λ (ys : List ℕ). list ++ bytes_of kept ys) (sym (next ids i x lt is)) ∙ e
+pub one_stands : (bits : ℕ) (kept own : List ReadBlock) (ids : List ℕ) (list more : List Piece) (i x : ℕ) (r : Option (Bor ReadBlock)) (b : Bor ReadBlock) (piece : Piece) → i < length ids → x ≡ get_or ids i x
+    → option_copied r ≡ find (λ (y : ReadBlock). eqb y.id x) own → r ≡ Some b → StandsFor bits kept piece b.now.bytes → more ≡ list ++ piece ∷ []
+    → AreToCome bits kept own ids list i → AreToCome bits kept own ids more (i + 1)
+one_stands bits kept own ids list more i x r b piece lt is copied some stands pushed come = λ rest all. (
+    let here : bytes_of own (drop i ids) ≡ b.now.bytes ∷ bytes_of own (drop (i + 1) ids) =
+    ap (λ (ys : List ℕ). bytes_of own ys) (next ids i x lt is)
+    ∙ ap (λ (o : Option ReadBlock). bytes_or_none o ++ bytes_of own (drop (i + 1) ids)) (sym copied ∙ ap option_copied some) in
+    subst (λ (l : List Piece). StandForAll bits kept l (bytes_of own ids)) (sym (ap (λ (l : List Piece). l ++ rest) pushed ∙ append_assoc list (piece ∷ []) rest))
+    (come (piece ∷ rest) (subst (λ (bs : List (List ℕ)). StandForAll bits kept (piece ∷ rest) bs) (sym here) (stands, all)))
+    )
 
--- ---- bytes that arrive one after another
+pub none_stands : (bits : ℕ) (kept own : List ReadBlock) (ids : List ℕ) (list : List Piece) (i x : ℕ) (r : Option (Bor ReadBlock)) → i < length ids → x ≡ get_or ids i x
+    → option_copied r ≡ find (λ (y : ReadBlock). eqb y.id x) own → r ≡ None → AreToCome bits kept own ids list i → AreToCome bits kept own ids list (i + 1)
+none_stands bits kept own ids list i x r lt is copied none come = λ rest all. (
+    let here : bytes_of own (drop i ids) ≡ bytes_of own (drop (i + 1) ids) =
+    ap (λ (ys : List ℕ). bytes_of own ys) (next ids i x lt is)
+    ∙ ap (λ (o : Option ReadBlock). bytes_or_none o ++ bytes_of own (drop (i + 1) ids)) (sym copied ∙ ap option_copied none) in
+    come rest (subst (λ (bs : List (List ℕ)). StandForAll bits kept rest bs) (sym here) all)
+    )
 
--- what one more piece does, where the answers are this list so far and these blocks are kept
-pub record Turned (bits : ℕ) (before kept : List ReadBlock) (pieces : List (List ℕ)) (list : List Answer) (i : ℕ) : Type 0 where
-  pub answered : list ++ answers_to bits kept (drop i pieces) ≡ answers_to bits before pieces
-  pub all_kept : fold (kept_after bits) kept (drop i pieces) ≡ fold (kept_after bits) before pieces
-
-pub one_turn : (bits now_bits : ℕ) (before kept now : List ReadBlock) (pieces : List (List ℕ)) (list more : List Answer) (i : ℕ) (x slice : List ℕ) (answer : Answer) → i < length pieces
-    → x ≡ get_or pieces i x → slice ≡ x → now_bits ≡ bits → answer ≡ answer_of now_bits kept slice → now ≡ kept_after now_bits kept slice → more ≡ list ++ answer ∷ []
-    → Turned bits before kept pieces list i → Turned bits before now pieces more (i + 1)
-unfolding answers_to
-one_turn bits now_bits before kept now pieces list more i x slice answer lt is lent same told kept_now pushed turned =
-    let is_now : now ≡ kept_after bits kept x = kept_now ∙ ap₂ (λ (b : ℕ) (s : List ℕ). kept_after b kept s) same lent in
-    let is_answer : answer ≡ answer_of bits kept x = told ∙ ap₂ (λ (b : ℕ) (s : List ℕ). answer_of b kept s) same lent in
-    record {
-      answered =
-          ap₂ (λ (l : List Answer) (k : List ReadBlock). l ++ answers_to bits k (drop (i + 1) pieces)) pushed is_now
-          ∙ append_assoc list (answer ∷ []) (answers_to bits (kept_after bits kept x) (drop (i + 1) pieces))
-          ∙ ap (λ (a : Answer). list ++ (a ∷ answers_to bits (kept_after bits kept x) (drop (i + 1) pieces))) is_answer
-          ∙ ap (λ (ys : List (List ℕ)). list ++ answers_to bits kept ys) (sym (next pieces i x lt is)) ∙ turned.answered;
-      all_kept =
-          ap (λ (k : List ReadBlock). fold (kept_after bits) k (drop (i + 1) pieces)) is_now
-          ∙ ap (fold (kept_after bits) kept) (sym (next pieces i x lt is)) ∙ turned.all_kept;
-    }
-
-pub all_answered : (bits : ℕ) (kept : List ReadBlock) (pieces : List (List ℕ)) (list all : List Answer) (i : ℕ) → length pieces ≤ i → list ++ answers_to bits kept (drop i pieces) ≡ all → list ≡ all
-unfolding answers_to
-all_answered bits kept pieces list all i le e = sym (append-nil list) ∙ ap (λ (ys : List (List ℕ)). list ++ answers_to bits kept ys) (sym (drop_of_length-le pieces le)) ∙ e
+pub all_stand : (bits : ℕ) (kept own : List ReadBlock) (ids : List ℕ) (list : List Piece) (i : ℕ) → length ids ≤ i → AreToCome bits kept own ids list i → StandForAll bits kept list (bytes_of own ids)
+all_stand bits kept own ids list i le come =
+    subst (λ (l : List Piece). StandForAll bits kept l (bytes_of own ids)) (append-nil list)
+    (come [] (subst (λ (ys : List ℕ). StandForAll bits kept [] (bytes_of own ys)) (sym (drop_of_length-le ids le)) tt))
 
 -- ---- its genesis block
 

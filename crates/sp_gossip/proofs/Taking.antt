@@ -17,6 +17,9 @@ use Rattle.sp_gossip.specs.Gossip.{after, brings, Chain, delivery, delivery_of, 
 use Rattle.sp_gossip.specs.Network.{answers_to, AreInState, effect_in, fault_of, is_one_too_many, kept_with_arrivals, names_no_node, names_no_packet, Network, network_after, network_by, step_of, steps_of}
 use Rattle.sp_gossip.specs.Nodes.{HasTerms, Happened, is_full, kept_by_peer, network, Took}
 use Rattle.sp_gossip.specs.Peer.{Keeper}
+use Rattle.sp_gossip.specs.Pieces.{StandForAll, TakesBrought, TakesPieces}
+use Rattle.sp_gossip.specs.declared.piece.Piece.{Piece}
+use Rattle.sp_gossip.specs.declared.piece.Piece.TheVariants.{New}
 use Rattle.sp_gossip.specs.declared.event.Event.{Event}
 use Rattle.sp_gossip.specs.declared.event.Event.TheVariants.{Make, Tell, Deliver}
 use Rattle.sp_gossip.specs.declared.packet.Kind.{Kind}
@@ -239,6 +242,25 @@ same_packet packets k p q there lt at = some_some (sym (there_at packets k q lt 
 pub no_elements : (xs ids : List ℕ) → true ≡ eqb (length xs) 0 → xs ≡ ids → ids ≡ []
 no_elements [] ids none same = sym same
 no_elements (x ∷ xs) ids none same = (let e : length (x ∷ xs) ≡ 0 = eqb-true (length (x ∷ xs)) 0 (sym none) in absurd (omega (arith, e)))
+
+-- ---- pieces arrive
+
+pub pieces_brought : (profile : Profile) (bits : ℕ) (peers : List Keeper) (packets : List Packet) (makes : ℕ) (live : Bool) (node : ℕ) (peer now : Keeper) (pieces : List Piece) (answers list : List Answer) (old : Network)
+    → network profile bits peers packets makes live ≡ old → node < length peers → peer ≡ get_or peers node peer → peer.bits ≡ bits → TakesPieces peer.bits peer.kept pieces answers now.kept → list ≡ answers
+    → TakesBrought old node pieces list (network profile bits (slice_set peers node now) packets makes live)
+pieces_brought profile bits peers packets makes live node peer now pieces answers list old is lt at same takes told arrivals all =
+    let terms : old.bits ≡ peer.bits = sym (ap (λ (net : Network). net.bits) is) ∙ sym same in
+    let kept : peer.kept ≡ kept_by_node old.kept node = kept_at_peer profile bits peers packets makes live old node peer is lt at in
+    let took = takes arrivals (subst (λ (k : List ReadBlock). StandForAll peer.bits k pieces arrivals) (sym kept) (subst (λ (b : ℕ). StandForAll b (kept_by_node old.kept node) pieces arrivals) terms all)) in (
+      told ∙ took.0 ∙ ap₂ (λ (b : ℕ) (k : List ReadBlock). answers_to b k arrivals) (sym terms) kept,
+      brought_by profile bits peers packets makes live node peer now arrivals old is lt at same took.1,
+    )
+
+-- one block's bytes do
+pub alone_brought : (old new : Network) (node : ℕ) (pieces : List Piece) (own bytes : List ℕ) (list : List Answer) → pieces ≡ New own ∷ [] → own ≡ bytes → TakesBrought old node pieces list new
+    → (list ≡ answers_to old.bits (kept_by_node old.kept node) (bytes ∷ [])) × (new ≡ network_by old (brings node (bytes ∷ [])) old.makes)
+alone_brought old new node pieces own bytes list alone same takes =
+    takes (bytes ∷ []) (subst (λ (ps : List Piece). StandForAll old.bits (kept_by_node old.kept node) ps (bytes ∷ [])) (sym alone) (same, tt))
 
 -- ---- the first state
 

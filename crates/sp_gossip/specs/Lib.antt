@@ -3,6 +3,7 @@ pub mod Laws
 pub mod Network
 pub mod Peer
 pub mod Nodes
+pub mod Pieces
 pub mod Script
 pub mod Following
 pub mod Cut

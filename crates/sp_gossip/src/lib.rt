@@ -13,6 +13,7 @@ mod made_blocks;
 mod net;
 mod packet;
 mod peer;
+mod piece;
 mod schedule;
 mod script;
 mod script_line;

@@ -3,12 +3,13 @@
 ghost use Rattle.std.specs.Prelude.{◌≡◌, ◌≢◌, ◌≤◌, ◌<◌, ◌+◌, ◌++◌, ◌⊎◌, ◌∷◌, [], false, true, length, slice_get, slice_index_or, IfErr, IfOk, IsErrOf, None, OnErr, OnOk, Some};
 ghost use Rattle.sp_block.specs.Block.{IsGenesis};
 ghost use Rattle.sp_gossip.specs.Gossip.{after, brings, bytes_of, Chain, held, kept_by_node, missing, sends, some_packet, start, State};
-ghost use Rattle.sp_gossip.specs.Network.{answers_to, fault_of, AreInState, network_after, network_by, step_of};
+ghost use Rattle.sp_gossip.specs.Network.{fault_of, AreInState, network_after, network_by, step_of};
 ghost use Rattle.sp_gossip.specs.declared.step.StepFault.TheVariants as faults;
 
 use crate::event::Event;
 use crate::packet::{Kind, Packet};
 use crate::peer::Peer;
+use crate::piece::Piece;
 use crate::step::{Answers, Step, StepFault};
 use sp_block::Block;
 use sp_engine::Engine;
@@ -67,6 +68,7 @@ impl Drop for Net {
 
 impl Net {
     ghost use Rattle.sp_gossip.specs.Nodes.{Happened, Took};
+    ghost use Rattle.sp_gossip.specs.Pieces.{TakesBrought};
 
     /// So many nodes of a profile, each of which keeps genesis alone. No packet was sent.
     ///
@@ -144,7 +146,12 @@ impl Net {
         if self.makes >= MOST_MAKES {
             return Err(StepFault::Many);
         }
-        let Ok(answers) = self.bring(node, slice::from_ref(bytes)) else {
+        let Ok(copy) = Vec::from_slice(self.alloc, bytes.as_slice()) else {
+            self.live = false;
+            return Err(StepFault::Memory);
+        };
+        let piece = Piece::New(Bytes::of(copy));
+        let Ok(answers) = self.bring(node, slice::from_ref(&piece)) else {
             return Err(StepFault::Memory);
         };
         self.makes += 1;
@@ -239,9 +246,10 @@ impl Net {
             self.old.makes self.new result }
     {
         let brought = &self.packets[packet as usize];
-        let from = brought.from;
         let to = brought.to;
-        let Ok(pieces) = self.peers[from as usize].bytes_of(brought.ids.as_slice()) else {
+        let sender = &self.peers[brought.from as usize];
+        let receiver = &self.peers[to as usize];
+        let Ok(pieces) = sender.pieces_for(receiver, brought.ids.as_slice()) else {
             self.live = false;
             return Err(StepFault::Memory);
         };
@@ -302,17 +310,15 @@ impl Net {
         })
     }
 
-    // Bytes arrive at a node, one after another.
-    fn bring(&mut self, node: u8, pieces: &[Bytes]) -> Result<Answers, Memory>
+    // Pieces arrive at a node, one after another.
+    fn bring(&mut self, node: u8, pieces: &[Piece]) -> Result<Answers, Memory>
         requires live { self.old.live ≡ true }
         requires within { node < length self.old.kept }
-        ensures answers { IfOk result (λ answers. answers
-            ≡ answers_to self.old.bits (kept_by_node self.old.kept node) pieces.now) }
-        ensures after { OnOk result
-            (self.new ≡ network_by self.old (brings node pieces.now) self.old.makes) }
+        ensures taken { IfOk result (λ answers.
+            TakesBrought self.old node pieces.now answers self.new) }
         ensures memory { OnErr result (self.new.live ≡ false) }
     {
-        match self.peers[node as usize].arrive_all(pieces) {
+        match self.peers[node as usize].take_all(pieces) {
             Ok(answers) => Ok(Answers::of(answers)),
             Err(_) => {
                 self.live = false;

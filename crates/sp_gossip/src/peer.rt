@@ -1,16 +1,18 @@
 //! One node among others: its engine, and the ids of the blocks that it keeps.
 
-ghost use Rattle.std.specs.Prelude.{◌≡◌, ◌≤◌, ◌==◌, ◌∷◌, [], find, fold, IfOk, OnErr, OnOk};
+ghost use Rattle.std.specs.Prelude.{◌≡◌, ◌≤◌, ◌==◌, ◌∷◌, [], find, IfOk, IsTrue, OnErr, OnOk};
 ghost use Rattle.std.specs.Option.{option_copied};
 ghost use Rattle.sp_block.specs.Block.{IsGenesis};
 ghost use Rattle.sp_engine.specs.Arrivals.{answer_of, kept_after};
+ghost use Rattle.sp_engine.specs.Causes.{IsKnown};
 ghost use Rattle.sp_gossip.specs.Gossip.{bytes_of, held, missing, others};
-ghost use Rattle.sp_gossip.specs.Network.{answers_to};
+ghost use Rattle.sp_gossip.specs.Pieces.{StandForAll, StandsFor, TakesPiece, TakesPieces};
 ghost use Rattle.sp_model.specs.Graph.{has};
 ghost use Rattle.sp_node.specs.Journalled as journalled;
 ghost use Rattle.sp_pool.specs.Kept.{ids_of};
 
-use sp_block::{Block, read_block};
+use crate::piece::Piece;
+use sp_block::{Block, check_work, read_block};
 use sp_engine::{Answer, Engine};
 use sp_ids::{BlockId, Ids, Memory};
 use sp_model::Profile;
@@ -175,41 +177,79 @@ impl Peer {
         Ok(Ids::of(list))
     }
 
-    /// The bytes of the kept blocks of these ids, in order.
+    // Whether a block's bytes, if they arrived, would be known: a block of its id is kept, and no fault and
+    // no work refuses them. They aren't read.
+    fn knows(&self, block: &Block) -> bool
+        ensures { IsTrue result → IsKnown self.now.bits self.now.kept block.now.bytes block.now.id }
+    {
+        // The bytes of a genesis block are refused, also where it is kept.
+        if block.parents.as_slice().is_empty() {
+            return false;
+        }
+        if !check_work(block, self.engine.bits()) {
+            return false;
+        }
+        self.keeps(&block.id)
+    }
+
+    // What stands for a block's bytes where they arrive.
+    fn piece_of(&self, block: &Block) -> Result<Piece, Memory>
+        ensures { IfOk result (λ piece. StandsFor self.now.bits self.now.kept piece block.now.bytes) }
+    {
+        if self.knows(block) {
+            return Ok(Piece::Known(block.id));
+        }
+        let copy = Vec::from_slice(self.alloc, block.bytes.as_slice())?;
+        Ok(Piece::New(Bytes::of(copy)))
+    }
+
+    /// What stands for the bytes of the kept blocks of these ids, in order, where they arrive at the
+    /// receiver. Of a block that it knows no byte is read.
     ///
     /// # Errors
     ///
     /// `Memory` where a copy or the list found none.
-    pub(crate) fn bytes_of(&self, ids: &[BlockId]) -> Result<Vec<Bytes>, Memory>
-        ensures { IfOk result (λ list. list.items ≡ bytes_of self.now.kept ids.now) }
+    pub(crate) fn pieces_for(&self, receiver: &Peer, ids: &[BlockId]) -> Result<Vec<Piece>, Memory>
+        ensures { IfOk result (λ list. StandForAll receiver.now.bits receiver.now.kept list.items
+            (bytes_of self.now.kept ids.now)) }
     {
-        let alloc = self.alloc;
-        let mut list = Vec::new(alloc);
+        let mut list = Vec::new(self.alloc);
         'ids: for id in ids {
             if let Some(block) = self.block(id) {
-                let copy = Vec::from_slice(alloc, block.bytes.as_slice())?;
-                list.push(Bytes::of(copy))?;
+                let piece = receiver.piece_of(block)?;
+                list.push(piece)?;
             }
         }
         Ok(list)
     }
 
-    /// Bytes arrive one after another: what becomes of each.
+    // A piece arrives: what becomes of its block.
+    fn take(&mut self, piece: &Piece) -> Result<Answer, Memory>
+        ensures taken { IfOk result (λ answer.
+            TakesPiece self.old.bits self.old.kept piece.now answer self.new.kept) }
+        ensures profile { self.new.profile ≡ self.old.profile }
+        ensures bits { self.new.bits ≡ self.old.bits }
+    {
+        match piece {
+            Piece::Known(id) => Ok(Answer::Known { id: *id }),
+            Piece::New(bytes) => self.arrive(bytes.as_slice()),
+        }
+    }
+
+    /// Pieces arrive one after another: what becomes of the block of each.
     ///
     /// # Errors
     ///
     /// `Memory` where there was none. The first of them may have arrived then.
-    pub(crate) fn arrive_all(&mut self, pieces: &[Bytes]) -> Result<Vec<Answer>, Memory>
-        ensures answers { IfOk result (λ answers.
-            answers.items ≡ answers_to self.old.bits self.old.kept pieces.now) }
-        ensures kept { OnOk result
-            (self.new.kept ≡ fold (kept_after self.old.bits) self.old.kept pieces.now) }
+    pub(crate) fn take_all(&mut self, pieces: &[Piece]) -> Result<Vec<Answer>, Memory>
+        ensures taken { IfOk result (λ answers.
+            TakesPieces self.old.bits self.old.kept pieces.now answers.items self.new.kept) }
         ensures profile { self.new.profile ≡ self.old.profile }
         ensures bits { self.new.bits ≡ self.old.bits }
     {
         let mut answers = Vec::with_capacity(self.alloc, pieces.len())?;
         'pieces: for piece in pieces {
-            let answer = self.arrive(piece.as_slice())?;
+            let answer = self.take(piece)?;
             answers.push(answer)?;
         }
         Ok(answers)

@@ -180,6 +180,55 @@ fn a_waiting_block_becomes_present(rt: HostRuntime) -> Result<(), Fail> {
     )
 }
 
+/// A packet brings four blocks, of which the receiver got two meanwhile: one that is present there, and
+/// one that waits. Of the others one waits behind that one, until the last parent comes.
+#[test]
+fn known_and_new_blocks_come_in_one_packet(rt: HostRuntime) -> Result<(), Fail> {
+    let alloc = rt.alloc();
+    let blocks = Numbered::of(alloc, &[&[0], &[1], &[2], &[0]])?;
+    play(
+        alloc,
+        2,
+        &blocks,
+        &[
+            (Act::Give(0, 3), Came::Arrived(0, &[Became::Held(3)])),
+            (Act::Give(0, 4), Came::Arrived(0, &[Became::Kept(4, 1)])),
+            (Act::Give(0, 1), Came::Arrived(0, &[Became::Kept(1, 1)])),
+            (Act::Give(0, 2), Came::Arrived(0, &[Became::Kept(2, 2)])),
+            (Act::Tell(0, 1), Came::Sent(0, 0, Kind::Have, 4)),
+            (Act::Deliver(0), Came::Sent(1, 1, Kind::Want, 4)),
+            (Act::Deliver(1), Came::Sent(0, 2, Kind::Blocks, 4)),
+            (Act::Give(1, 4), Came::Arrived(1, &[Became::Kept(4, 1)])),
+            (Act::Give(1, 2), Came::Arrived(1, &[Became::Held(2)])),
+            (
+                Act::Deliver(2),
+                Came::Arrived(
+                    1,
+                    &[
+                        Became::Held(3),
+                        Became::Known(4),
+                        Became::Kept(1, 3),
+                        Became::Known(2),
+                    ],
+                ),
+            ),
+            (
+                Act::Deliver(2),
+                Came::Arrived(
+                    1,
+                    &[
+                        Became::Known(3),
+                        Became::Known(4),
+                        Became::Known(1),
+                        Became::Known(2),
+                    ],
+                ),
+            ),
+            (Act::Deliver(0), Came::Idle(1)),
+        ],
+    )
+}
+
 /// The packet with the blocks is lost, so the other node keeps none, and tells of none; it comes late, and
 /// then it does.
 #[test]
