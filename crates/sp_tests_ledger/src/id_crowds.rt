@@ -111,7 +111,7 @@ fn block(alloc: Global, numbers: &[u32]) -> Result<Txs, Fail> {
 }
 
 /// Blocks of 256 transactions of the kind.
-fn made(alloc: Global, kind: Kind) -> Result<Made, Fail> {
+fn make(alloc: Global, kind: Kind) -> Result<Made, Fail> {
     let numbers = numbers(alloc, kind)?;
     let mut ids = Vec::new(alloc);
     for number in &numbers {
@@ -235,7 +235,7 @@ fn compare(
     others: &Made,
     kind: Kind,
 ) -> Result<(), Fail> {
-    let made = made(alloc, kind)?;
+    let made = make(alloc, kind)?;
     let (other_time, time) = least_times(rt, alloc, dag, others, &made)?;
     holds(
         rt,
@@ -247,7 +247,7 @@ fn compare(
 
 /// That it is a crowd shows in a table by hash.
 fn shows(rt: &(impl Clock + Abort), alloc: Global, others: &Made) -> Result<(), Fail> {
-    let crowd = made(alloc, Kind::Crowd)?;
+    let crowd = make(alloc, Kind::Crowd)?;
     let (other_time, crowd_time) = least_table_times(rt, alloc, &others.ids, &crowd.ids)?;
     holds(rt, 0, crowd_time.as_micros() >= other_time.as_micros() * 4);
     Ok(())
@@ -255,7 +255,7 @@ fn shows(rt: &(impl Clock + Abort), alloc: Global, others: &Made) -> Result<(), 
 
 fn judge(rt: &(impl Clock + Abort), alloc: Global, dag: &mut Dag) -> Result<(), Fail> {
     extend(alloc, dag)?;
-    let others = made(alloc, Kind::Other)?;
+    let others = make(alloc, Kind::Other)?;
     shows(rt, alloc, &others)?;
     compare(rt, alloc, dag, &others, Kind::Crowd)?;
     compare(rt, alloc, dag, &others, Kind::Alike)
