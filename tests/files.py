@@ -42,7 +42,7 @@ def try_kinds(folder: pathlib.Path) -> None:
         for program in (PROGRAM, str(make_tree(folder / "tree"))):
             for kind in kinds:
                 for words in (["node", str(kind)], ["node", "--fresh", str(kind)], ["show", str(kind)], ["export", str(kind), "1"]):
-                    done = call([program, *words], feed)
+                    done = call([program, *words], feed, seconds=20)
                     see(f"{program} {' '.join(words)}: {done.returncode}", done.returncode == DISK_FAULT and done.stdout == b"")
     see("the pipe is still there", pipe.is_fifo())
 

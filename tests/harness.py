@@ -40,10 +40,10 @@ def finish() -> int:
     return 1 if _wrong else 0
 
 
-def call(words: Words, given: bytes = b"", **more: object) -> subprocess.CompletedProcess[bytes]:
-    """A run to its end, or of 20 seconds."""
+def call(words: Words, given: bytes = b"", seconds: int = 120, **more: object) -> subprocess.CompletedProcess[bytes]:
+    """A run to its end, or of so many seconds."""
     try:
-        return subprocess.run(words, input=given, capture_output=True, check=False, timeout=20, **more)  # type: ignore[call-overload, no-any-return]
+        return subprocess.run(words, input=given, capture_output=True, check=False, timeout=seconds, **more)  # type: ignore[call-overload, no-any-return]
     except subprocess.TimeoutExpired:
         return subprocess.CompletedProcess(words, ENDLESS, b"", b"")
 

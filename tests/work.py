@@ -55,9 +55,9 @@ def limit_to(size: int) -> None:
 
 def try_memory(folder: pathlib.Path) -> None:
     """A node whose memory ends, at several limits, and once more with enough."""
-    feed = feed_of(call([PROGRAM, "make", "511", "1", "16"]).stdout)
+    feed = feed_of(call([PROGRAM, "make", "350", "1", "16"]).stdout)
     journal = folder / "journal"
-    for megabytes in (12, 20, 30, 40):
+    for megabytes in (8, 12, 16, 20):
         journal.unlink(missing_ok=True)
         done = call([PROGRAM, "node", journal], feed, preexec_fn=lambda: limit_to(megabytes * MEGABYTE))
         kept = done.stdout.count(b"kept ")
