@@ -32,7 +32,7 @@ import time
 ROOT = pathlib.Path(__file__).resolve().parent.parent
 PROGRAM = os.environ.get("SPECTRE") or str(ROOT / "crates/spectre/out/spectre")
 # The calls on files and streams.
-CALLS = "openat,open,statx,fstat,newfstatat,lseek,read,pread64,write,pwrite64,fsync,fdatasync"
+CALLS = "openat,open,fcntl,statx,fstat,newfstatat,lseek,read,pread64,write,pwrite64,fsync,fdatasync"
 # Where one of these fails, that is a fault of the output or of the disk.
 MUST_WORK = ("lseek", "write", "pwrite64", "fsync", "fdatasync")
 MOMENTS = 50
@@ -147,6 +147,8 @@ def losses(calls, path):
         name, first, text, result = TRACED.match(call).groups()
         data = bytes.fromhex((text or b"").replace(b"\\x", b"").decode())
         if name == b"openat" and bytes.fromhex(first.strip(b'"').replace(b"\\x", b"").decode()) == path.encode():
+            file = result
+        elif name == b"fcntl" and first == file and b"F_DUPFD" in call:  # the program goes on by the copy
             file = result
         elif name == b"lseek" and first == file:
             at = int(result)
