@@ -22,6 +22,9 @@ use sp_rows::RowPool;
 use sp_view::{Saved, Sums, View};
 use std::alloc::Global;
 
+/// How many bytes the rows and the entries of the tips' views may take before the oldest of them are let go.
+const LIMIT: usize = 192 << 20;
+
 // Whether a block has the highest one of these members as a parent.
 fn is_covered(dag: &Dag, members: &Row) -> bool
     requires { (z : ℕ) → has members.now z ≡ true → z < length dag.now.parents }
@@ -267,4 +270,43 @@ pub(crate) fn settle_last(views: &mut Vec<View>, rows: &mut RowPool, saved: Save
 {
     let last = views.len() - 1;
     views[last].settle(rows, saved);
+}
+
+// How many bytes the rows of a pool and the entries of some views take.
+fn bytes_of(views: &[View], rows: &RowPool) -> usize {
+    let mut entries = 0;
+    'views: for view in views {
+        entries += view.entry_count();
+    }
+    64 * rows.live() + 12 * entries
+}
+
+/// Lets the views go that stand from a place on, one after another, as long as all take more than the limit; those
+/// of the last tip and of all blocks stay. It answers the number from which on the tips from that place on have
+/// views, which was this one.
+pub(crate) fn release_excess(views: &mut Vec<View>, rows: &mut RowPool, place: usize, since: u16) -> u16 {
+    let mut since = since;
+    'views: while place + 2 < views.len() && bytes_of(views.as_slice(), rows) > LIMIT {
+        since = match views[place].members().highest() {
+            Some(top) => top + 1,
+            None => since,
+        };
+        views.remove(place).release(rows);
+    }
+    since
+}
+
+/// Lets the views go of tips below a number; they stand first.
+pub(crate) fn release_below(views: &mut Vec<View>, rows: &mut RowPool, since: u16) {
+    'views: while views.len() > 2 && is_below(views[0].members(), since) {
+        views.remove(0).release(rows);
+    }
+}
+
+// Whether all of some members are below a number.
+fn is_below(members: &Row, since: u16) -> bool {
+    match members.highest() {
+        Some(top) => top < since,
+        None => true,
+    }
 }

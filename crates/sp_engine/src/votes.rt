@@ -15,7 +15,7 @@ ghost use Rattle.sp_engine.specs.Votes.{AreJoining, AreVoted, AreWhole, Grew, Ha
 
 use crate::changes::turned_pairs;
 use crate::joining::{
-    new_tip, put_tip, release_covered, release_joined, restore_last, settle_last,
+    new_tip, put_tip, release_below, release_covered, release_excess, release_joined, restore_last, settle_last,
 };
 use crate::words::{related_word, word_by};
 use sp_bits::Row;
@@ -36,6 +36,8 @@ pub(crate) struct Votes {
     frozen: Frozen,
     rows: RowPool,
     views: Vec<View>,
+    // The tips from this number on have views.
+    since: u16,
     sums: Sums,
 }
 
@@ -53,6 +55,7 @@ impl Model for Votes {
 pub(crate) struct Before {
     pub(crate) blocks: u16,
     pub(crate) tips: usize,
+    pub(crate) since: u16,
     pub(crate) members: Row,
     pub(crate) saved: Saved,
     pub(crate) sums: Sums,
@@ -66,6 +69,7 @@ impl Drop for Votes {
             frozen: _,
             rows: _,
             views: _,
+            since: _,
             sums: _,
         } = self;
     }
@@ -99,6 +103,7 @@ impl Votes {
             frozen: Frozen::new(alloc),
             rows: RowPool::new(alloc),
             views,
+            since: 0,
             sums: Sums::new(alloc),
         })
     }
@@ -137,6 +142,7 @@ impl Votes {
             tip,
         )?;
         release_covered(&mut self.views, &mut self.rows, dag, tips);
+        self.since = release_excess(&mut self.views, &mut self.rows, tips, self.since);
         Ok(())
     }
 
@@ -167,6 +173,7 @@ impl Votes {
         Ok(Before {
             blocks,
             tips,
+            since: self.since,
             members,
             saved,
             sums,
@@ -198,15 +205,20 @@ impl Votes {
         // Tells the proof that the blocks stand in order.
         let _blocks = dag.len();
         let Before {
-            blocks: _,
+            blocks,
             tips: _,
+            since: _,
             members: _,
             saved,
             sums: _,
         } = before;
         // First the covered views, so that fewer of the saved rows are held by another one.
         release_covered(&mut self.views, &mut self.rows, dag, 0);
+        if self.since > blocks {
+            release_below(&mut self.views, &mut self.rows, self.since);
+        }
         settle_last(&mut self.views, &mut self.rows, saved);
+        self.since = release_excess(&mut self.views, &mut self.rows, 0, self.since);
     }
 
     /// Takes the blocks back that joined, for a graph that is cut to those from before after this
@@ -221,6 +233,7 @@ impl Votes {
         let Before {
             blocks,
             tips,
+            since,
             members,
             saved,
             sums,
@@ -229,6 +242,7 @@ impl Votes {
         release_joined(&mut self.views, &mut self.rows, tips);
         self.frozen.cut(dag, blocks);
         self.sums = sums;
+        self.since = since;
     }
 
     /// The frozen votes, lent as they stand.
