@@ -2,12 +2,14 @@
 """Times the program on drills and feeds of hundreds of blocks.
 
     python3 examples/speed.py [--instructions] [WORD]
+    python3 examples/speed.py --draw N
 
 Each run is made five times, and one that takes longer than five seconds twice. What is printed is the
 least time of a processor in which the program and the system for it were at work, and the most memory;
 less than about 10 MB of memory isn't seen. With `--instructions` the program's instructions are counted,
 too, by valgrind, which takes some fifty times as long. With a WORD only those runs are made whose name has
-it, as `votes`, `payments` or `spends`.
+it, as `votes`, `payments` or `spends`. With `--draw` graphs of many tips are drawn by the seeds from 1 to N
+(`drawn_tips` in timing/graphs.py) and run once each, and those are named that took most memory and most time.
 
 Each answer to a feed is checked (timing/answers.py): that each block is kept and present, and of payments,
 which are accepted, by what is worked out by hand in timing/feeds.py, and what is left under each lock. The
@@ -68,6 +70,7 @@ RUNS = [
     votes("two chains of 255 and 256", graphs.two_chains(511)),
     votes("two chains of 255 and 256 in turns", graphs.in_turns(511)),
     votes("341 blocks on genesis, 170 on 64 of them each", graphs.crowd(511)),
+    votes("335 blocks on genesis, six on 64 of them each, 170 on all six", graphs.gathered(335, 170)),
     votes("layers of 64, each on all of the one below", graphs.layers(511)),
     votes("511 blocks, each on the four that stand 19 to 16 before it", graphs.lagging(511, 19)),
     votes("511 blocks, each on the four that stand 40 to 37 before it", graphs.lagging(511, 40)),
@@ -172,11 +175,27 @@ def show_certificates(word):
         print(f"{name}, checked: {seconds:.3f} s, {memory / 1024:.0f} MB", flush=True)
 
 
+def show_drawn(count: int) -> None:
+    """Which of the graphs of many tips by so many seeds take most memory, and most time."""
+    taken = []
+    for seed in range(1, count + 1):
+        feed = feeds.unpaid(graphs.drawn_tips(511, seed))
+        once = run([SPECTRE, "replay"], feed.text)
+        check(feed, once.answers)
+        taken.append((once.memory, once.seconds, seed))
+    for name, (memory, seconds, seed) in (("memory", max(taken)), ("time", max(taken, key=lambda each: each[1]))):
+        print(f"most {name}: seed {seed}, {seconds:.3f} s, {memory / 1024:.0f} MB", flush=True)
+
+
 def main():
     parser = argparse.ArgumentParser(description="Times the program on hundreds of blocks.")
     parser.add_argument("--instructions", action="store_true", help="count instructions, too, by valgrind")
+    parser.add_argument("--draw", type=int, default=0, help="run graphs of many tips by so many seeds instead")
     parser.add_argument("word", nargs="?", default="", help="make only the runs whose name has this word")
     given = parser.parse_args()
+    if given.draw:
+        show_drawn(given.draw)
+        return
     seconds, counted = {}, {}
     for name, words, build in RUNS:
         if given.word not in name:

@@ -17,6 +17,40 @@ def crowd(count):
     return [[], *([0] for _ in range(341)), *upper]
 
 
+def gathered(bases: int, tips: int) -> list[list[int]]:
+    """So many blocks on genesis, one on each 64 of them, and so many tips on all of the latter."""
+    middles = [list(range(first, min(first + 64, bases + 1))) for first in range(1, bases + 1, 64)]
+    upper = range(bases + 1, bases + len(middles) + 1)
+    return [[], *([0] for _ in range(bases)), *middles, *(list(upper) for _ in range(tips))]
+
+
+def drawn_tips(count: int, seed: int) -> list[list[int]]:
+    """Of the kind of `gathered`, by the numbers of a seed: blocks on genesis, some that take in up to 64 of them
+    each, tips on all of the latter or on some, maybe each on one more block of its own, and chains that go on from
+    the tips in turns."""
+    numbers = draws(seed)
+
+    def pick(low: int, high: int) -> int:
+        return low + next(numbers) % (high - low + 1)
+
+    bases, width, own, whole = pick(120, 380), pick(24, 64), pick(0, 1), pick(0, 1)
+    graph = [[], *([0] for _ in range(bases))]
+    graph += [[(first + step) % bases + 1 for step in range(width)] for first in range(0, bases, width)]
+    middles = list(range(bases + 1, len(graph)))
+    tops = []
+    for _ in range(pick(12, (count + 1 - len(graph)) // (1 + own))):
+        on = middles if whole else [middle for middle in middles if pick(0, 3)] or middles[:1]
+        if own:
+            graph.append([0])
+            on = [*on, len(graph) - 1]
+        graph.append(list(on))
+        tops.append(len(graph) - 1)
+    for turn in range(count + 1 - len(graph)):
+        graph.append([tops[turn % len(tops)]])
+        tops[turn % len(tops)] = len(graph) - 1
+    return graph
+
+
 def layers(count):
     """Layers of 64, each block on all of the layer below."""
     below = (range((block - 1) // 64 * 64 - 63, (block - 1) // 64 * 64 + 1) for block in range(65, count + 1))
