@@ -66,7 +66,7 @@ bytes_of pool views = 64 * live pool + 12 * entries_of views
 
 -- the most bytes that they may take while there are views of other tips than the newest one
 abbrev pub most_bytes : ℕ
-most_bytes = 201326592
+most_bytes = 134217728
 
 -- there are views of other tips than the newest one only where all together take no more
 abbrev pub AreFew : Tallied → Type 0

@@ -267,7 +267,7 @@ impl Engine {
     /// The pool of all rows that the views hold: each row is counted once for each entry of a view that
     /// holds it, and the views are those of the tips from a number on, each with its past, and that of all
     /// blocks. There are others than that of the newest tip and that of all blocks only where the rows and the
-    /// entries of all of them together take at most 192 MiB, 64 bytes for each row and 12 for each entry.
+    /// entries of all of them together take at most 128 MiB, 64 bytes for each row and 12 for each entry.
     pub fn row_pool(&self) -> &RowPool
         ensures pool { result.now ≡ self.now.votes.rows }
         ensures counts { (row : ℕ) →

@@ -24,8 +24,8 @@ use sp_view::{Saved, Sums, View};
 use std::alloc::Global;
 
 /// The most bytes that the rows and the entries of views may take while there are views of other tips than the newest one:
-/// 192 MiB. A row takes 64, and an entry 12.
-const MOST_BYTES: usize = 201_326_592;
+/// 128 MiB. A row takes 64, and an entry 12.
+const MOST_BYTES: usize = 134_217_728;
 
 // Whether a block has the highest one of these members as a parent.
 fn is_covered(dag: &Dag, members: &Row) -> bool
