@@ -1,7 +1,7 @@
 //! The edge where a file of the operating system is a disk. What it holds, and what a crash leaves of
 //! it, is trusted here, and nowhere above.
 
-ghost use Rattle.std.specs.Prelude.{◌≡◌, ◌↔◌, ◌+◌, ◌^◌, ◌<◌, ◌≤◌, true, length, IfOk, IfSome, IsOk, None, Ok, OnOk};
+ghost use Rattle.std.specs.Prelude.{◌≡◌, ◌↔◌, ◌+◌, ◌^◌, ◌<◌, ◌≤◌, true, length, IfOk, IfSome, IsNone, IsOk, None, Ok, OnOk};
 ghost use Rattle.std.specs.Fs.{file_type, IsFile};
 ghost use Rattle.sp_io.specs.Causes.{CountsFault, HasCause};
 ghost use Rattle.sp_disk.specs.Moments.{GivesFrom, Looks, Syncs, Writes};
@@ -43,6 +43,8 @@ pub struct FileDisk<'a, R: Files> {
     make: bool,
     file: Option<R::File>,
     faults: u64,
+    // Why the last call that failed did so; any error as long as none has failed.
+    last: Error,
 }
 
 impl<'a, R: Files> FileDisk<'a, R> {
@@ -61,6 +63,19 @@ impl<'a, R: Files> FileDisk<'a, R> {
             make,
             file: None,
             faults: 0,
+            last: Error::from(ErrorKind::Other),
+        }
+    }
+
+    /// Why the last call that failed did so, in the system's own words where it was the system that refused it;
+    /// `None` exactly where none has failed.
+    pub fn reason(&self) -> Option<&Error>
+        ensures none { IsNone result ↔ ((⟦<FileDisk<'a, R> as Disk>⟧.now self.now).faults ≡ 0) }
+    {
+        if self.faults == 0 {
+            None
+        } else {
+            Some(&self.last)
         }
     }
 
@@ -160,7 +175,7 @@ fn regular(found: &Metadata) -> io::Result<()>
     if found.is_file() {
         Ok(())
     } else {
-        Err(Error::from(ErrorKind::InvalidInput))
+        Err(Error::new(ErrorKind::InvalidInput, "not a regular file"))
     }
 }
 
@@ -204,15 +219,16 @@ fn read_whole<F: Read>(file: &mut F, out: &mut [u8]) -> io::Result<usize>
     Ok(count)
 }
 
-/// Counts a fault where a call failed. The count stays at 2^64 - 1 once it is there.
-fn count<T: Drop, E: Drop>(outcome: Result<T, E>, faults: &mut u64) -> Result<T, Failed>
+/// Counts a fault where a call failed, and keeps why. The count stays at 2^64 - 1 once it is there.
+fn count<T: Drop>(outcome: io::Result<T>, faults: &mut u64, last: &mut Error) -> Result<T, Failed>
     ensures counted { CountsFault faults.old faults.new result }
     ensures later { faults.old ≤ faults.new }
     ensures same { IfOk result (λ found. outcome ≡ Ok found) }
 {
     match outcome {
         Ok(found) => Ok(found),
-        Err(_) => {
+        Err(error) => {
+            *last = error;
             *faults = faults.saturating_add(1);
             Err(Failed)
         }
@@ -238,7 +254,7 @@ impl<'a, R: Files> Disk for FileDisk<'a, R> {
         ensures make { self.new.make ≡ self.old.make }
     {
         let outcome = self.file_len();
-        count(outcome, &mut self.faults)
+        count(outcome, &mut self.faults, &mut self.last)
     }
 
     /// Reads until `out` is full or the file ends.
@@ -256,7 +272,7 @@ impl<'a, R: Files> Disk for FileDisk<'a, R> {
         ensures make { self.new.make ≡ self.old.make }
     {
         let outcome = self.file_read(at, out);
-        count(outcome, &mut self.faults)
+        count(outcome, &mut self.faults, &mut self.last)
     }
 
     /// Writes all bytes at the place, behind the end too.
@@ -275,7 +291,7 @@ impl<'a, R: Files> Disk for FileDisk<'a, R> {
         ensures may { OnOk result (self.old.make ≡ true) }
     {
         let outcome = self.file_write(at, bytes);
-        count(outcome, &mut self.faults)
+        count(outcome, &mut self.faults, &mut self.last)
     }
 
     /// Asks the system to sync the file's bytes and its length.
@@ -290,6 +306,6 @@ impl<'a, R: Files> Disk for FileDisk<'a, R> {
         ensures make { self.new.make ≡ self.old.make }
     {
         let outcome = self.file_sync();
-        count(outcome, &mut self.faults)
+        count(outcome, &mut self.faults, &mut self.last)
     }
 }

@@ -1,20 +1,22 @@
 //! The edge where bytes go out: a writer of the standard library as a sink. What a file, a
 //! socket or a terminal does with them is trusted here, and nowhere above.
 
-ghost use Rattle.std.specs.Prelude.{◌≡◌, ℕ, ◌≤◌, ◌<◌, List, length, IfOk, Option};
+ghost use Rattle.std.specs.Prelude.{◌≡◌, ◌↔◌, ℕ, ◌≤◌, ◌<◌, List, length, IfOk, IsNone, Option};
 ghost use Rattle.std.specs.Io.KnownBytes.{WriteAppends};
 ghost use Rattle.sp_io.specs.Causes.{CountsFault, HasCause};
 
 use crate::failed::Failed;
 use crate::retrying::write_retrying;
 use crate::sink::Sink;
-use std::io::Write;
+use std::io::{Error, ErrorKind, Write};
 
 /// A sink over a writer of the standard library.
 #[derive(Drop)]
 pub struct StdSink<W> {
     writer: W,
     faults: u64,
+    // Why the last write that failed did so; any error as long as none has failed.
+    last: Error,
 }
 
 impl<W: Write> StdSink<W> {
@@ -24,7 +26,31 @@ impl<W: Write> StdSink<W> {
         ensures taken { ⟦<StdSink<W> as Sink>⟧.taken result ≡ W.contents writer }
         ensures faults { ⟦<StdSink<W> as Sink>⟧.faults result ≡ 0 }
     {
-        StdSink { writer, faults: 0 }
+        StdSink {
+            writer,
+            faults: 0,
+            last: Error::from(ErrorKind::Other),
+        }
+    }
+
+    /// Why the last write that failed did so, in the writer's own words, and `WriteZero` where it took
+    /// nothing; `None` exactly where none has failed.
+    pub fn reason(&self) -> Option<&Error>
+        ensures none { IsNone result ↔ (⟦<StdSink<W> as Sink>⟧.faults self.now ≡ 0) }
+    {
+        if self.faults == 0 {
+            None
+        } else {
+            Some(&self.last)
+        }
+    }
+}
+
+// Why a writer took nothing.
+fn refusal(answer: Result<usize, Error>) -> Error {
+    match answer {
+        Ok(_) => Error::from(ErrorKind::WriteZero),
+        Err(error) => error,
     }
 }
 
@@ -55,7 +81,8 @@ impl<W: Write> Sink for StdSink<W> {
     {
         match write_retrying(&mut self.writer, piece) {
             Ok(count) if 0 < count || piece.is_empty() => Ok(count),
-            _ => {
+            other => {
+                self.last = refusal(other);
                 self.faults = self.faults.saturating_add(1);
                 Err(Failed)
             }

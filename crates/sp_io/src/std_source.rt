@@ -1,7 +1,7 @@
 //! The edge where bytes come in: a reader of the standard library as a source. What a file, a
 //! socket or a terminal gives is trusted here, and nowhere above.
 
-ghost use Rattle.std.specs.Prelude.{◌≡◌, ℕ, List, Option};
+ghost use Rattle.std.specs.Prelude.{◌≡◌, ◌↔◌, ℕ, IsNone, List, Option};
 ghost use Rattle.std.specs.Io.{ReadsAtMost};
 ghost use Rattle.std.specs.Io.KnownBytes.{ReadConsumes};
 ghost use Rattle.sp_io.specs.Causes.{CountsFault, HasCause};
@@ -9,13 +9,15 @@ ghost use Rattle.sp_io.specs.Causes.{CountsFault, HasCause};
 use crate::failed::Failed;
 use crate::retrying::read_retrying;
 use crate::source::Source;
-use std::io::Read;
+use std::io::{Error, ErrorKind, Read};
 
 /// A source over a reader of the standard library.
 #[derive(Drop)]
 pub struct StdSource<R> {
     reader: R,
     faults: u64,
+    // Why the last read that failed did so; any error as long as none has failed.
+    last: Error,
 }
 
 impl<R: Read> StdSource<R> {
@@ -24,7 +26,22 @@ impl<R: Read> StdSource<R> {
         ensures left { ⟦<StdSource<R> as Source>⟧.left result ≡ R.remaining reader }
         ensures faults { ⟦<StdSource<R> as Source>⟧.faults result ≡ 0 }
     {
-        StdSource { reader, faults: 0 }
+        StdSource {
+            reader,
+            faults: 0,
+            last: Error::from(ErrorKind::Other),
+        }
+    }
+
+    /// Why the last read that failed did so, in the reader's own words; `None` exactly where none has failed.
+    pub fn reason(&self) -> Option<&Error>
+        ensures none { IsNone result ↔ (⟦<StdSource<R> as Source>⟧.faults self.now ≡ 0) }
+    {
+        if self.faults == 0 {
+            None
+        } else {
+            Some(&self.last)
+        }
     }
 }
 
@@ -54,7 +71,8 @@ impl<R: Read> Source for StdSource<R> {
     {
         match read_retrying(&mut self.reader, out) {
             Ok(count) => Ok(count),
-            Err(_) => {
+            Err(error) => {
+                self.last = error;
                 self.faults = self.faults.saturating_add(1);
                 Err(Failed)
             }
