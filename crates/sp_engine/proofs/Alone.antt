@@ -17,7 +17,7 @@ use Rattle.sp_carry.proofs.Soundness.{sound_block}
 use Rattle.sp_accept.specs.Rows.{AreOf}
 use Rattle.sp_engine.specs.Engine.{AreCarried, AreNumbered, IsEngine}
 use Rattle.sp_engine.specs.Presence.{joining, order_from, order_of}
-use Rattle.sp_engine.specs.Votes.{AreVoted, Tallied}
+use Rattle.sp_engine.specs.Votes.{AreFew, AreVoted, Tallied}
 use Rattle.sp_engine.specs.Transactions.{txs_of, txs_or_none}
 use Rattle.sp_engine.proofs.CarriedBlocks.{carried_alone}
 
@@ -85,9 +85,9 @@ carried_in_alone profile inside g pool blocks k is kept alone n added carried =
 
 pub engine_alone : (profile : Profile) (bits : ℕ) (inside g : ReadBlock) (pool : List ReadBlock) (blocks : Numbered) (votes : Tallied) → bits ≤ 64 → inside ≡ g → IsBlock inside → IsGenesis g
     → pool ≡ g ∷ [] → present pool ≡ g.id ∷ [] → blocks ≡ record { profile = profile; ids = inside.id ∷ []; salts = inside.salt ∷ []; parents = [] ∷ [] } → AreKept pool → IsNumbered blocks
-    → AreVoted blocks votes → IsEngine bits pool inside.id blocks votes
+    → AreVoted blocks votes → AreFew votes → IsEngine bits pool inside.id blocks votes
 unfolding one
-engine_alone profile bits inside g pool blocks votes small is block kind kept here alone are in_order voted =
+engine_alone profile bits inside g pool blocks votes small is block kind kept here alone are in_order voted few =
     let none : g.parents ≡ [] = no_parents g (subst (λ (b : ReadBlock). IsBlock b) is block) kind in
     let id : inside.id ≡ g.id = ap (λ (b : ReadBlock). b.id) is in
     let blocks_are : blocks ≡ one profile g = alone ∙ ap (λ (b : ReadBlock). one profile b) is in
@@ -100,4 +100,5 @@ engine_alone profile bits inside g pool blocks votes small is block kind kept he
       order = ap (λ (n : Numbered). n.ids) blocks_are ∙ sym (order_alone g none) ∙ ap (λ (k : List ReadBlock). order_of k) (sym kept);
       same = λ z. ap (λ (n : Numbered). has n.ids z) blocks_are ∙ ap (λ (l : List ℕ). has l z) (sym here);
       voted = voted;
+      few = few;
     }

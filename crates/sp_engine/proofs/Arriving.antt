@@ -25,7 +25,7 @@ use Rattle.sp_accept.specs.Acceptance.{Acceptance}
 use Rattle.sp_money.specs.Held.{Held as Purse}
 use Rattle.sp_engine.specs.Engine.{AreCarried, AreNumbered, IsAccepting, IsEngine, IsPaying, Ledger}
 use Rattle.sp_engine.specs.Presence.{joining}
-use Rattle.sp_engine.specs.Votes.{AreVoted, Tallied}
+use Rattle.sp_engine.specs.Votes.{AreFew, AreVoted, entries_of, Tallied}
 use Rattle.sp_engine.specs.declared.answer.Answer.TheVariants.{Kept, Held}
 use Rattle.sp_frozen.specs.Voters.{FrozenRows}
 use Rattle.sp_view.specs.Summed.{AreSums}
@@ -99,9 +99,9 @@ module _ {bits genesis : ℕ} {kept : List ReadBlock} {blocks : Numbered} {votes
   comes_fitting ids lent is h j = omega (arith, comes_few ids h j, ap length is)
 
   pub comes_engine : (new : List ReadBlock) (ids : List ℕ) (after : Numbered) (tallied : Tallied) → new ≡ keep kept b → Comes bits genesis kept blocks votes b → Joins kept b ids
-      → IsNumbered after → AreNumbered new after → after.ids ≡ blocks.ids ++ ids → AreVoted after tallied
+      → IsNumbered after → AreNumbered new after → after.ids ≡ blocks.ids ++ ids → AreVoted after tallied → AreFew tallied
       → IsEngine bits new genesis after tallied
-  comes_engine new ids after tallied e h j n are is v =
+  comes_engine new ids after tallied e h j n are is v few_views =
       subst (λ (k : List ReadBlock). IsEngine bits k genesis after tallied) (sym (kept_is new e h)) (record {
         small = h.engine.small;
         all_kept = kept_more h;
@@ -112,6 +112,7 @@ module _ {bits genesis : ℕ} {kept : List ReadBlock} {blocks : Numbered} {votes
             ∙ ap (λ (l : List ℕ). l ++ joining (length (kept ++ b ∷ [])) (kept ++ b ∷ []) l) h.engine.order ∙ sym (order-push kept b);
         same = λ z. ap (λ (l : List ℕ). has l z) is ∙ members ids h j z;
         voted = v;
+        few = few_views;
       })
 
   pub comes_answer : (ids : List ℕ) → Comes bits genesis kept blocks votes b → Joins kept b ids → Kept b.id (length ids) ≡ joined kept b
@@ -137,6 +138,7 @@ module _ {bits genesis : ℕ} {kept : List ReadBlock} {blocks : Numbered} {votes
             ∙ ap (λ (l : List ℕ). l ++ joining (length (kept ++ b ∷ [])) (kept ++ b ∷ []) l) h.engine.order ∙ sym (order-push kept b);
         same = same;
         voted = h.engine.voted;
+        few = h.engine.few;
       })
 
   pub waits_answer : Comes bits genesis kept blocks votes b → Waits kept b → Held b.id ≡ joined kept b
@@ -173,8 +175,9 @@ held_is_no_growth id other e = cc
 -- ---- where memory was refused
 
 voted_as_before : (table : Numbered) (old new : Tallied) → IsAsBefore old new → AreVoted table old → AreVoted table new
-voted_as_before table old new same voted = subst (λ (f : FrozenRows). AreVoted table (record { frozen = f; rows = new.rows; views = new.views; sums = new.sums })) (sym same.frozen)
-    (subst (λ (l : List Viewed). AreVoted table (record { frozen = old.frozen; rows = new.rows; views = l; sums = new.sums })) (sym same.views) (record {
+voted_as_before table old new same voted = subst (λ (f : FrozenRows). AreVoted table (record { frozen = f; rows = new.rows; views = new.views; since = new.since; sums = new.sums })) (sym same.frozen)
+    (subst (λ (l : List Viewed). AreVoted table (record { frozen = old.frozen; rows = new.rows; views = l; since = new.since; sums = new.sums })) (sym same.views)
+    (subst (λ (n : ℕ). AreVoted table (record { frozen = old.frozen; rows = new.rows; views = old.views; since = n; sums = new.sums })) (sym same.since) (record {
       holds = record {
         frozen = voted.holds.frozen;
         views = views_move table old.rows old.frozen.blocks new.rows old.views (λ r. omega (arith, same.rows.counts r, voted.holds.shared.counts r)) (λ r some. same.rows.places r (omega (arith, some, voted.holds.shared.counts r))) voted.holds.views;
@@ -183,7 +186,13 @@ voted_as_before table old new same voted = subst (λ (f : FrozenRows). AreVoted 
       };
       every = voted.every;
       sums = subst (λ (l : List ℤ). AreSums table (range_with_len 0 (length table.parents)) l) (sym same.sums) voted.sums;
-    }))
+    })))
+
+few_as_before : (old new : Tallied) → IsAsBefore old new → AreFew old → AreFew new
+few_as_before old new same few more =
+    let views : length new.views ≡ length old.views = ap length same.views in
+    let entries : entries_of new.views ≡ entries_of old.views = ap entries_of same.views in
+    omega (arith, few (omega (arith, more, views)), entries, same.rows.live)
 
 -- all that is kept stands as before
 pub stands_again : {bits genesis : ℕ} {kept kept' : List ReadBlock} {d d' : Numbered} {v v' : Tallied} {k k' : Carried} {a a' : Acceptance} {p p' : Purse} → kept' ≡ kept → d' ≡ d → IsAsBefore v v' → k' ≡ k → a' ≡ a → IsPaying k a p'
@@ -202,6 +211,7 @@ stands_again {bits} {genesis} {kept} {kept'} {d} {d'} {v} {v'} {k} {k'} {a} {a'}
         order = was.0.order;
         same = was.0.same;
         voted = voted_as_before d v v' votes was.0.voted;
+        few = few_as_before v v' votes was.0.few;
       },
       was.1,
       paying,

@@ -1,5 +1,5 @@
 -- Blocks with their pasts as rows: they stay where blocks are added, a block is the highest of its row, and a new block covers its parents.
-use Rattle.std.proofs.Common.{◌≡◌, ℕ, zero, suc, ◌+◌, ◌≤◌, ◌<◌, Bool, true, false, cond, ◌||◌, ◌&&◌, List, [], ◌∷◌, ◌++◌, length, map, take, get_or, refl, sym, ap, subst, ◌∙◌, eqb, inl, inr, arith}
+use Rattle.std.proofs.Common.{◌≡◌, ℕ, zero, suc, ◌+◌, ◌-◌, ◌≤◌, ◌<◌, Bool, true, false, cond, ◌||◌, ◌&&◌, List, [], ◌∷◌, ◌++◌, length, map, take, get_or, refl, sym, ap, subst, ◌∙◌, eqb, inl, inr, arith}
 use Rattle.std.specs.Prelude.{filter, not}
 use Rattle.std.specs.List.{list_all, list_any, range_with_len}
 use Rattle.std.proofs.lemmas.Bool.{and_from, and_parts, cases_Bool, cases_lt, eq-eqb, eqb-true, false≢true, false_from_ne_true, or_cases, or_left, or_right}
@@ -15,7 +15,7 @@ use Rattle.sp_model.specs.Graph.{has, in_past, past, parents_of}
 use Rattle.sp_model.specs.Loose.{in_bar}
 use Rattle.sp_model.proofs.Pasts.{in_past_step, parent_in_past, past_trans}
 use Rattle.sp_model.proofs.Sets.{any_some, has-filter}
-use Rattle.sp_engine.specs.Votes.{bar_row, is_tip, tips_of}
+use Rattle.sp_engine.specs.Votes.{bar_row, is_tip, tips_from}
 use Rattle.sp_engine.proofs.Ranges.{past_range}
 
 -- ---- lists
@@ -71,51 +71,16 @@ take_long (x ∷ xs) (suc n) le = (let rest = take_long xs n (omega (arith, le))
 -- ---- tips
 
 -- they are among the numbers
-pub tip_below : (table : List (List ℕ)) (t : ℕ) → has (tips_of table) t ≡ true → (t < length table) × (is_tip table t ≡ true)
-tip_below table t h =
-    let parts = has-filter (is_tip table) (range_with_len 0 (length table)) t h in (
-      elim (cases_lt t (length table)) [
+pub tip_in : (table : List (List ℕ)) (since n t : ℕ) → since ≤ n → n ≤ length table → has (tips_from (take n table) since) t ≡ true → (t < n) × (is_tip (take n table) t ≡ true)
+tip_in table since n t first le h =
+    let long : length (take n table) ≡ n = take_long table n le in
+    let parts = has-filter (is_tip (take n table)) (range_with_len since (length (take n table) - since)) t h in (
+      elim (cases_lt t n) [
         | inl less ↦ less
-        | inr more ↦ absurd (false≢true (sym (past_range 0 (length table) t (omega (arith, more))) ∙ parts.0))
+        | inr more ↦ absurd (false≢true (sym (past_range since (length (take n table) - since) t (omega (arith, more, long, first))) ∙ parts.0))
       ],
       parts.1,
     )
-
-pub tip_in : (table : List (List ℕ)) (n t : ℕ) → n ≤ length table → has (tips_of (take n table)) t ≡ true → (t < n) × (is_tip (take n table) t ≡ true)
-tip_in table n t le h = (let parts = tip_below (take n table) t h in (omega (arith, parts.0, take_long table n le), parts.1))
-
--- the new block is one, and its parents are none anymore
-pub tips_more : (table : Numbered) (b : ℕ) → AreInOrder table.parents → b + 1 ≡ length table.parents
-    → tips_of (take (b + 1) table.parents) ≡ filter (λ t. not (has (get_or table.parents b []) t)) (tips_of (take b table.parents)) ++ b ∷ []
-tips_more table b order le =
-    let ps : List ℕ = get_or table.parents b [] in
-    let old : List (List ℕ) = take b table.parents in
-    let whole : take (b + 1) table.parents ≡ old ++ ps ∷ [] = ap (λ (k : ℕ). take k table.parents) (let e : b + 1 ≡ suc b = omega arith in e) ∙ take_suc table.parents b (omega (arith, le)) in
-    let all : take (b + 1) table.parents ≡ table.parents = take_all (b + 1) table.parents (omega (arith, le)) in
-    let count : length (take (b + 1) table.parents) ≡ suc b = omega (arith, ap length all, le) in
-    let tests : (k : ℕ) → is_tip (take (b + 1) table.parents) k ≡ (is_tip old k && not (has ps k)) =
-    λ k. ap (λ (t : List (List ℕ)). is_tip t k) whole ∙ ap not (any-append (λ l. has l k) old (ps ∷ [])) ∙ apart (list_any (λ l. has l k) old) (has ps k) in
-    let last : is_tip (take (b + 1) table.parents) b ≡ true =
-    ap (λ (t : List (List ℕ)). is_tip t b) all
-    ∙ ap not (any_none (λ l. has l b) table.parents (λ z lt. false_from_ne_true (has (get_or table.parents z []) b) (λ h. (let less : b < z = order z b h in absurd (omega (arith, less, lt, le)))))) in
-    ap (λ (m : ℕ). filter (is_tip (take (b + 1) table.parents)) (range_with_len 0 m)) count
-    ∙ ap (filter (is_tip (take (b + 1) table.parents))) (range_more 0 b b (omega arith))
-    ∙ filter-append (is_tip (take (b + 1) table.parents)) (range_with_len 0 b) (b ∷ [])
-    ∙ ap (λ (c : Bool). filter (is_tip (take (b + 1) table.parents)) (range_with_len 0 b) ++ cond c (b ∷ []) []) last
-    ∙ ap (λ (l : List ℕ). l ++ b ∷ []) (
-    filter_test (is_tip (take (b + 1) table.parents)) (λ k. is_tip old k && not (has ps k)) (range_with_len 0 b) tests
-    ∙ sym (filter-filter (is_tip old) (λ t. not (has ps t)) (range_with_len 0 b))
-    ∙ ap (λ (m : ℕ). filter (λ t. not (has ps t)) (filter (is_tip old) (range_with_len 0 m))) (sym (take_long table.parents b (omega (arith, le))))
-    )
-  where
-    apart : (a c : Bool) → not (a || (c || false)) ≡ (not a && not c)
-    apart true c = refl
-    apart false true = refl
-    apart false false = refl
-
-    filter_test : (p q : ℕ → Bool) (xs : List ℕ) → ((k : ℕ) → p k ≡ q k) → filter p xs ≡ filter q xs
-    filter_test p q [] same = refl
-    filter_test p q (x ∷ xs) same = rw (same x, filter_test p q xs same) refl
 
 -- ---- rows
 
@@ -124,11 +89,11 @@ bar_old table id salt ps z order lt =
     places_same (λ k. in_bar (graph_of (with_next table id salt ps)) k z) (λ k. in_bar (graph_of table) k z) (λ k _. ap (λ (c : Bool). eqb z k || c) (past_old table id salt ps k z order lt))
 
 -- those of the tips stay where a block is added
-pub bars_stay : (table : Numbered) (id salt : ℕ) (ps : List ℕ) (n : ℕ) → AreInOrder table.parents → n ≤ length table.parents
-    → map (bar_row (with_next table id salt ps)) (tips_of (take n table.parents)) ≡ map (bar_row table) (tips_of (take n table.parents))
-bars_stay table id salt ps n order le =
-    map_same (bar_row (with_next table id salt ps)) (bar_row table) (tips_of (take n table.parents))
-    (λ t h. (let parts = tip_in table.parents n t le h in bar_old table id salt ps t order (omega (arith, parts.0, le))))
+pub bars_stay : (table : Numbered) (id salt : ℕ) (ps : List ℕ) (since n : ℕ) → AreInOrder table.parents → since ≤ n → n ≤ length table.parents
+    → map (bar_row (with_next table id salt ps)) (tips_from (take n table.parents) since) ≡ map (bar_row table) (tips_from (take n table.parents) since)
+bars_stay table id salt ps since n order first le =
+    map_same (bar_row (with_next table id salt ps)) (bar_row table) (tips_from (take n table.parents) since)
+    (λ t h. (let parts = tip_in table.parents since n t first le h in bar_old table id salt ps t order (omega (arith, parts.0, le))))
 
 module _ (table : Numbered) (order : AreInOrder table.parents) (small : length table.parents ≤ 512) where
   pub has_bar : (t k : ℕ) → t < length table.parents → has (bar_row table t) k ≡ in_bar (graph_of table) k t

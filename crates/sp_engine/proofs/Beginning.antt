@@ -1,11 +1,12 @@
 -- The votes of no blocks, and those of genesis alone.
-use Rattle.std.proofs.Common.{◌≡◌, ℕ, ◌≤◌, length, map, take, ap, ◌∙◌, sym, subst, arith, Option, List, [], ◌∷◌, ◌++◌, ◌+◌, refl, length-append}
+use Rattle.std.proofs.Common.{◌≡◌, ℕ, ◌≤◌, length, map, take, ap, ◌∙◌, sym, subst, arith, Option, List, [], ◌∷◌, ◌++◌, ◌+◌, refl, inl, inr, length-append}
 use Rattle.std.specs.List.{range_with_len}
 use Rattle.std.specs.Prelude.{ℤ}
 use Rattle.std.proofs.lemmas.Bool.{false≢true}
+use Rattle.std.proofs.lemmas.List.{take_all}
 use Rattle.sp_dag.specs.Numbered.{Numbered, AreInOrder}
 use Rattle.sp_frozen.specs.Voters.{FrozenRows}
-use Rattle.sp_rows.specs.Pool.{Counted, Pool}
+use Rattle.sp_rows.specs.Pool.{AreRows, Counted, Pool}
 use Rattle.sp_view.specs.Stored.{count_of}
 use Rattle.sp_view.specs.Summed.{AreSums}
 use Rattle.sp_view.proofs.KeptSums.{none_right}
@@ -13,15 +14,15 @@ use Rattle.sp_view.specs.Views.{held, IsView, Viewed}
 use Rattle.sp_view.proofs.Starting.{view_nothing}
 use Rattle.sp_view.proofs.Patched.{length_patched}
 use Rattle.sp_engine.proofs.Covering.{snoc}
-use Rattle.sp_engine.specs.Votes.{AreVoted, bar_row, empty_view, HaveJoined, HaveJoinedBut, Tallied, tips_from, tips_of}
+use Rattle.sp_engine.specs.Votes.{AreFew, AreVoted, bar_row, empty_view, HaveJoined, HaveJoinedBut, Tallied, tips_from}
 
 -- those of no blocks, where genesis joins next
 pub joined_none : (table : Numbered) → AreInOrder table.parents → length table.parents ≡ 1 → (frozen : FrozenRows) (rows : Pool) (views : List Viewed) (sums : List ℤ)
     → frozen ≡ record { blocks = 0; pluses = []; minuses = [] } → rows.rows ≡ [] → views ≡ empty_view ∷ [] → sums ≡ []
-    → (let v : Tallied = record { frozen = frozen; rows = rows; views = views; sums = sums } in HaveJoinedBut table 0 v v [])
+    → (let v : Tallied = record { frozen = frozen; rows = rows; views = views; since = 0; sums = sums } in HaveJoinedBut table 0 v v [])
 joined_none table order single frozen rows views sums f r v s =
-    subst (λ (x : FrozenRows). let w : Tallied = record { frozen = x; rows = rows; views = views; sums = sums } in HaveJoinedBut table 0 w w []) (sym f)
-    (subst (λ (x : List Viewed). let w : Tallied = record { frozen = record { blocks = 0; pluses = []; minuses = [] }; rows = rows; views = x; sums = sums } in HaveJoinedBut table 0 w w []) (sym v) (record {
+    subst (λ (x : FrozenRows). let w : Tallied = record { frozen = x; rows = rows; views = views; since = 0; sums = sums } in HaveJoinedBut table 0 w w []) (sym f)
+    (subst (λ (x : List Viewed). let w : Tallied = record { frozen = record { blocks = 0; pluses = []; minuses = [] }; rows = rows; views = x; since = 0; sums = sums } in HaveJoinedBut table 0 w w []) (sym v) (record {
       joining = record {
         frozen = record {
           within = omega arith;
@@ -40,7 +41,8 @@ joined_none table order single frozen rows views sums f r v s =
         rows = record { long = refl; pluses = λ i d lt. absurd (omega (arith, lt)); minuses = λ i d lt. absurd (omega (arith, lt)) };
         count = refl;
         counted = none;
-        tips = record { tips = []; all = empty_view; is = refl; each = refl; members = refl };
+        sound = subst (λ (l : List Counted). AreRows 0 l) (sym r) tt;
+        tips = record { tips = []; all = empty_view; is = refl; within = omega arith; each = refl; members = refl };
         later = omega arith;
         views = (nothing, (λ z h. absurd (false≢true h)), tt);
         shared = record { few = omega arith; once = λ r. omega arith; counts = λ r. omega (arith, none r) };
@@ -61,6 +63,8 @@ joined_none table order single frozen rows views sums f r v s =
         sums_before = unsummed;
       };
       last = omega (arith, single);
+      from = 0;
+      from_is = inl (refl, refl);
       each = refl;
       members = refl;
       none = λ _. refl;
@@ -90,10 +94,10 @@ voted_alone table old w v saved alone before h = record {
       tips = h.joining.joined;
       all = h.joining.all;
       is = h.joining.is ∙ ap (λ (l : List Viewed). l ++ (h.joining.joined ++ h.joining.all ∷ [])) (no_items h.joining.olds h.joining.few);
+      within = omega (arith, first);
       each =
-          h.each ∙ ap (λ (p : List (List ℕ)). map (bar_row table) (tips_from p 0)) alone
-          ∙ sym (ap (λ (p : List (List ℕ)). map (bar_row table) (tips_of (take 1 p))) alone)
-          ∙ ap (λ (k : ℕ). map (bar_row table) (tips_of (take k table.parents))) (let e : 1 ≡ v.frozen.blocks = omega (arith, h.every, ap length alone) in e);
+          h.each ∙ ap (λ (k : ℕ). map (bar_row table) (tips_from table.parents k)) (let e : h.from ≡ v.since = omega (arith, first, start) in e)
+          ∙ ap (λ (p : List (List ℕ)). map (bar_row table) (tips_from p v.since)) (sym (take_all v.frozen.blocks table.parents (omega (arith, h.every))));
       members = h.members ∙ ap (range_with_len 0) (sym h.every);
     };
   };
@@ -101,6 +105,22 @@ voted_alone table old w v saved alone before h = record {
   sums = subst (λ (l : List ℕ). AreSums table l v.sums) h.members h.joining.sums;
 }
   where
+    single : v.frozen.blocks ≡ 1
+    single = omega (arith, h.every, ap length alone)
+
+    -- there were no tips before, and there is one
+    start : h.from ≡ 0
+    start = elim h.from_is [
+      | inl same ↦ same.0
+      | inr later ↦ absurd (omega (arith, later.0, later.2, single))
+    ]
+
+    first : v.since ≡ 0
+    first = elim h.from_is [
+      | inl same ↦ (let none : old.since ≤ 0 = omega (arith, h.joining.tips.within) in omega (arith, same.1, none))
+      | inr later ↦ absurd (omega (arith, later.0, later.2, single))
+    ]
+
     -- nothing could be saved
     unsaved : length saved ≡ 0
     unsaved =
@@ -114,3 +134,18 @@ voted_alone table old w v saved alone before h = record {
     no_items : (xs : List Viewed) → length xs ≤ 0 → xs ≡ []
     no_items [] le = refl
     no_items (x ∷ xs) le = absurd (omega (arith, le))
+
+-- with two views alone
+pub few_alone : (table : Numbered) (old w v : Tallied) (saved : List (Option (ℕ × ℕ))) → table.parents ≡ [] ∷ [] → HaveJoinedBut table 0 old w [] → HaveJoined table 0 old v saved → AreFew v
+few_alone table old w v saved alone before h more =
+    let single : v.frozen.blocks ≡ 0 + 1 = omega (arith, h.every, ap length alone) in
+    let one = h.one single in
+    absurd (omega (
+      arith,
+      more,
+      h.joining.few,
+      ap length h.joining.is,
+      length-append h.joining.olds (h.joining.joined ++ h.joining.all ∷ []),
+      length-append h.joining.joined (h.joining.all ∷ []),
+      ap length one.1,
+    ))

@@ -1,5 +1,5 @@
 -- The views after a block has joined: those of the tips that it doesn't cover, its own, and that of all blocks.
-use Rattle.std.proofs.Common.{◌≡◌, ℕ, zero, suc, ◌+◌, ◌≤◌, ◌<◌, Bool, true, false, cond, ◌||◌, List, [], ◌∷◌, ◌++◌, length, map, take, Some, refl, sym, ap, ◌∙◌, eqb, arith, length-append}
+use Rattle.std.proofs.Common.{◌≡◌, ℕ, zero, suc, ◌+◌, ◌-◌, ◌≤◌, ◌<◌, Bool, true, false, cond, ◌||◌, List, [], ◌∷◌, ◌++◌, length, map, take, Some, refl, sym, ap, ◌∙◌, eqb, arith, length-append}
 use Rattle.std.specs.Prelude.{filter, slice_get}
 use Rattle.std.specs.List.{range_with_len}
 use Rattle.std.specs.Option.{option_map}
@@ -9,7 +9,7 @@ use Rattle.std.proofs.lemmas.Option.{slice_get-map, slice_get_within}
 use Rattle.sp_dag.specs.Numbered.{Numbered}
 use Rattle.sp_model.specs.Graph.{has}
 use Rattle.sp_view.specs.Views.{Viewed}
-use Rattle.sp_engine.specs.Votes.{AreOfTips, bar_row, is_tip, IsOfAll, Tallied, tips_of}
+use Rattle.sp_engine.specs.Votes.{AreOfTips, bar_row, is_tip, IsOfAll, Tallied, tips_from}
 use Rattle.sp_engine.proofs.Bars.{tip_in}
 
 -- ---- lists
@@ -94,15 +94,15 @@ all_is v front all view is h =
 -- ---- the tips' views
 
 -- the view at a place before the last is that of a tip
-pub of_tip : (table : Numbered) (n : ℕ) (views : List Viewed) (i : ℕ) (view : Viewed) → AreOfTips table n views → n ≤ length table.parents → slice_get views i ≡ Some view → i + 1 < length views
+pub of_tip : (table : Numbered) (n since : ℕ) (views : List Viewed) (i : ℕ) (view : Viewed) → AreOfTips table n since views → n ≤ length table.parents → slice_get views i ≡ Some view → i + 1 < length views
     → (t : ℕ) × (t < n) × (is_tip (take n table.parents) t ≡ true) × (view.members ≡ bar_row table t)
-of_tip table n views i view are le at lt =
+of_tip table n since views i view are le at lt =
     let short : i < length are.tips = omega (arith, lt, ap length are.is, length-append are.tips (are.all ∷ [])) in
     let here : slice_get are.tips i ≡ Some view = sym (in_front are.tips (are.all ∷ []) i short) ∙ ap (λ (l : List Viewed). slice_get l i) (sym are.is) ∙ at in
-    let mapped : slice_get (map (bar_row table) (tips_of (take n table.parents))) i ≡ Some view.members =
+    let mapped : slice_get (map (bar_row table) (tips_from (take n table.parents) since)) i ≡ Some view.members =
     ap (λ (l : List (List ℕ)). slice_get l i) (sym are.each) ∙ slice_get-map (λ (v : Viewed). v.members) are.tips i ∙ ap (option_map (λ (v : Viewed). v.members)) here in
-    let one = from_map (tips_of (take n table.parents)) i view.members mapped in
-    let parts = tip_in table.parents n one.0 le one.1 in
+    let one = from_map (tips_from (take n table.parents) since) i view.members mapped in
+    let parts = tip_in table.parents since n one.0 (omega (arith, are.within)) le one.1 in
     (one.0, parts.0, parts.1, one.2)
   where
     from_map : (ts : List ℕ) (i : ℕ) (row : List ℕ) → slice_get (map (bar_row table) ts) i ≡ Some row → (t : ℕ) × (has ts t ≡ true) × (row ≡ bar_row table t)
@@ -110,13 +110,13 @@ of_tip table n views i view are le at lt =
     from_map (t ∷ ts) zero row at = (t, or_left (eqb t t) (has ts t) (eq-eqb t t refl), (let e : row ≡ bar_row table t = cc in e))
     from_map (t ∷ ts) (suc i) row at = (let rest = from_map ts i row at in (rest.0, or_right (eqb t rest.0) (has ts rest.0) rest.1, rest.2))
 
--- and each tip has one
-pub tip_view_there : (table : Numbered) (n : ℕ) (views : List Viewed) (t : ℕ) → AreOfTips table n views → has (tips_of (take n table.parents)) t ≡ true
+-- and each tip from that number on has one
+pub tip_view_there : (table : Numbered) (n since : ℕ) (views : List Viewed) (t : ℕ) → AreOfTips table n since views → has (tips_from (take n table.parents) since) t ≡ true
     → (i : ℕ) × (view : Viewed) × (slice_get views i ≡ Some view) × (i + 1 < length views) × (view.members ≡ bar_row table t)
-tip_view_there table n views t are there =
-    let place = place_of (tips_of (take n table.parents)) t there in
+tip_view_there table n since views t are there =
+    let place = place_of (tips_from (take n table.parents) since) t there in
     let row : slice_get (map (λ (v : Viewed). v.members) are.tips) place.0 ≡ Some (bar_row table t) =
-    ap (λ (l : List (List ℕ)). slice_get l place.0) are.each ∙ slice_get-map (bar_row table) (tips_of (take n table.parents)) place.0 ∙ ap (option_map (bar_row table)) place.1 in
+    ap (λ (l : List (List ℕ)). slice_get l place.0) are.each ∙ slice_get-map (bar_row table) (tips_from (take n table.parents) since) place.0 ∙ ap (option_map (bar_row table)) place.1 in
     let one = from_map are.tips place.0 (bar_row table t) row in
     let short : place.0 < length are.tips = slice_get_within are.tips place.0 one.0 one.1 in
     (place.0, one.0, ap (λ (l : List Viewed). slice_get l place.0) are.is ∙ in_front are.tips (are.all ∷ []) place.0 short ∙ one.1, omega (arith, short, ap length are.is, length-append are.tips (are.all ∷ [])), one.2)
@@ -135,11 +135,11 @@ tip_view_there table n views t are there =
     from_map (v ∷ vs) (suc i) row at = from_map vs i row at
 
 -- there are no more views than blocks and one
-pub few_views : (table : Numbered) (n : ℕ) (views : List Viewed) → AreOfTips table n views → n ≤ length table.parents → length views ≤ n + 1
-few_views table n views are le =
-    let tips : length are.tips ≡ length (tips_of (take n table.parents)) =
-    sym (length-map are.tips (λ (v : Viewed). v.members)) ∙ ap length are.each ∙ length-map (tips_of (take n table.parents)) (bar_row table) in
-    omega (arith, tips, short (is_tip (take n table.parents)) (range_with_len 0 (length (take n table.parents))), length-range 0 (length (take n table.parents)), taken table.parents n le, ap length are.is, length-append are.tips (are.all ∷ []))
+pub few_views : (table : Numbered) (n since : ℕ) (views : List Viewed) → AreOfTips table n since views → n ≤ length table.parents → length views ≤ n + 1
+few_views table n since views are le =
+    let tips : length are.tips ≡ length (tips_from (take n table.parents) since) =
+    sym (length-map are.tips (λ (v : Viewed). v.members)) ∙ ap length are.each ∙ length-map (tips_from (take n table.parents) since) (bar_row table) in
+    omega (arith, tips, short (is_tip (take n table.parents)) (range_with_len since (length (take n table.parents) - since)), length-range since (length (take n table.parents) - since), taken table.parents n le, ap length are.is, length-append are.tips (are.all ∷ []))
   where
     short : (p : ℕ → Bool) (xs : List ℕ) → length (filter p xs) ≤ length xs
     short p [] = omega arith

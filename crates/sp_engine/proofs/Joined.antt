@@ -24,6 +24,18 @@ no_items (x ∷ xs) e = absurd (omega (arith, e))
 
 module _ (table : Numbered) (n : ℕ) (old v : Tallied) (saved : List (Option (ℕ × ℕ))) where
   module _ (h : HaveJoinedBut table n old v saved) where
+    from_least : n ≤ h.from
+    from_least = elim h.from_is [
+      | inl same ↦ omega (arith, same.0)
+      | inr later ↦ omega (arith, later.0)
+    ]
+
+    from_most : h.from ≤ v.frozen.blocks
+    from_most = elim h.from_is [
+      | inl same ↦ omega (arith, same.0, h.joining.later)
+      | inr later ↦ omega (arith, later.2)
+    ]
+
     -- there are no more views than blocks and one
     pub few_joined : length v.views ≤ v.frozen.blocks + 1
     few_joined =
@@ -36,8 +48,9 @@ module _ (table : Numbered) (n : ℕ) (old v : Tallied) (saved : List (Option (�
           length-append h.joining.joined (h.joining.all ∷ []),
           length-map h.joining.joined (λ (view : Viewed). view.members),
           ap length h.each,
-          length-map (tips_from (take v.frozen.blocks table.parents) n) (bar_row table),
-          tips_few table.parents n v.frozen.blocks (omega (arith, h.last)),
+          length-map (tips_from (take v.frozen.blocks table.parents) h.from) (bar_row table),
+          tips_few table.parents h.from v.frozen.blocks (omega (arith, h.last)),
+          from_least,
         )
 
     pub last_is : (b : ℕ) → b + 1 ≡ length table.parents → IsLast b v.views
@@ -55,9 +68,17 @@ module _ (table : Numbered) (n : ℕ) (old v : Tallied) (saved : List (Option (�
       at,
       length-map h.joining.joined (λ (view : Viewed). view.members),
       ap length h.each,
-      length-map (tips_from (take v.frozen.blocks table.parents) n) (bar_row table),
-      tips_few table.parents n v.frozen.blocks (omega (arith, h.last)),
+      length-map (tips_from (take v.frozen.blocks table.parents) h.from) (bar_row table),
+      tips_few table.parents h.from v.frozen.blocks (omega (arith, h.last)),
+      from_least,
     ))
+
+    -- and none was let go
+    none_gone : v.frozen.blocks ≡ n → v.since ≡ old.since
+    none_gone at = elim h.from_is [
+      | inl same ↦ same.1
+      | inr later ↦ absurd (omega (arith, at, later.0, later.2))
+    ]
 
     joined_alone : (tip all : Viewed) → IsDerived table v.frozen.blocks v.views tip → v.frozen.blocks ≡ n → AreKeptIds table h.joining.all.members all.members h.joining.all.entries all.entries → JoinedAlone table n old.views h.joining.was tip all
     joined_alone tip all kept at stays = record {
@@ -158,23 +179,23 @@ module _ (table : Numbered) (n : ℕ) (old v : Tallied) (saved : List (Option (�
         left_parts : left ≡ h.joining.olds ++ ((rest ++ tip ∷ []) ++ put.more ∷ [])
         left_parts = left_is ∙ ap (λ (l : List Viewed). h.joining.olds ++ l) stay
 
-        members : map (λ (view : Viewed). view.members) (rest ++ tip ∷ []) ≡ map (bar_row table) (tips_from table.parents n)
+        members : map (λ (view : Viewed). view.members) (rest ++ tip ∷ []) ≡ map (bar_row table) (tips_from table.parents h.from)
         members =
-            let before : List ℕ = tips_from (take v.frozen.blocks table.parents) n in
+            let before : List ℕ = tips_from (take v.frozen.blocks table.parents) h.from in
             map-append (λ (view : Viewed). view.members) rest (tip ∷ [])
             ∙ ap (λ (l : List (List ℕ)). l ++ tip.members ∷ []) (
             filter_map (is_top_tip table) h.joining.joined ∙ ap (filter (is_top_tip table)) h.each
             ∙ filter_rows (is_top_tip table) (bar_row table) (is_tip table.parents) before
-            (λ k there. bar_stays table order small k (tips_within table.parents n v.frozen.blocks k h.joining.later (omega (arith, h.last)) there))
+            (λ k there. bar_stays table order small k (tips_within table.parents h.from v.frozen.blocks k from_most (omega (arith, h.last)) there))
             )
             ∙ ap (λ (row : List ℕ). map (bar_row table) (filter (is_tip table.parents) before) ++ row ∷ []) own
             ∙ sym (map-append (bar_row table) (filter (is_tip table.parents) before) (v.frozen.blocks ∷ []))
-            ∙ ap (map (bar_row table)) (tips_more table order small n v.frozen.blocks h.joining.later h.last)
+            ∙ ap (map (bar_row table)) (tips_more table order small h.from v.frozen.blocks from_most h.last)
 
         held_left : (r : ℕ) → count_of pool r ≡ held saved' r + held_by left r
         held_left r = omega (arith, counts r, shared.counts r)
 
-        pub joined_one : HaveJoined table n old (record { frozen = w.frozen; rows = pool; views = left; sums = w.sums }) saved'
+        pub joined_one : HaveJoined table n old (record { frozen = w.frozen; rows = pool; views = left; since = v.since; sums = w.sums }) saved'
         joined_one = record {
           joining = record {
             frozen = frozen;
@@ -182,6 +203,7 @@ module _ (table : Numbered) (n : ℕ) (old v : Tallied) (saved : List (Option (�
             rows = h.joining.rows;
             count = h.joining.count;
             counted = h.joining.counted;
+            sound = h.joining.sound;
             tips = h.joining.tips;
             later = omega (arith, h.joining.later, blocks);
             views = left_views;
@@ -215,6 +237,11 @@ module _ (table : Numbered) (n : ℕ) (old v : Tallied) (saved : List (Option (�
             sums_before = h.joining.sums_before;
           };
           every = omega (arith, blocks, h.last);
+          from = h.from;
+          from_is = elim h.from_is [
+            | inl same ↦ inl same
+            | inr later ↦ inr (later.0, later.1, omega (arith, later.2, blocks))
+          ];
           each = members;
           members = put.members ∙ ap (range_with_len 0) h.last;
           none = λ is. absurd (omega (arith, is, blocks, h.joining.later));
@@ -222,6 +249,7 @@ module _ (table : Numbered) (n : ℕ) (old v : Tallied) (saved : List (Option (�
               let at : v.frozen.blocks ≡ n = omega (arith, is, blocks) in (
                 tip,
                 ap (λ (l : List Viewed). filter (is_uncovered table) l ++ tip ∷ []) (none_joined at),
+                none_gone at,
                 joined_alone tip put.more kept at (subst (λ (x : Viewed). AreKeptIds table x.members put.more.members x.entries put.more.entries) ends.1 put.kept),
               );
         }

@@ -1,5 +1,5 @@
 -- A block is added to the graph beside the votes, before its own join.
-use Rattle.std.proofs.Common.{◌≡◌, ℕ, ◌<◌, ◌≤◌, true, List, [], ◌∷◌, ◌++◌, length, map, take, Option, sym, ap, subst, ◌∙◌, arith, length-append}
+use Rattle.std.proofs.Common.{◌≡◌, ℕ, ◌<◌, ◌≤◌, true, List, [], ◌∷◌, ◌++◌, length, map, take, Option, inl, inr, sym, ap, subst, ◌∙◌, arith, length-append}
 use Rattle.std.specs.List.{range_with_len}
 use Rattle.std.proofs.Math.Seq.{take-append_seam}
 use Rattle.sp_dag.specs.Numbered.{AreInOrder, cut_to, IsNumbered, number_of, Numbered, with_block, with_next}
@@ -23,6 +23,10 @@ joined_stays table more id salt ps n old v saved is numbered order' h =
     let after : AreInOrder (table.parents ++ ps ∷ []) = subst (λ (t : Numbered). AreInOrder t.parents) is order' in
     let parts = views_parts table v.rows v.frozen.blocks (h.joining.olds ++ h.joining.joined) (h.joining.all ∷ []) (subst (λ (l : List Viewed). AreViews table v.rows v.frozen.blocks l) (all_last table n old v saved h.joining) h.joining.views) in
     let own : IsView table h.joining.all v.rows = parts.1.0 in
+    let most : h.from ≤ length table.parents = elim h.from_is [
+      | inl same ↦ omega (arith, same.0, h.joining.later, h.every)
+      | inr later ↦ omega (arith, later.2, h.every)
+    ] in
     let below : (z : ℕ) → has h.joining.was.members z ≡ true → z < length table.parents =
     λ z there. (let less : z < n = below_range n z (ap (λ (l : List ℕ). has l z) (sym h.joining.firsts) ∙ there) in omega (arith, less, h.joining.later, h.every)) in
     subst (λ (t : Numbered). HaveJoinedBut t n old v saved) (sym is) (record {
@@ -32,6 +36,7 @@ joined_stays table more id salt ps n old v saved is numbered order' h =
         rows = h.joining.rows;
         count = h.joining.count;
         counted = h.joining.counted;
+        sound = h.joining.sound;
         tips = tips_stay table id salt ps n old numbered.order (omega (arith, h.joining.later, h.joining.frozen.within)) h.joining.tips;
         later = h.joining.later;
         views = views_stay table v.rows v.frozen.blocks id salt ps v.views numbered after h.joining.views;
@@ -53,11 +58,13 @@ joined_stays table more id salt ps n old v saved is numbered order' h =
         sums_before = sums_stay table id salt ps h.joining.was.members old.sums numbered after h.joining.asked below h.joining.sums_before;
       };
       last = omega (arith, h.every, length-append table.parents (ps ∷ []));
+      from = h.from;
+      from_is = h.from_is;
       each =
           h.each
-          ∙ map_same (bar_row table) (bar_row (with_next table id salt ps)) (tips_from table.parents n)
-          (λ k there. sym (bar_old table id salt ps k numbered.order (tips_below table.parents n k (omega (arith, h.joining.later, h.every)) there)))
-          ∙ ap (λ (t : List (List ℕ)). map (bar_row (with_next table id salt ps)) (tips_from t n)) (
+          ∙ map_same (bar_row table) (bar_row (with_next table id salt ps)) (tips_from table.parents h.from)
+          (λ k there. sym (bar_old table id salt ps k numbered.order (tips_below table.parents h.from k most there)))
+          ∙ ap (λ (t : List (List ℕ)). map (bar_row (with_next table id salt ps)) (tips_from t h.from)) (
           sym (take-append_seam table.parents (ps ∷ [])) ∙ ap (λ (k : ℕ). take k (table.parents ++ ps ∷ [])) (sym h.every)
           );
       members = h.members ∙ ap (range_with_len 0) (sym h.every);

@@ -33,6 +33,7 @@ module _ (table : Numbered) (n : â„•) (old v : Tallied) (saved : List (Option (â
     rows = j.rows;
     count = j.count;
     counted = j.counted;
+    sound = j.sound;
     tips = j.tips;
     later = omega (arith, j.later, more);
     views =

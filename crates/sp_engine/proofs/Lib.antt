@@ -24,14 +24,17 @@ pub mod WordsByNumbers
 pub mod Facts
 pub mod Released
 pub mod Replacing
+pub mod SameLive
 pub mod Retreat
 pub mod StillTips
+pub mod LetGo
 pub mod Homes
 pub mod Settled
 pub mod Grown
 pub mod TakenBack
 pub mod Arriving
 pub mod Joined
+pub mod LeftJoined
 pub mod JoinedStays
 pub mod JoiningMoves
 pub mod Judged

@@ -39,16 +39,16 @@ set_last views front last new new' k is at same =
     let place : k ≡ length front = omega (arith, at, ap length is, length-append front (last ∷ [])) in
     ap (λ (v : Viewed). set views k v) same ∙ ap (λ (i : ℕ). set views i new') place ∙ ap (λ (l : List Viewed). set l (length front) new') is ∙ set_seam front last new'
 
--- what stands between the front and the last one goes by one
-pub one_less : (front : List Viewed) (joined : List Viewed) (last : Viewed) (now new : List Viewed) (place : ℕ) → place ≡ length front → now ≡ front ++ (joined ++ last ∷ []) → place + 1 < length now
-    → new ≡ take place now ++ drop (place + 1) now → (rest : List Viewed) × (new ≡ front ++ (rest ++ last ∷ []))
-one_less front [] last now new place at is more new_is = absurd (omega (arith, at, more, ap length is, length-append front (last ∷ [])))
-one_less front (j ∷ joined) last now new place at is more new_is = (
+-- what stands between a front and what is behind goes by one
+pub one_less : (front joined back : List Viewed) (now new : List Viewed) (place : ℕ) → place ≡ length front → now ≡ front ++ (joined ++ back) → place + length back < length now
+    → new ≡ take place now ++ drop (place + 1) now → (rest : List Viewed) × (new ≡ front ++ (rest ++ back))
+one_less front [] back now new place at is more new_is = absurd (omega (arith, at, more, ap length is, length-append front back))
+one_less front (j ∷ joined) back now new place at is more new_is = (
   joined,
   new_is ∙ ap (λ (k : ℕ). take k now ++ drop (k + 1) now) at ∙ ap (λ (l : List Viewed). take (length front) l ++ drop (length front + 1) l) is
-      ∙ ap (λ (l : List Viewed). l ++ drop (length front + 1) (front ++ (j ∷ (joined ++ last ∷ [])))) (take_seam front (j ∷ (joined ++ last ∷ [])))
-      ∙ ap (λ (k : ℕ). front ++ drop k (front ++ (j ∷ (joined ++ last ∷ [])))) (let e : length front + 1 ≡ suc (length front) = omega arith in e)
-      ∙ ap (λ (l : List Viewed). front ++ l) (drop_seam front j (joined ++ last ∷ [])),
+      ∙ ap (λ (l : List Viewed). l ++ drop (length front + 1) (front ++ (j ∷ (joined ++ back)))) (take_seam front (j ∷ (joined ++ back)))
+      ∙ ap (λ (k : ℕ). front ++ drop k (front ++ (j ∷ (joined ++ back)))) (let e : length front + 1 ≡ suc (length front) = omega arith in e)
+      ∙ ap (λ (l : List Viewed). front ++ l) (drop_seam front j (joined ++ back)),
 )
   where
     take_seam : (front rest : List Viewed) → take (length front) (front ++ rest) ≡ front
@@ -60,11 +60,11 @@ one_less front (j ∷ joined) last now new place at is more new_is = (
     drop_seam (v ∷ vs) j rest = drop_seam vs j rest
 
 -- nothing stands there any more
-pub none_left : (front : List Viewed) (joined : List Viewed) (last : Viewed) (now : List Viewed) (place : ℕ) → place ≡ length front → now ≡ front ++ (joined ++ last ∷ []) → length now ≤ place + 1
-    → now ≡ front ++ last ∷ []
-none_left front [] last now place at is less = is
-none_left front (j ∷ joined) last now place at is less =
-    absurd (omega (arith, at, less, ap length is, length-append front (j ∷ (joined ++ last ∷ [])), length-append joined (last ∷ [])))
+pub none_left : (front joined back : List Viewed) (now : List Viewed) (place : ℕ) → place ≡ length front → now ≡ front ++ (joined ++ back) → length now ≤ place + length back
+    → now ≡ front ++ back
+none_left front [] back now place at is less = is
+none_left front (j ∷ joined) back now place at is less =
+    absurd (omega (arith, at, less, ap length is, length-append front (j ∷ (joined ++ back)), length-append joined back))
 
 -- each is of blocks of the table
 pub below_at : (table : Numbered) (pool : Pool) (n : ℕ) (views : List Viewed) (i : ℕ) (d : Viewed) → AreViews table pool n views → i < length views → (z : ℕ) → has (get_or views i d).members z ≡ true → z < length table.parents

@@ -1,5 +1,5 @@
 -- What the view of all blocks was is saved while blocks join, and the blocks that joined are taken back.
-use Rattle.std.proofs.Common.{◌≡◌, ℕ, ◌+◌, ◌<◌, ◌≤◌, ◌-◌, ◌&&◌, true, List, Option, Some, None, [], ◌∷◌, ◌++◌, length, map, get_or, refl, sym, ap, subst, ◌∙◌, arith, length-append}
+use Rattle.std.proofs.Common.{◌≡◌, ℕ, ◌+◌, ◌<◌, ◌≤◌, ◌-◌, ◌&&◌, true, List, Option, Some, None, [], ◌∷◌, ◌++◌, length, map, get_or, inl, inr, refl, sym, ap, subst, ◌∙◌, arith, length-append}
 use Rattle.std.proofs.lemmas.List.{append_assoc}
 use Rattle.std.specs.Prelude.{filter, IsSome, slice_get}
 use Rattle.std.proofs.lemmas.Bool.{and_from, false≢true}
@@ -9,6 +9,7 @@ use Rattle.sp_dag.proofs.Ranked.{pair_kind}
 use Rattle.sp_model.specs.Graph.{has}
 use Rattle.sp_frozen.specs.Voters.{AreRows}
 use Rattle.sp_rows.specs.Pool.{Pool}
+use Rattle.sp_rows.specs.Pool as counted
 use Rattle.sp_view.specs.Saved.{patched}
 use Rattle.sp_view.proofs.Held.{some_pair}
 use Rattle.sp_view.proofs.Patched.{length_patched}
@@ -18,6 +19,7 @@ use Rattle.sp_view.specs.Views.{entry_at, IsEntry, IsView, Viewed, held}
 use Rattle.sp_engine.proofs.Covering.{few_views}
 use Rattle.sp_engine.proofs.Ending.{EndsWith}
 use Rattle.sp_engine.proofs.Ranges.{in_range}
+use Rattle.sp_engine.proofs.SameLive.{live_same}
 use Rattle.sp_engine.proofs.Sharing.{held_more, views_parts}
 use Rattle.sp_engine.specs.Votes.{AreJoining, AreOfTips, AreSameRows, AreViews, AreVoted, AreVotedBeside, AreWhole, bar_row, HaveJoined, held_by, is_tip, Tallied}
 
@@ -58,8 +60,9 @@ module _ (table : Numbered) (n : ℕ) (old v : Tallied) (saved : List (Option (�
       held_mid r = omega (arith, j.shared.counts r, counts r)
 
       pub same_rows : (left : List Viewed) (pool : Pool) → left ≡ j.olds ++ j.was ∷ [] → ((r : ℕ) → 0 < count_of mid r → row_of mid r ≡ row_of v.rows r)
-          → ((r : ℕ) → count_of pool r + held_by put r ≡ count_of mid r + held_by left r) → ((r : ℕ) → 0 < count_of pool r → row_of pool r ≡ row_of mid r) → AreSameRows old.rows pool
-      same_rows left pool left_is rows counts' rows' = record {
+          → ((r : ℕ) → count_of pool r + held_by put r ≡ count_of mid r + held_by left r) → ((r : ℕ) → 0 < count_of pool r → row_of pool r ≡ row_of mid r) → counted.AreRows 0 pool.rows → AreSameRows old.rows pool
+      same_rows left pool left_is rows counts' rows' sound = record {
+        live = live_same 0 0 pool.rows old.rows.rows sound j.sound now;
         counts = now;
         places = λ r some. rows' r (omega (arith, some, now r)) ∙ rows r (omega (arith, some, now r, counts' r, held_mid r, held_fewer r)) ∙ j.places r (omega (arith, some, j.counted r));
       }
@@ -100,8 +103,8 @@ module _ (table : Numbered) (v : Tallied) (view : Viewed) (voted : AreVoted tabl
       by x y (Some e) is both = refl
 
   -- where none has joined yet
-  pub began : (saved : List (Option (ℕ × ℕ))) → AreRows v.frozen → patched saved view.entries ≡ view.entries → ((r : ℕ) → held saved r ≡ 0) → HaveJoined table (length table.parents) v v saved
-  began saved sound same none =
+  pub began : (saved : List (Option (ℕ × ℕ))) → AreRows v.frozen → counted.AreRows 0 v.rows.rows → patched saved view.entries ≡ view.entries → ((r : ℕ) → held saved r ≡ 0) → HaveJoined table (length table.parents) v v saved
+  began saved sound live same none =
       let summed : AreSums table view.members v.sums = subst (λ (l : List ℕ). AreSums table l v.sums) (sym (ends.members ∙ ap (range_with_len 0) voted.every)) voted.sums in
       let long : length saved ≡ length view.entries = sym (length_patched saved view.entries) ∙ ap length same in
       record {
@@ -111,7 +114,8 @@ module _ (table : Numbered) (v : Tallied) (view : Viewed) (voted : AreVoted tabl
           rows = sound;
           count = voted.every;
           counted = λ r. omega (arith, voted.holds.shared.counts r);
-          tips = subst (λ (k : ℕ). AreOfTips table k v.views) voted.every voted.holds.tips;
+          sound = live;
+          tips = subst (λ (k : ℕ). AreOfTips table k v.since v.views) voted.every voted.holds.tips;
           later = omega (arith, voted.every);
           views = voted.holds.views;
           shared = record {
@@ -120,7 +124,7 @@ module _ (table : Numbered) (v : Tallied) (view : Viewed) (voted : AreVoted tabl
             counts = λ r. omega (arith, none r, voted.holds.shared.counts r);
           };
           olds = ends.front;
-          few = omega (arith, few_views table v.frozen.blocks v.views voted.holds.tips (omega (arith, voted.every)), voted.every, ap length ends.is, length-append ends.front (view ∷ []));
+          few = omega (arith, few_views table v.frozen.blocks v.since v.views voted.holds.tips (omega (arith, voted.every)), voted.every, ap length ends.is, length-append ends.front (view ∷ []));
           was = view;
           old_is = ends.is;
           firsts = ends.members ∙ ap (range_with_len 0) voted.every;
@@ -136,6 +140,8 @@ module _ (table : Numbered) (v : Tallied) (view : Viewed) (voted : AreVoted tabl
           sums_before = summed;
         };
         every = voted.every;
+        from = length table.parents;
+        from_is = inl (refl, refl);
         each = ap (λ (k : ℕ). map (bar_row table) (filter (is_tip table.parents) (range_with_len (length table.parents) k))) (let e : 0 ≡ length table.parents - length table.parents = omega arith in e);
         members = ends.members ∙ ap (range_with_len 0) voted.every;
         none = λ _. refl;

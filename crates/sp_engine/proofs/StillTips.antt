@@ -10,7 +10,7 @@ use Rattle.sp_dag.proofs.NewPairs.{range_more}
 use Rattle.sp_model.specs.Graph.{has}
 use Rattle.sp_model.proofs.Rounds.{length-filter-le}
 use Rattle.sp_model.proofs.Sets.{has-filter}
-use Rattle.sp_engine.specs.Votes.{bar_row, is_tip, is_top_tip, tips_from, tips_of}
+use Rattle.sp_engine.specs.Votes.{bar_row, is_tip, is_top_tip, tips_from}
 use Rattle.sp_engine.proofs.Bars.{top_of_bar}
 use Rattle.sp_engine.proofs.Ranges.{in_range, past_range}
 use Rattle.sp_engine.proofs.TopTips.{any_place, top_is}
@@ -95,18 +95,48 @@ tips_within table n b k le most there =
     (let long : length (take b table) ≡ b = take_long table b most in
     let less : k < length (take b table) = tips_below (take b table) n k (omega (arith, le, long)) there in omega (arith, less, long, most))
 
--- of the tips from before and those that joined, those that are tips now are all tips
-pub tips_now : (table : Numbered) (n : ℕ) → n ≤ length table.parents
-    → filter (is_tip table.parents) (tips_of (take n table.parents)) ++ tips_from table.parents n ≡ tips_of table.parents
-tips_now table n le =
-    let later : List ℕ = tips_from table.parents n in
-    ap (λ (l : List ℕ). l ++ later) (
-    filter-filter (is_tip (take n table.parents)) (is_tip table.parents) (range_with_len 0 (length (take n table.parents)))
-    ∙ filter_test (λ k. is_tip (take n table.parents) k && is_tip table.parents k) (is_tip table.parents) (range_with_len 0 (length (take n table.parents))) (tip_before table n)
-    ∙ ap (λ (k : ℕ). filter (is_tip table.parents) (range_with_len 0 k)) (take_long table.parents n le)
+-- of the tips from before, from a number on, and those that joined, those that are tips now are all tips from it on
+pub tips_now : (table : Numbered) (since n : ℕ) → since ≤ n → n ≤ length table.parents
+    → filter (is_tip table.parents) (tips_from (take n table.parents) since) ++ tips_from table.parents n ≡ tips_from table.parents since
+tips_now table since n first le =
+    ap (λ (l : List ℕ). l ++ tips_from table.parents n) (tips_then table since n le)
+    ∙ sym (filter-append (is_tip table.parents) (range_with_len since (n - since)) (range_with_len n (length table.parents - n)))
+    ∙ ap (filter (is_tip table.parents)) (range_two since (n - since) (length table.parents - n) n (length table.parents - since) (omega (arith, first)) (omega (arith, first, le)))
+
+-- behind the first of those that pass a test come those of the numbers behind it
+first_of : (p : ℕ → Bool) (a k t : ℕ) (ts : List ℕ) → filter p (range_with_len a k) ≡ t ∷ ts
+    → (a ≤ t) × (t < a + k) × (ts ≡ filter p (range_with_len (t + 1) ((a + k) - (t + 1))))
+first_of p a zero t ts e = cc
+first_of p a (suc k) t ts e = at (p a) e (first_of p (a + 1) k t ts)
+  where
+    at : (c : Bool) → cond c (a ∷ filter p (range_with_len (a + 1) k)) (filter p (range_with_len (a + 1) k)) ≡ t ∷ ts
+        → (filter p (range_with_len (a + 1) k) ≡ t ∷ ts → (a + 1 ≤ t) × (t < (a + 1) + k) × (ts ≡ filter p (range_with_len (t + 1) (((a + 1) + k) - (t + 1)))))
+        → (a ≤ t) × (t < a + suc k) × (ts ≡ filter p (range_with_len (t + 1) ((a + suc k) - (t + 1))))
+    at true e more =
+        let same : a ≡ t = cc in
+        let tail : filter p (range_with_len (a + 1) k) ≡ ts = cc in (
+          omega (arith, same),
+          omega (arith, same),
+          sym tail ∙ ap (λ (m : ℕ). filter p (range_with_len m k)) (let e : a + 1 ≡ t + 1 = omega (arith, same) in e)
+              ∙ ap (λ (m : ℕ). filter p (range_with_len (t + 1) m)) (let e : k ≡ (a + suc k) - (t + 1) = omega (arith, same) in e),
+        )
+    at false e more =
+        let rest = more e in (
+          omega (arith, rest.0),
+          omega (arith, rest.1),
+          rest.2 ∙ ap (λ (m : ℕ). filter p (range_with_len (t + 1) (m - (t + 1)))) (let e : (a + 1) + k ≡ a + suc k = omega arith in e),
+        )
+
+-- so behind the first tip come those of the numbers behind it
+pub tips_next : (table : List (List ℕ)) (since t : ℕ) (ts : List ℕ) → tips_from table since ≡ t ∷ ts
+    → (since ≤ t) × (t < length table) × (ts ≡ tips_from table (t + 1))
+tips_next table since t ts e =
+    let one = first_of (is_tip table) since (length table - since) t ts e in
+    let within : t < length table = omega (arith, one.0, one.1) in (
+      one.0,
+      within,
+      one.2 ∙ ap (λ (m : ℕ). filter (is_tip table) (range_with_len (t + 1) m)) (let e : (since + (length table - since)) - (t + 1) ≡ length table - (t + 1) = omega (arith, one.0, within) in e),
     )
-    ∙ sym (filter-append (is_tip table.parents) (range_with_len 0 n) (range_with_len n (length table.parents - n)))
-    ∙ ap (filter (is_tip table.parents)) (range_two 0 n (length table.parents - n) n (length table.parents) (omega arith) (omega (arith, le)))
 
 module _ (table : Numbered) (order : AreInOrder table.parents) (small : length table.parents ≤ 512) where
   pub last_tip : (b : ℕ) → b + 1 ≡ length table.parents → is_tip table.parents b ≡ true

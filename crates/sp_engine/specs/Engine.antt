@@ -15,7 +15,7 @@ use Rattle.sp_accept.specs.Acceptance.{Acceptance, IsRight}
 use Rattle.sp_money.specs.Held.{Held, IsOf}
 use Rattle.sp_money.specs.Locks.{each_once}
 use Rattle.sp_engine.specs.Presence.{order_of}
-use Rattle.sp_engine.specs.Votes.{AreVoted, Grew, IsAsBefore, Tallied}
+use Rattle.sp_engine.specs.Votes.{AreFew, AreVoted, Grew, IsAsBefore, Tallied}
 use Rattle.sp_engine.specs.declared.answer.Answer.{Answer}
 use Rattle.sp_engine.specs.declared.answer.Answer.TheVariants as answer
 use Rattle.sp_engine.specs.Transactions.{tx_ids_in, txs_of}
@@ -83,6 +83,7 @@ pub record IsEngine (bits : ℕ) (kept : List ReadBlock) (genesis : ℕ) (blocks
   pub order : blocks.ids ≡ order_of kept
   pub same : (id : ℕ) → has blocks.ids id ≡ has (present kept) id
   pub voted : AreVoted blocks votes
+  pub few : AreFew votes
 
 -- the carriers are those of the numbered blocks, in their order, and are marked sound where they are so in their graph
 pub record AreCarried (kept : List ReadBlock) (blocks : Numbered) (k : Carried) : Type 0 where

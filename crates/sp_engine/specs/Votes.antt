@@ -1,5 +1,5 @@
 -- The votes of the first blocks of a graph, as the engine keeps them: views of the tips' pasts and of all blocks, whose rows they share.
-use Rattle.std.specs.Prelude.{ℕ, true, false, ◌≡◌, ◌≤◌, ◌<◌, ◌+◌, ◌-◌, ◌&&◌, nat_le, Bool, not, List, [], ◌∷◌, ◌++◌, length, map, filter, take, slice_get, slice_index_or, ℤ, Option, Some, None}
+use Rattle.std.specs.Prelude.{ℕ, true, false, ◌≡◌, ◌⊎◌, ◌≤◌, ◌<◌, ◌+◌, ◌-◌, ◌*◌, ◌&&◌, nat_le, Bool, not, List, [], ◌∷◌, ◌++◌, length, map, filter, take, slice_get, slice_index_or, ℤ, Option, Some, None}
 use Rattle.std.specs.List.{list_all, list_any, range_with_len}
 use Rattle.sp_bits.specs.Places.{places_where}
 use Rattle.sp_model.specs.Graph.{Graph, has, past}
@@ -7,18 +7,20 @@ use Rattle.sp_model.specs.Loose.{in_bar, plus, minus}
 use Rattle.sp_dag.specs.Numbered.{Numbered, graph_of, pairs_of}
 use Rattle.sp_frozen.specs.Voters.{AreRows, FrozenRows, HoldsFrozen}
 use Rattle.sp_rows.specs.Pool.{Pool}
+use Rattle.sp_rows.specs.Pool as pooled
 use Rattle.sp_view.specs.Saved.{IsSaving, patched}
 use Rattle.sp_view.specs.Settled.{IsAsked}
-use Rattle.sp_view.specs.Stored.{count_of, row_of}
+use Rattle.sp_view.specs.Stored.{count_of, live, row_of}
 use Rattle.sp_view.specs.Summed.{AreSums}
 use Rattle.sp_view.specs.Views.{AreKeptIds, IsBest, Viewed, entry_at, held, IsView}
 
--- the frozen votes, the pool of rows, the views over it: those of the tips, ascending, and behind them that of all blocks;
--- and the sums of all blocks' votes, by the numbers of the pairs
+-- the frozen votes, the pool of rows, the views over it: those of tips, ascending, and behind them that of all blocks;
+-- the number from which on the tips have views; and the sums of all blocks' votes, by the numbers of the pairs
 pub record Tallied : Type 0 where
   pub frozen : FrozenRows
   pub rows : Pool
   pub views : List Viewed
+  pub since : ℕ
   pub sums : List ℤ
 
 -- how often some views hold a row
@@ -39,21 +41,43 @@ bar_row table n = places_where (λ z. in_bar (graph_of table) z n)
 abbrev pub is_tip : List (List ℕ) → ℕ → Bool
 is_tip table n = not (list_any (λ parents. has parents n) table)
 
--- the tips, ascending
-abbrev pub tips_of : List (List ℕ) → List ℕ
-tips_of table = filter (is_tip table) (range_with_len 0 (length table))
-
 -- the tips from a number on, ascending
 abbrev pub tips_from : List (List ℕ) → ℕ → List ℕ
 tips_from table n = filter (is_tip table) (range_with_len n (length table - n))
 
--- views of the first n blocks: for each tip, ascending, that of the tip and its past, and behind them that of all these blocks
-pub record AreOfTips (table : Numbered) (n : ℕ) (views : List Viewed) : Type 0 where
+-- views of the first n blocks: for each tip from a number on, ascending, that of the tip and its past, and behind them that of all these
+-- blocks; the newest block, which is a tip, has one
+pub record AreOfTips (table : Numbered) (n since : ℕ) (views : List Viewed) : Type 0 where
   pub tips : List Viewed
   pub all : Viewed
   pub is : views ≡ tips ++ all ∷ []
-  pub each : map (λ (view : Viewed). view.members) tips ≡ map (bar_row table) (tips_of (take n table.parents))
+  pub within : since ≤ n - 1
+  pub each : map (λ (view : Viewed). view.members) tips ≡ map (bar_row table) (tips_from (take n table.parents) since)
   pub members : all.members ≡ range_with_len 0 n
+
+-- how many entries some views have
+abbrev pub entries_of : List Viewed → ℕ
+entries_of [] = 0
+entries_of (view ∷ views) = length view.entries + entries_of views
+
+-- how many bytes the live rows of a pool and the entries of some views take
+abbrev pub bytes_of : Pool → List Viewed → ℕ
+bytes_of pool views = 64 * live pool + 12 * entries_of views
+
+-- the most bytes that they may take while there are views of other tips than the newest one
+abbrev pub most_bytes : ℕ
+most_bytes = 134217728
+
+-- there are views of other tips than the newest one only where all together take no more
+abbrev pub AreFew : Tallied → Type 0
+AreFew v = 2 < length v.views → bytes_of v.rows v.views ≤ most_bytes
+
+-- some views took more while another one stood beside them: in a pool where each row is counted as often as they hold it
+pub record WereMany (views : List Viewed) (other : Viewed) : Type 0 where
+  pub pool : Pool
+  pub rows : pooled.AreRows 0 pool.rows
+  pub counts : (row : ℕ) → count_of pool row ≡ held_by (other ∷ views) row
+  pub more : most_bytes < bytes_of pool (other ∷ views)
 
 -- Saved entries are held beside views: no row is held but by these and those, each as often as it is counted. The saved
 -- ones are no more than there are pairs, and hold no row twice.
@@ -67,7 +91,7 @@ pub record HoldsVotes (table : Numbered) (v : Tallied) (saved : List (Option (�
   pub frozen : HoldsFrozen table v.frozen
   pub views : AreViews table v.rows v.frozen.blocks v.views
   pub shared : AreShared table v.rows v.views saved
-  pub tips : AreOfTips table v.frozen.blocks v.views
+  pub tips : AreOfTips table v.frozen.blocks v.since v.views
 
 -- those of all its blocks
 pub record AreVotedBeside (table : Numbered) (v : Tallied) (saved : List (Option (ℕ × ℕ))) : Type 0 where
@@ -113,12 +137,15 @@ AreKeptIdsBy table set mid more entries entries' =
 
 -- What the votes become where block b, the last one of a table, joins them. In the view of all blocks each row whose content stays keeps
 -- its id. So it is in the new tip's view, beside the view that it was derived from, which is that one within b's past that has most
--- members. The views of the other tips stay, but for b's parents.
+-- members. The views of the other tips stay, but for b's parents, as long as there are not too many: where one was let go, the last that
+-- was so is an old view beside which the new ones were.
 pub record Grew (table : Numbered) (b : ℕ) (old new : Tallied) : Type 0 where
   pub all : (view view' : Viewed) → IsOfAll old view → IsOfAll new view' → AreKeptIds table view.members view'.members view.entries view'.entries
   pub tip : (i : ℕ) (base view : Viewed) → IsBest old.views (past (graph_of table) b) i base → IsOfTip table new b view
       → AreKeptIdsBy table base.members (past (graph_of table) b) view.members base.entries view.entries
-  pub others : (n : ℕ) (view : Viewed) → n < b → IsOfTip table old n view → has (slice_index_or table.parents b []) n ≡ false → IsOfTip table new n view
+  pub since : old.since ≤ new.since
+  pub others : (n : ℕ) (view : Viewed) → n < b → new.since ≤ n → IsOfTip table old n view → has (slice_index_or table.parents b []) n ≡ false → IsOfTip table new n view
+  pub many : old.since < new.since → (n : ℕ) × (other : Viewed) × (n + 1 ≡ new.since) × IsOfTip table old n other × WereMany new.views other
 
 -- ---- while the blocks of an arrival join
 
@@ -128,6 +155,7 @@ empty_view = record { members = []; entries = [] }
 
 -- the live rows are the same ones, each counted as often and with the same places; how many more can be taken may differ
 pub record AreSameRows (old new : Pool) : Type 0 where
+  pub live : live new ≡ live old
   pub counts : (r : ℕ) → count_of new r ≡ count_of old r
   pub places : (r : ℕ) → 0 < count_of old r → row_of new r ≡ row_of old r
 
@@ -135,6 +163,7 @@ pub record AreSameRows (old new : Pool) : Type 0 where
 pub record IsAsBefore (old new : Tallied) : Type 0 where
   pub frozen : new.frozen ≡ old.frozen
   pub views : new.views ≡ old.views
+  pub since : new.since ≡ old.since
   pub rows : AreSameRows old.rows new.rows
   pub sums : new.sums ≡ old.sums
 
@@ -149,6 +178,11 @@ pub record JoinedAlone (table : Numbered) (n : ℕ) (old : List Viewed) (was tip
   pub kept : AreKeptIds table was.members all.members was.entries all.entries
   pub derived : IsDerived table n old tip
 
+-- The number from which on the tips among the blocks of an arrival have views, the first of which is block n: that number, or one behind it
+-- where some views of these were let go, and then no tip below has one once the arrival is kept.
+abbrev pub IsFrom : ℕ → Tallied → Tallied → ℕ → Type 0
+IsFrom n old v from = ((from ≡ n) × (v.since ≡ old.since)) ⊎ ((n < from) × (v.since ≡ from) × (from < v.frozen.blocks))
+
 -- Blocks from number n on have joined the votes of the first n blocks. The views of the old tips stand first, all of them,
 -- then those of blocks that joined, and last that of all blocks; by the entries that are saved of it it can be put back to what
 -- it was. The rows that the old views hold have their places. The sums are those of the view of all blocks, and those from
@@ -159,7 +193,8 @@ pub record AreJoining (table : Numbered) (n : ℕ) (old v : Tallied) (saved : Li
   pub rows : AreRows old.frozen
   pub count : old.frozen.blocks ≡ n
   pub counted : (r : ℕ) → count_of old.rows r ≡ held_by old.views r
-  pub tips : AreOfTips table n old.views
+  pub sound : pooled.AreRows 0 old.rows.rows
+  pub tips : AreOfTips table n old.since old.views
   pub later : n ≤ v.frozen.blocks
   pub views : AreViews table v.rows v.frozen.blocks v.views
   pub shared : AreShared table v.rows v.views saved
@@ -179,20 +214,25 @@ pub record AreJoining (table : Numbered) (n : ℕ) (old v : Tallied) (saved : Li
   pub sums : AreSums table all.members v.sums
   pub sums_before : AreSums table was.members old.sums
 
--- so they stand where each block that joined has its view, but for those that another one covers, and that of all blocks has them all
+-- so they stand where each block that joined has its view, from a number on and but for those that another one covers, and that of all
+-- blocks has them all
 pub record HaveJoined (table : Numbered) (n : ℕ) (old v : Tallied) (saved : List (Option (ℕ × ℕ))) : Type 0 where
   pub joining : AreJoining table n old v saved
   pub every : v.frozen.blocks ≡ length table.parents
-  pub each : map (λ (view : Viewed). view.members) joining.joined ≡ map (bar_row table) (tips_from table.parents n)
+  pub from : ℕ
+  pub from_is : IsFrom n old v from
+  pub each : map (λ (view : Viewed). view.members) joining.joined ≡ map (bar_row table) (tips_from table.parents from)
   pub members : joining.all.members ≡ range_with_len 0 (length table.parents)
   pub none : v.frozen.blocks ≡ n → joining.all ≡ joining.was
-  pub one : v.frozen.blocks ≡ n + 1 → (tip : Viewed) × (joining.joined ≡ tip ∷ []) × JoinedAlone table n old.views joining.was tip joining.all
+  pub one : v.frozen.blocks ≡ n + 1 → (tip : Viewed) × (joining.joined ≡ tip ∷ []) × (v.since ≡ old.since) × JoinedAlone table n old.views joining.was tip joining.all
 
 -- the same, of all blocks of a table but the last one, whose votes come next
 pub record HaveJoinedBut (table : Numbered) (n : ℕ) (old v : Tallied) (saved : List (Option (ℕ × ℕ))) : Type 0 where
   pub joining : AreJoining table n old v saved
   pub last : v.frozen.blocks + 1 ≡ length table.parents
-  pub each : map (λ (view : Viewed). view.members) joining.joined ≡ map (bar_row table) (tips_from (take v.frozen.blocks table.parents) n)
+  pub from : ℕ
+  pub from_is : IsFrom n old v from
+  pub each : map (λ (view : Viewed). view.members) joining.joined ≡ map (bar_row table) (tips_from (take v.frozen.blocks table.parents) from)
   pub members : joining.all.members ≡ range_with_len 0 v.frozen.blocks
   pub none : v.frozen.blocks ≡ n → joining.all ≡ joining.was
 
@@ -224,3 +264,28 @@ pub record IsPut (table : Numbered) (b : ℕ) (old : List Viewed) (tip : Viewed)
   pub kept : AreKeptIds table all.members more.members all.entries more.entries
   pub saving : IsSaving saved' more.entries
   pub patched_is : patched saved' more.entries ≡ patched saved all.entries
+
+-- ---- while views are let go
+
+-- the number from which on the tips behind a place have views, and what a caller knows of it, once some may have been let go
+abbrev pub IsLater : ℕ → ℕ → ℕ → ℕ → ℕ → Type 0
+IsLater blocks from from' since since' = ((from' ≡ from) × (since' ≡ since)) ⊎ ((from < from') × (since' ≡ from') × (from' < blocks))
+
+-- the rows of a pool and some views took too much while another view stood beside them
+pub record WereBeside (rows : Pool) (views : List Viewed) (other : Viewed) : Type 0 where
+  pub pool : Pool
+  pub sound : pooled.AreRows 0 pool.rows
+  pub counts : (row : ℕ) → count_of pool row ≡ count_of rows row + held other.entries row
+  pub more : most_bytes < bytes_of pool (other ∷ views)
+
+-- Of the views behind a front, which are of the tips from a number on and of all blocks, those are left of the tips from a later one on,
+-- as they were. Where one was let go, the others that are left and the last one that was took too much.
+pub record AreLeft (table : Numbered) (front tips : List Viewed) (all : Viewed) (from since : ℕ) (rows : Pool) (views : List Viewed) (since' : ℕ) : Type 0 where
+  pub left : List Viewed
+  pub is : views ≡ front ++ (left ++ all ∷ [])
+  pub from' : ℕ
+  pub each : map (λ (view : Viewed). view.members) left ≡ map (bar_row table) (tips_from table.parents from')
+  pub later : IsLater (length table.parents) from from' since since'
+  pub there : (i : ℕ) (view : Viewed) → slice_get left i ≡ Some view → (j : ℕ) × (slice_get tips j ≡ Some view)
+  pub stay : (i t : ℕ) (view : Viewed) → slice_get tips i ≡ Some view → view.members ≡ bar_row table t → t < length table.parents → from' ≤ t → (j : ℕ) × (slice_get left j ≡ Some view)
+  pub many : from < from' → (t i : ℕ) × (other : Viewed) × (t + 1 ≡ from') × (slice_get tips i ≡ Some other) × (other.members ≡ bar_row table t) × WereBeside rows views other

@@ -96,7 +96,7 @@ impl Drop for Engine {
 
 impl Engine {
     ghost use Rattle.sp_engine.specs.Engine.{AreNumbered, GrewByOne, IsAccepting, IsEngine, is_growth, IsLedger, IsPaying, IsRefused, Stays};
-    ghost use Rattle.sp_engine.specs.Votes.{AreOfTips, held_by, is_tip, IsOfAll, IsOfTip};
+    ghost use Rattle.sp_engine.specs.Votes.{AreFew, AreOfTips, bar_row, held_by, is_tip, IsOfAll, IsOfTip};
 
     /// An engine of genesis alone, which is present, in a profile.
     ///
@@ -265,13 +265,16 @@ impl Engine {
     }
 
     /// The pool of all rows that the views hold: each row is counted once for each entry of a view that
-    /// holds it, and the views are those of the tips, each with its past, and that of all blocks.
+    /// holds it, and the views are those of the tips from a number on, each with its past, and that of all
+    /// blocks. There are others than that of the newest tip and that of all blocks only where the rows and the
+    /// entries of all of them together take at most 128 MiB, 64 bytes for each row and 12 for each entry.
     pub fn row_pool(&self) -> &RowPool
         ensures pool { result.now ≡ self.now.votes.rows }
         ensures counts { (row : ℕ) →
             count_of result.now row ≡ held_by self.now.votes.views row }
         ensures views { AreOfTips self.now.numbered
-            (length self.now.numbered.parents) self.now.votes.views }
+            (length self.now.numbered.parents) self.now.votes.since self.now.votes.views }
+        ensures few { AreFew self.now.votes }
     {
         self.votes.rows()
     }
@@ -287,7 +290,8 @@ impl Engine {
     }
 
     /// The view of the block of this number and its past, or `None` where a present block has it as a
-    /// parent. It takes a step for each tip.
+    /// parent, and where the view was let go since all views together took too much: then
+    /// [`Engine::block_view`] makes it anew. It takes a step for each tip.
     pub fn tip_view(&self, n: u16) -> Option<&View>
         requires within { n < length self.now.numbered.parents }
         ensures view { IfSome result (λ view.
@@ -295,9 +299,26 @@ impl Engine {
         ensures holds { IfSome result (λ view.
             IsView self.now.numbered view.now self.now.votes.rows) }
         ensures tip { IfSome result (λ view. IsTrue (is_tip self.now.numbered.parents n)) }
-        ensures none { IfNone result (IsFalse (is_tip self.now.numbered.parents n)) }
+        ensures none { IfNone result
+            (IsTrue (is_tip self.now.numbered.parents n) → n < self.now.votes.since) }
     {
         self.votes.tip(&self.dag, n)
+    }
+
+    /// The view of the block of this number and its past, for each present block, and the rows that it
+    /// holds, in a pool of their own. It is made anew, which takes the time and the memory that
+    /// [`View::derive`] takes from none; the engine keeps nothing of it.
+    ///
+    /// # Errors
+    ///
+    /// `Memory` where there was none.
+    pub fn block_view(&self, n: u16) -> Result<(View, RowPool), Memory>
+        requires within { n < length self.now.numbered.parents }
+        ensures view { IfOk result (λ made. IsView self.now.numbered made.0 made.1) }
+        ensures members { IfOk result (λ made.
+            made.0.members ≡ bar_row self.now.numbered n) }
+    {
+        self.votes.view_anew(&self.dag, n)
     }
 
     /// Which rule on ties the votes follow.

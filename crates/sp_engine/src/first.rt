@@ -9,7 +9,7 @@ ghost use Rattle.sp_carry.specs.Carried.{IsCarried, nothing, with_block};
 ghost use Rattle.sp_accept.specs.Acceptance.{IsRight};
 ghost use Rattle.sp_accept.specs.Rows.{AreOf};
 ghost use Rattle.sp_engine.specs.Engine.{IsPaying};
-ghost use Rattle.sp_engine.specs.Votes.{AreVoted};
+ghost use Rattle.sp_engine.specs.Votes.{AreFew, AreVoted};
 
 use crate::acceptance::accept_all;
 use crate::votes::Votes;
@@ -91,6 +91,7 @@ pub(crate) fn first_of(
         }) }
     ensures numbered { IfOk result (λ first. IsNumbered first.dag) }
     ensures voted { IfOk result (λ first. AreVoted first.dag first.decided.votes) }
+    ensures few { IfOk result (λ first. AreFew first.decided.votes) }
     ensures carriers { IfOk result (λ first. first.decided.money.carriers
         ≡ with_block first.dag nothing txs.now) }
     ensures carried { IfOk result (λ first. IsCarried first.decided.money.carriers) }
@@ -113,6 +114,7 @@ fn first_decided(alloc: Global, dag: &Dag, txs: &Txs) -> Result<Decided, Memory>
     requires alone { dag.now.parents ≡ [] ∷ [] }
     requires few { length txs.now ≤ 256 }
     ensures voted { IfOk result (λ decided. AreVoted dag.now decided.votes) }
+    ensures few { IfOk result (λ decided. AreFew decided.votes) }
     ensures carriers { IfOk result (λ decided.
         decided.money.carriers ≡ with_block dag.now nothing txs.now) }
     ensures carried { IfOk result (λ decided. IsCarried decided.money.carriers) }
@@ -156,7 +158,8 @@ fn first_money(alloc: Global, dag: &Dag, votes: &Votes, txs: &Txs) -> Result<Mon
 // The votes of genesis.
 fn first_votes(alloc: Global, dag: &Dag) -> Result<Votes, Memory>
     requires { dag.now.parents ≡ [] ∷ [] }
-    ensures { IfOk result (AreVoted dag.now) }
+    ensures voted { IfOk result (AreVoted dag.now) }
+    ensures few { IfOk result AreFew }
 {
     // Tells the proof what numbered blocks are.
     let _blocks = dag.len();

@@ -12,7 +12,7 @@ ghost use Rattle.sp_accept.specs.Acceptance.{first_blocks};
 ghost use Rattle.sp_accept.specs.Flips.{flips_of};
 ghost use Rattle.sp_engine.specs.Engine.{AreNumbered, first_carried, first_numbered, GoesOn, IsAccepting, IsPaying, IsWider};
 ghost use Rattle.sp_engine.specs.Told.{AreTold};
-ghost use Rattle.sp_engine.specs.Votes.{AreJoining, AreVoted, Grew, HaveJoined, IsAsBefore, Tallied};
+ghost use Rattle.sp_engine.specs.Votes.{AreFew, AreJoining, AreVoted, Grew, HaveJoined, IsAsBefore, Tallied};
 
 use crate::acceptance::update;
 use crate::numbering::add_all;
@@ -63,6 +63,7 @@ fn decide(
         before.old.tips + 1 ≡ length old.views → AreJoining dag.new before.new.blocks old votes.new before.new.saved) }
     ensures blocks { before.new.blocks ≡ before.old.blocks }
     ensures tips { before.new.tips ≡ before.old.tips }
+    ensures since { before.new.since ≡ before.old.since }
     ensures members { before.new.members ≡ before.old.members }
     ensures sums { before.new.sums ≡ before.old.sums }
     ensures front { (n : ℕ) → n ≤ length dag.old.parents →
@@ -117,7 +118,7 @@ fn take_back(
     requires within { before.blocks ≤ length dag.old.parents }
     requires carried { before.blocks ≤ carriers.old.blocks }
     requires joining { (old : Tallied) × AreJoining dag.old before.blocks old votes.old before.saved
-        × (before.tips + 1 ≡ length old.views) × (before.sums ≡ old.sums) }
+        × (before.tips + 1 ≡ length old.views) × (before.since ≡ old.since) × (before.sums ≡ old.sums) }
     requires members { before.members ≡ first_blocks before.blocks }
     requires accepted { txs ≤ length purse.old.accepted }
     requires none { (tx : ℕ) → txs ≤ tx → is_set purse.old.accepted tx ≡ false }
@@ -126,7 +127,8 @@ fn take_back(
     ensures dag { dag.new ≡ first_numbered dag.old before.blocks }
     ensures carriers { carriers.new ≡ first_carried carriers.old before.blocks }
     ensures votes { (old : Tallied) → AreJoining dag.old before.blocks old votes.old before.saved →
-        before.tips + 1 ≡ length old.views → before.sums ≡ old.sums → IsAsBefore old votes.new }
+        before.tips + 1 ≡ length old.views → before.since ≡ old.since → before.sums ≡ old.sums →
+        IsAsBefore old votes.new }
     ensures of { (list : List Transaction) → IsOf list purse.old → IsOf (take txs list) purse.new }
     ensures accepted { purse.new.accepted ≡ take txs purse.old.accepted }
 {
@@ -167,6 +169,7 @@ pub(crate) fn grow(
     ensures profile { OnOk result (dag.new.profile ≡ dag.old.profile) }
     ensures ids { OnOk result (dag.new.ids ≡ dag.old.ids ++ ids.now) }
     ensures voted { OnOk result (AreVoted dag.new votes.new) }
+    ensures few { OnOk result (AreFew votes.new) }
     ensures one { OnOk result (length ids.now ≡ 1 →
         (length dag.new.parents ≡ length dag.old.parents + 1)
         × Grew dag.new (length dag.old.parents) votes.old votes.new) }

@@ -2,17 +2,18 @@
 //! and how the views that are covered are let go, or those that joined. What the view of all blocks was is saved
 //! on the way, so that it can be put back.
 
-ghost use Rattle.std.specs.Prelude.{◌≡◌, ◌<◌, ◌≤◌, ◌+◌, ◌^◌, ◌++◌, ◌∷◌, [], true, not, ℕ, List, Option, length, filter, vec_len, vec_capacity, IfOk, OnOk, OnErr};
+ghost use Rattle.std.specs.Prelude.{◌≡◌, ◌<◌, ◌≤◌, ◌+◌, ◌*◌, ◌^◌, ◌↔◌, ◌++◌, ◌∷◌, [], true, not, ℕ, List, Option, length, filter, map, vec_len, vec_capacity, IsTrue, IsFalse, IfOk, OnOk, OnErr};
 ghost use Rattle.std.specs.List.{range_with_len};
 ghost use Rattle.sp_model.specs.Graph.{has, past};
-ghost use Rattle.sp_dag.specs.Numbered.{Numbered, graph_of};
+ghost use Rattle.sp_bits.specs.Places.{IsGreatest};
+ghost use Rattle.sp_dag.specs.Numbered.{AreInOrder, Numbered, graph_of};
 ghost use Rattle.sp_frozen.specs.Voters.{HoldsFrozen};
 ghost use Rattle.sp_view.specs.Homes.{AreHome};
 ghost use Rattle.sp_view.specs.Saved.{IsSaving, patched};
 ghost use Rattle.sp_view.specs.Stored.{count_of, live, row_of};
 ghost use Rattle.sp_view.specs.Summed.{AreRight};
 ghost use Rattle.sp_view.specs.Views.{held, Viewed, AreKeptIds, IsBest, IsView};
-ghost use Rattle.sp_engine.specs.Votes.{AreKeptIdsBy, AreShared, AreViews, bar_row, held_by, is_top_tip, is_uncovered, IsLast, IsPut};
+ghost use Rattle.sp_engine.specs.Votes.{AreKeptIdsBy, AreLeft, AreShared, AreViews, bar_row, bytes_of, entries_of, held_by, is_top_tip, is_uncovered, IsLast, IsPut, most_bytes, tips_from};
 
 use sp_bits::Row;
 use sp_dag::Dag;
@@ -21,6 +22,10 @@ use sp_ids::Memory;
 use sp_rows::RowPool;
 use sp_view::{Saved, Sums, View};
 use std::alloc::Global;
+
+/// The most bytes that the rows and the entries of views may take while there are views of other tips than the newest one:
+/// 128 MiB. A row takes 64, and an entry 12.
+const MOST_BYTES: usize = 134_217_728;
 
 // Whether a block has the highest one of these members as a parent.
 fn is_covered(dag: &Dag, members: &Row) -> bool
@@ -218,19 +223,99 @@ pub(crate) fn release_covered(views: &mut Vec<View>, rows: &mut RowPool, dag: &D
     }
 }
 
-/// Lets the views go that stand from a place on, but for the last one.
-pub(crate) fn release_joined(views: &mut Vec<View>, rows: &mut RowPool, place: usize)
-    requires within { place < vec_len views.old }
+/// Lets the views go that stand between so many first ones and so many last ones.
+pub(crate) fn release_between(views: &mut Vec<View>, rows: &mut RowPool, first: usize, last: usize)
+    requires within { first + last ≤ vec_len views.old }
     requires counts { (row : ℕ) → held_by views.old.items row ≤ count_of rows.old row }
-    ensures rest { (front joined : List Viewed) (last : Viewed) → place ≡ length front →
-        views.old.items ≡ front ++ (joined ++ last ∷ []) → views.new.items ≡ front ++ last ∷ [] }
+    ensures rest { (front between back : List Viewed) → first ≡ length front → last ≡ length back →
+        views.old.items ≡ front ++ (between ++ back) → views.new.items ≡ front ++ back }
+    ensures views { (table : Numbered) (n : ℕ) → AreViews table rows.old n views.old.items →
+        AreViews table rows.new n views.new.items }
     ensures counts { (row : ℕ) → count_of rows.new row + held_by views.old.items row
         ≡ count_of rows.old row + held_by views.new.items row }
     ensures rows { (row : ℕ) → 0 < count_of rows.new row →
         row_of rows.new row ≡ row_of rows.old row }
 {
-    'views: while place + 1 < views.len() {
+    'views: while first + last < views.len() {
+        views.remove(first).release(rows);
+    }
+}
+
+// Whether the entries of some views take no more than so many bytes.
+fn have_room(views: &[View], bytes: usize) -> bool
+    ensures { IsTrue result ↔ (12 * entries_of views.now ≤ bytes) }
+{
+    let mut left = bytes;
+    'views: for i in 0..views.len() {
+        let entries = views[i].entry_count();
+        if entries > left / 12 {
+            return false;
+        }
+        left -= 12 * entries;
+    }
+    true
+}
+
+// Whether the rows of a pool and the entries of some views take no more bytes than they may.
+fn are_few(views: &[View], rows: &RowPool) -> bool
+    ensures { IsTrue result ↔ (bytes_of rows.now views.now ≤ most_bytes) }
+{
+    let live = rows.live();
+    live <= MOST_BYTES / 64 && have_room(views, MOST_BYTES - 64 * live)
+}
+
+// Whether more than two views stand from a place on, and all together take more bytes than they may.
+fn is_excess(views: &[View], rows: &RowPool, place: usize) -> bool
+    ensures more { IsTrue result → (place + 2 < length views.now) × (most_bytes < bytes_of rows.now views.now) }
+    ensures few { IsFalse result → place + 2 < length views.now →
+        bytes_of rows.now views.now ≤ most_bytes }
+{
+    views.len() > place && views.len() - place > 2 && !are_few(views, rows)
+}
+
+/// Lets views go one after another, from a place on, while all together take more bytes than they may; those of the newest
+/// tip and of all blocks stay. It answers the number from which on the tips that stand there have views, where
+/// that was this one.
+pub(crate) fn release_excess(
+    views: &mut Vec<View>,
+    rows: &mut RowPool,
+    place: usize,
+    since: u16,
+) -> u16
+    requires counts { (row : ℕ) → held_by views.old.items row ≤ count_of rows.old row }
+    ensures left { (table : Numbered) (front tips : List Viewed) (all : Viewed) (from : ℕ) →
+        AreInOrder table.parents → length table.parents ≤ 512 → place ≡ length front →
+        views.old.items ≡ front ++ (tips ++ all ∷ []) →
+        map (λ (view : Viewed). view.members) tips ≡ map (bar_row table) (tips_from table.parents from) →
+        AreLeft table front tips all from since rows.new views.new.items result }
+    ensures few { place + 2 < vec_len views.new → bytes_of rows.new views.new.items ≤ most_bytes }
+    ensures two { vec_len views.old ≤ place + 2 →
+        (views.new.items ≡ views.old.items) × (result ≡ since) }
+    ensures views { (table : Numbered) (n : ℕ) → AreViews table rows.old n views.old.items →
+        AreViews table rows.new n views.new.items }
+    ensures counts { (row : ℕ) → count_of rows.new row + held_by views.old.items row
+        ≡ count_of rows.old row + held_by views.new.items row }
+    ensures rows { (row : ℕ) → 0 < count_of rows.new row →
+        row_of rows.new row ≡ row_of rows.old row }
+{
+    let mut from = since;
+    'views: while is_excess(views.as_slice(), rows, place) {
+        // Tells the proof what the rows of a pool are.
+        let _live = rows.live();
+        from = behind(views[place].members());
         views.remove(place).release(rows);
+    }
+    from
+}
+
+// The number behind the highest of some members.
+fn behind(members: &Row) -> u16
+    ensures { (top : ℕ) → IsGreatest members.now top → result ≡ top + 1 }
+{
+    match members.highest() {
+        Some(top) => top + 1,
+        // A view has genesis.
+        None => 0,
     }
 }
 

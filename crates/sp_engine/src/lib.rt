@@ -10,6 +10,7 @@
 
 mod acceptance;
 mod answer;
+mod block_view;
 mod changes;
 mod engine;
 mod first;

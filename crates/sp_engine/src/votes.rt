@@ -11,11 +11,12 @@ ghost use Rattle.sp_view.specs.Views.{IsView, Viewed};
 ghost use Rattle.sp_accept.specs.Acceptance.{first_blocks};
 ghost use Rattle.sp_accept.specs.Changes.{TellsChanges};
 ghost use Rattle.sp_engine.specs.Engine.{numbers};
-ghost use Rattle.sp_engine.specs.Votes.{AreJoining, AreVoted, AreWhole, Grew, HaveJoined, HaveJoinedBut, IsAsBefore, IsOfAll, IsOfTip, is_tip, Tallied};
+ghost use Rattle.sp_engine.specs.Votes.{AreJoining, AreVoted, AreWhole, bar_row, Grew, HaveJoined, HaveJoinedBut, AreFew, IsAsBefore, IsOfAll, IsOfTip, is_tip, Tallied};
 
+use crate::block_view::block_view;
 use crate::changes::turned_pairs;
 use crate::joining::{
-    new_tip, put_tip, release_covered, release_joined, restore_last, settle_last,
+    new_tip, put_tip, release_between, release_covered, release_excess, restore_last, settle_last,
 };
 use crate::words::{related_word, word_by};
 use sp_bits::Row;
@@ -29,13 +30,14 @@ use std::alloc::Global;
 use std::marker::Model;
 
 /// The votes of the first blocks of a graph. Contracts see the frozen votes, the pool of rows, the
-/// views over it: those of the tips, ascending, and behind them that of all blocks; and the sums of the
-/// votes of all blocks, by the numbers of the pairs.
+/// views over it: those of tips, ascending, and behind them that of all blocks; the number from which on
+/// the tips have views; and the sums of the votes of all blocks, by the numbers of the pairs.
 pub(crate) struct Votes {
     alloc: Global,
     frozen: Frozen,
     rows: RowPool,
     views: Vec<View>,
+    since: u16,
     sums: Sums,
 }
 
@@ -44,15 +46,16 @@ impl Model for Votes {
 
     ghost Value = { Tallied };
 
-    ghost view = { λ v. record { frozen = v.frozen; rows = v.rows; views = v.views.items; sums = v.sums } };
+    ghost view = { λ v. record { frozen = v.frozen; rows = v.rows; views = v.views.items; since = v.since; sums = v.sums } };
 }
 
-/// What the votes were before the blocks of an arrival joined them: how many blocks, how many of their tips,
-/// the members of the view of all of them, what is saved of its entries, and the sums of its votes.
+/// What the votes were before the blocks of an arrival joined them: how many blocks, of how many of their tips
+/// there were views, from which number on, the members of the view of all of them, what is saved of its entries, and the sums of its votes.
 #[derive(Drop)]
 pub(crate) struct Before {
     pub(crate) blocks: u16,
     pub(crate) tips: usize,
+    pub(crate) since: u16,
     pub(crate) members: Row,
     pub(crate) saved: Saved,
     pub(crate) sums: Sums,
@@ -66,9 +69,20 @@ impl Drop for Votes {
             frozen: _,
             rows: _,
             views: _,
+            since: _,
             sums: _,
         } = self;
     }
+}
+
+// How many of so many views are left where so many first ones of them are let go, if some views of the blocks behind the
+// first ones were.
+fn left_of(views: usize, first: usize, since: u16, blocks: u16) -> usize
+    requires { first ≤ views }
+    ensures go { blocks < since → result + first ≡ views }
+    ensures stay { since ≤ blocks → result ≡ views }
+{
+    if since > blocks { views - first } else { views }
 }
 
 // Whether a place is the highest one of a row.
@@ -99,14 +113,15 @@ impl Votes {
             frozen: Frozen::new(alloc),
             rows: RowPool::new(alloc),
             views,
+            since: 0,
             sums: Sums::new(alloc),
         })
     }
 
     /// Adds the last block of a graph, whose other blocks were added. The view of the block and its
     /// past stands behind those that were there. The first of these, which are of tips from before the
-    /// arrival and so many, stay; of the others those go that the block covers. Of the view of all blocks
-    /// each entry that may be saved is saved before it changes.
+    /// arrival and so many, stay; of the others those go that the block covers, and the oldest ones where all
+    /// views take too much. Of the view of all blocks each entry that may be saved is saved before it changes.
     ///
     /// # Errors
     ///
@@ -137,6 +152,8 @@ impl Votes {
             tip,
         )?;
         release_covered(&mut self.views, &mut self.rows, dag, tips);
+        let since = release_excess(&mut self.views, &mut self.rows, tips, self.since);
+        self.since = since;
         Ok(())
     }
 
@@ -152,6 +169,7 @@ impl Votes {
             HaveJoined dag.now (length dag.now.parents) self.now self.now before.saved) }
         ensures blocks { IfOk result (λ before. before.blocks ≡ length dag.now.parents) }
         ensures tips { IfOk result (λ before. before.tips + 1 ≡ length self.now.views) }
+        ensures since { IfOk result (λ before. before.since ≡ self.now.since) }
         ensures sums { IfOk result (λ before. before.sums ≡ self.now.sums) }
         ensures members { IfOk result (λ before.
             before.members ≡ first_blocks (length dag.now.parents)) }
@@ -160,6 +178,8 @@ impl Votes {
         let _blocks = dag.len();
         let blocks = self.frozen.blocks();
         let tips = self.views.len() - 1;
+        // Tells the proof what the rows of a pool are.
+        let _live = self.rows.live();
         let sums = self.sums.fork()?;
         let all = &self.views[tips];
         let members = *all.members();
@@ -167,6 +187,7 @@ impl Votes {
         Ok(Before {
             blocks,
             tips,
+            since: self.since,
             members,
             saved,
             sums,
@@ -188,25 +209,34 @@ impl Votes {
     }
 
     /// Keeps the blocks that joined: the views of covered tips are let go, and what is saved, by which some rows
-    /// of the view of all blocks may have the ids again that they had before.
+    /// of the view of all blocks may have the ids again that they had before. Then the views of the oldest tips are
+    /// let go where all take too much; and first all from before the arrival, where some of its blocks' were.
     pub(crate) fn settle(&mut self, dag: &Dag, before: Before)
-        requires { (old : Tallied) × HaveJoined dag.now before.blocks old self.old before.saved }
+        requires { (old : Tallied) × HaveJoined dag.now before.blocks old self.old before.saved
+            × (before.tips + 1 ≡ length old.views) }
         ensures voted { AreVoted dag.now self.new }
+        ensures few { AreFew self.new }
         ensures grew { (old : Tallied) → HaveJoined dag.now before.blocks old self.old before.saved →
+            before.tips + 1 ≡ length old.views →
             length dag.now.parents ≡ before.blocks + 1 → Grew dag.now before.blocks old self.new }
     {
         // Tells the proof that the blocks stand in order.
         let _blocks = dag.len();
         let Before {
-            blocks: _,
-            tips: _,
+            blocks,
+            tips,
+            since: _,
             members: _,
             saved,
             sums: _,
         } = before;
-        // First the covered views, so that fewer of the saved rows are held by another one.
+        // First these views, so that fewer of the saved rows are held by another one.
+        let left = left_of(self.views.len(), tips, self.since, blocks);
+        release_between(&mut self.views, &mut self.rows, 0, left);
         release_covered(&mut self.views, &mut self.rows, dag, 0);
         settle_last(&mut self.views, &mut self.rows, saved);
+        let since = release_excess(&mut self.views, &mut self.rows, 0, self.since);
+        self.since = since;
     }
 
     /// Takes the blocks back that joined, for a graph that is cut to those from before after this
@@ -214,21 +244,26 @@ impl Votes {
     pub(crate) fn take_back(&mut self, dag: &Dag, before: Before)
         requires members { before.members ≡ first_blocks before.blocks }
         requires joining { (old : Tallied) × AreJoining dag.now before.blocks old self.old before.saved
-            × (before.tips + 1 ≡ length old.views) × (before.sums ≡ old.sums) }
+            × (before.tips + 1 ≡ length old.views) × (before.since ≡ old.since) × (before.sums ≡ old.sums) }
         ensures { (old : Tallied) → AreJoining dag.now before.blocks old self.old before.saved →
-            before.tips + 1 ≡ length old.views → before.sums ≡ old.sums → IsAsBefore old self.new }
+            before.tips + 1 ≡ length old.views → before.since ≡ old.since → before.sums ≡ old.sums →
+            IsAsBefore old self.new }
     {
         let Before {
             blocks,
             tips,
+            since,
             members,
             saved,
             sums,
         } = before;
         restore_last(&mut self.views, &mut self.rows, saved, &members);
-        release_joined(&mut self.views, &mut self.rows, tips);
+        release_between(&mut self.views, &mut self.rows, tips, 1);
+        // Tells the proof what the rows of a pool are.
+        let _live = self.rows.live();
         self.frozen.cut(dag, blocks);
         self.sums = sums;
+        self.since = since;
     }
 
     /// The frozen votes, lent as they stand.
@@ -253,14 +288,14 @@ impl Votes {
         &self.views[self.views.len() - 1]
     }
 
-    /// The view of a tip and its past, or `None` where a block has it as a parent.
+    /// The view of a tip and its past, or `None` where a block has it as a parent, or its view was let go.
     pub(crate) fn tip(&self, dag: &Dag, n: u16) -> Option<&View>
         requires voted { AreVoted dag.now self.now }
         requires within { n < length dag.now.parents }
         ensures some { IfSome result (λ view. IsOfTip dag.now self.now n view.now) }
         ensures holds { IfSome result (λ view. IsView dag.now view.now self.now.rows) }
         ensures tip { IfSome result (λ view. IsTrue (is_tip dag.now.parents n)) }
-        ensures none { IfNone result (IsFalse (is_tip dag.now.parents n)) }
+        ensures none { IfNone result (IsTrue (is_tip dag.now.parents n) → n < self.now.since) }
     {
         // Tells the proof that the blocks stand in order.
         let _blocks = dag.len();
@@ -271,6 +306,22 @@ impl Votes {
             }
         }
         None
+    }
+
+    /// The view of a block and its past, made anew over a pool of its own.
+    ///
+    /// # Errors
+    ///
+    /// `Memory` where there was none.
+    pub(crate) fn view_anew(&self, dag: &Dag, n: u16) -> Result<(View, RowPool), Memory>
+        requires voted { AreVoted dag.now self.now }
+        requires within { n < length dag.now.parents }
+        ensures view { IfOk result (λ made. IsView dag.now made.0 made.1) }
+        ensures members { IfOk result (λ made. made.0.members ≡ bar_row dag.now n) }
+    {
+        let mut rows = RowPool::new(self.alloc);
+        let view = block_view(self.alloc, dag, &self.frozen, &mut rows, n)?;
+        Ok((view, rows))
     }
 
     /// The word of two different blocks, by the sign of the sum that is kept for them.

@@ -73,6 +73,13 @@ impl View {
         &self.members
     }
 
+    /// How many pairs the view has entries for, up to the last one inside it: each takes 12 bytes.
+    pub fn entry_count(&self) -> usize
+        ensures { result ≡ length self.now.entries }
+    {
+        self.entries.len()
+    }
+
     // The entries, lent as they stand.
     fn entries(&self) -> &[Option<(RowName, RowName)>]
         ensures same { result.now ≡ self.now.entries }

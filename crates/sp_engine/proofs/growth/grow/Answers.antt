@@ -15,6 +15,7 @@ pub settle-requires : goal.settle-requires
 settle-requires c = (
   c.args.votes.now,
   c.in-Ok.ensures.joined c.args.votes.now (joined_at c.args.dag.now (length c.args.dag.now.parents) c.in_ok-before.before.blocks c.args.votes.now c.args.votes.now c.in_ok-before.before.saved c.in_ok-before.ensures.blocks c.in_ok-before.ensures.joined) c.in_ok-before.ensures.tips,
+  omega (arith, c.in-Ok.ensures.tips, c.in_ok-before.ensures.tips),
 )
 
 pub returns-in-Ok-clause-in_order : goal.returns-in-Ok-clause-in_order
@@ -29,7 +30,7 @@ returns-in-Ok-clause-one c = λ one.
     let h = joined_at old (length old.parents) c.in_ok-before.before.blocks c.args.votes.now c.args.votes.now c.in_ok-before.before.saved c.in_ok-before.ensures.blocks c.in_ok-before.ensures.joined in (
       long,
       subst (λ (n : ℕ). Grew new n c.args.votes.now c.settle.new.self) (c.in-Ok.ensures.blocks ∙ c.in_ok-before.ensures.blocks)
-          (c.settle.ensures.grew c.args.votes.now (c.in-Ok.ensures.joined c.args.votes.now h c.in_ok-before.ensures.tips) (omega (arith, long, c.in-Ok.ensures.blocks, c.in_ok-before.ensures.blocks))),
+          (c.settle.ensures.grew c.args.votes.now (c.in-Ok.ensures.joined c.args.votes.now h c.in_ok-before.ensures.tips) (omega (arith, c.in-Ok.ensures.tips, c.in_ok-before.ensures.tips)) (omega (arith, long, c.in-Ok.ensures.blocks, c.in_ok-before.ensures.blocks))),
     )
 
 pub returns-in-Ok-clause-paying : goal.returns-in-Ok-clause-paying
@@ -51,6 +52,7 @@ take_back-requires-clause-joining c = (
   c.args.votes.now,
   c.in-Err.ensures.err c.args.votes.now (joined_at c.args.dag.now (length c.args.dag.now.parents) c.in_ok-before.before.blocks c.args.votes.now c.args.votes.now c.in_ok-before.before.saved c.in_ok-before.ensures.blocks c.in_ok-before.ensures.joined) c.in_ok-before.ensures.tips,
   omega (arith, c.in-Err.ensures.tips, c.in_ok-before.ensures.tips),
+  c.in-Err.ensures.since ∙ c.in_ok-before.ensures.since,
   c.in-Err.ensures.sums ∙ c.in_ok-before.ensures.sums,
 )
 
@@ -87,7 +89,7 @@ pub returns-in-Err-clause-votes : goal.returns-in-Err-clause-votes
 returns-in-Err-clause-votes c =
     let h = joined_at c.args.dag.now (length c.args.dag.now.parents) c.in_ok-before.before.blocks c.args.votes.now c.args.votes.now c.in_ok-before.before.saved c.in_ok-before.ensures.blocks c.in_ok-before.ensures.joined in
     c.take_back.ensures.votes c.args.votes.now (c.in-Err.ensures.err c.args.votes.now h c.in_ok-before.ensures.tips)
-    (omega (arith, c.in-Err.ensures.tips, c.in_ok-before.ensures.tips)) (c.in-Err.ensures.sums ∙ c.in_ok-before.ensures.sums)
+    (omega (arith, c.in-Err.ensures.tips, c.in_ok-before.ensures.tips)) (c.in-Err.ensures.since ∙ c.in_ok-before.ensures.since) (c.in-Err.ensures.sums ∙ c.in_ok-before.ensures.sums)
 
 pub returns-in-Err-clause-purse : goal.returns-in-Err-clause-purse
 returns-in-Err-clause-purse c =

@@ -8,7 +8,7 @@ first_of-requires c = few_txs _ c.genesis.invariant
 pub of-requires-clause-engine : goal.of-requires-clause-engine
 of-requires-clause-engine c =
     engine_alone c.args.profile c.args.bits _ c.args.genesis c.in_ok-pool.pool c.in_ok-first.first.dag c.in_ok-first.first.decided.votes c.requires.bits c.genesis.view_is c.genesis.invariant c.requires.genesis
-    c.in_ok-pool.ensures.kept c.in_ok-pool.ensures.present c.in_ok-first.ensures.dag c.kept-kept.ensures.blocks c.in_ok-first.ensures.numbered c.in_ok-first.ensures.voted
+    c.in_ok-pool.ensures.kept c.in_ok-pool.ensures.present c.in_ok-first.ensures.dag c.kept-kept.ensures.blocks c.in_ok-first.ensures.numbered c.in_ok-first.ensures.voted c.in_ok-first.ensures.few
 
 pub of-requires-clause-accepting : goal.of-requires-clause-accepting
 of-requires-clause-accepting c = record {

@@ -35,7 +35,7 @@ invariant_of-self-in-Ok c =
     let came = comes_of c.self.view_is c.self.invariant c.block.view_is c.block.invariant c.requires.other c.requires.fresh in (
       comes_engine c.offer.new.self c.in-Present.ids c.grow-grown.new.dag c.grow-grown.new.votes c.in_ok-ids.ensures.kept came
           (joins_of c.in_ok-ids.field-0 c.in-Present.ids c.in-Present.is c.in_ok-ids.ensures.answer) c.in-Ok.ensures.in_order c.in-Ok.ensures.numbered
-          (c.in-Ok.ensures.ids ∙ ap (λ ids. c.self.inside.dag.ids ++ ids) c.as_slice-ids.ensures) c.in-Ok.ensures.voted,
+          (c.in-Ok.ensures.ids ∙ ap (λ ids. c.self.inside.dag.ids ++ ids) c.as_slice-ids.ensures) c.in-Ok.ensures.voted c.in-Ok.ensures.few,
       c.in-Ok.ensures.accepting,
       c.in-Ok.ensures.paying,
     )

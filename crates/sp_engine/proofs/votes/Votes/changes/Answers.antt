@@ -13,7 +13,7 @@ use Rattle.sp_engine.proofs.votes.Votes.changes.Goals as goal
 pub returns : goal.returns
 returns c =
     let table : Numbered = c.args.dag.now in
-    let v : Tallied = record { frozen = c.self.inside.frozen; rows = c.self.inside.rows; views = c.self.inside.views.items; sums = c.self.inside.sums } in
+    let v : Tallied = record { frozen = c.self.inside.frozen; rows = c.self.inside.rows; views = c.self.inside.views.items; since = c.self.inside.since; sums = c.self.inside.sums } in
     let n : ℕ = c.args.before.now.blocks in
     let h : HaveJoined table n c.requires.0 v c.args.before.now.saved = subst (λ (w : Tallied). HaveJoined table n c.requires.0 w c.args.before.now.saved) (sym c.self.view_is) c.requires.1 in
     let was : Viewed = h.joining.was in

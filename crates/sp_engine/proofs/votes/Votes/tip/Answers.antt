@@ -48,12 +48,14 @@ tips-preserved c = λ i view lt at top. elim (cases_lt i c.tips.i) [
     false_from_true is isnt = absurd (false≢true (sym isnt ∙ is))
 
 pub returns-clause-none : goal.returns-clause-none
-returns-clause-none c =
-    false_from_ne_true (is_tip c.args.dag.now.parents c.args.n) (λ tip.
-    let one = has_view c.args.dag.now c.args.self.now c.requires.voted c.len-blocks.ensures.numbered.order c.len-blocks.ensures.numbered.small c.args.n c.requires.within tip in
-    let lt : one.0 < c.tips.i =
-    omega (arith, one.3, ap (λ (v : Tallied). length v.views) c.self.view_is, c.tips-test.false, c.len-tips.ensures, c.self.inside.views.ok.0) in
-    c.tips.invariant one.0 one.1 lt one.2 one.4)
+returns-clause-none c = λ tip. elim (cases_lt c.args.n c.args.self.now.since) [
+  | inl less ↦ less
+  | inr more ↦
+      let one = has_view c.args.dag.now c.args.self.now c.requires.voted c.len-blocks.ensures.numbered.order c.len-blocks.ensures.numbered.small c.args.n c.requires.within more tip in
+      let lt : one.0 < c.tips.i =
+      omega (arith, one.3, ap (λ (v : Tallied). length v.views) c.self.view_is, c.tips-test.false, c.len-tips.ensures, c.self.inside.views.ok.0) in
+      absurd (c.tips.invariant one.0 one.1 lt one.2 one.4)
+]
 
 pub returns-then-is_top-clause-holds : goal.returns-then-is_top-clause-holds
 returns-then-is_top-clause-holds c =

@@ -22,14 +22,14 @@ both_there n x y x_in y_in =
 pub virtual_vote-vote-requires : goal.virtual_vote-vote-requires
 virtual_vote-vote-requires c =
     let table : Numbered = c.args.dag.now in
-    let v : Tallied = record { frozen = c.self.inside.frozen; rows = c.self.inside.rows; views = c.self.inside.views.items; sums = c.self.inside.sums } in
+    let v : Tallied = record { frozen = c.self.inside.frozen; rows = c.self.inside.rows; views = c.self.inside.views.items; since = c.self.inside.since; sums = c.self.inside.sums } in
     let voted : AreWhole table v = subst (λ (w : Tallied). AreWhole table w) (sym c.self.view_is) c.requires.voted in
     voted.sums.long c.in-Some.pair (min c.args.x c.args.y) (max c.args.x c.args.y) c.in-Some.ensures.some (both_there (length table.parents) c.args.x c.args.y c.requires.x_in c.requires.y_in)
 
 pub returns-in-Some : goal.returns-in-Some
 returns-in-Some c =
     let table : Numbered = c.args.dag.now in
-    let v : Tallied = record { frozen = c.self.inside.frozen; rows = c.self.inside.rows; views = c.self.inside.views.items; sums = c.self.inside.sums } in
+    let v : Tallied = record { frozen = c.self.inside.frozen; rows = c.self.inside.rows; views = c.self.inside.views.items; since = c.self.inside.since; sums = c.self.inside.sums } in
     let voted : AreWhole table v = subst (λ (w : Tallied). AreWhole table w) (sym c.self.view_is) c.requires.voted in
     let fits : FitsSigned w8 c.virtual_vote-vote.result = search rules in
     let vote : c.virtual_vote-vote.result ≡ virt (graph_of table) (range_with_len 0 (length table.parents)) (min c.args.x c.args.y) (max c.args.x c.args.y) =
