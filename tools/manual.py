@@ -190,8 +190,8 @@ def overview(page: str, commands: list[Command]) -> str:
         lines += item(command.name, command.does, 11)
     lines.append("")
     for flag, text in items(section(page, "OPTIONS")):
-        lines += item(flag, text, 11)
-    lines += ["", "It ends with", ""]
+        lines += item(flag, f"{text.split('. ')[0].rstrip('.')}.", 11)
+    lines += ["", "A run ends with", ""]
     for status, text in items(section(page, "EXIT STATUS")):
         lines += item(status, text, 5)
     lines += ["", *wrapped("'spectre help COMMAND' tells the words of a command, and the manual page spectre(1) all of it.", 0)]
@@ -200,7 +200,7 @@ def overview(page: str, commands: list[Command]) -> str:
 
 def help_of(command: Command) -> str:
     lines = [f"usage: spectre {command.words}", "", *rendered(command.lines), ""]
-    lines.append("'spectre --help' has all commands and statuses, the manual page spectre(1) more.")
+    lines.append("'spectre --help' has the exit statuses, and the manual page spectre(1) more.")
     return "\n".join(lines) + "\n"
 
 
@@ -229,9 +229,10 @@ def table(commands: list[Command]) -> tuple[list[str], list[tuple[str, list[str]
 
 BASH = """\
 # Completes the words of spectre in bash. Made of the manual page by tools/manual.py.
+# shellcheck shell=bash
 
 _spectre() {
-    local word=${COMP_WORDS[COMP_CWORD]} before=${COMP_WORDS[COMP_CWORD - 1]} words='' place=0 at
+    local word=${COMP_WORDS[COMP_CWORD]} before=${COMP_WORDS[COMP_CWORD - 1]} words='' flags='' place=0 at
     COMPREPLY=()
     # Where a file stands nothing is answered here: bash completes it, quotes and all.
     if [[ $before == *[\\<\\>]* ]]; then
@@ -244,7 +245,7 @@ _spectre() {
         for ((at = 2; at < COMP_CWORD; at++)); do
             case ${COMP_WORDS[at]} in
                 *[\\<\\>]*) ((at++)) ;;
-                -*) ;;
+                -*) flags+=" ${COMP_WORDS[at]} " ;;
                 *) ((place++)) ;;
             esac
         done
@@ -268,11 +269,12 @@ complete -F _spectre spectre
 
 def bash(page: str, commands: list[Command]) -> str:
     files, words = table(commands)
-    flags = [(f"{each.name}:*:-*", each.flags) for each in commands if each.flags]
+    # A command has one flag at most.
+    flags = [(each, flag) for each in commands for flag in each.flags]
     row = "            {}) words='{}' ;;"
     options = [flag for flag, _ in items(section(page, "OPTIONS"))]
     text = BASH.replace("FIRST", " ".join([*(each.name for each in commands), *options]))
-    text = text.replace("FLAGS", "\n".join(row.format(spot, " ".join(found)) for spot, found in flags))
+    text = text.replace("FLAGS", "\n".join(f"            {each.name}:*:-*) [[ $flags == *' {flag} '* ]] || words='{flag}' ;;" for each, flag in flags))
     text = text.replace("FILES", " | ".join(f"{spot}:*" for spot in files))
     return text.replace("PLACES", "\n".join(row.format(f"{spot}:*".replace("*:*", "*"), " ".join(found)) for spot, found in words))
 
@@ -292,7 +294,7 @@ OPTIONS
     )
     if (( CURRENT == 2 )); then
         _describe -t commands command commands
-        _describe -o -t options option options
+        _describe -o option options
         return
     fi
     for (( at = 3; at < CURRENT; at++ )); do
@@ -324,19 +326,26 @@ def zsh(page: str, commands: list[Command]) -> str:
     ]
     text = ZSH.replace("COMMANDS", "\n".join(f"        {quoted(f'{each.name}:{short(each.does)}')}" for each in commands))
     text = text.replace("OPTIONS", "\n".join(f"        {quoted(f'{flag}:{short(does)}')}" for flag, does in items(section(page, "OPTIONS"))))
-    text = text.replace("FLAGS", "\n".join(row.format(spot, "", " ".join(found)) for spot, found in flags))
+    text = text.replace("FLAGS", "\n".join(row.format(spot, "-F words ", " ".join(found)) for spot, found in flags))
     return text.replace("FILES", "|".join(f"{spot}:*" for spot in files)).replace("PLACES", "\n".join(rows))
 
 
 FISH = """\
 # Completes the words of spectre in fish. Made of the manual page by tools/manual.py.
 
-# Whether the word at the cursor is the one at this place of this command, or one of its flags.
+# Whether the word at the cursor is one of this command, at this place among those that are no flags; or,
+# where a flag is named, whether that one doesn't stand yet.
 function __spectre_at --argument-names name place
     set -l words (commandline -opc)
     test (count $words) -gt 1; and test "$words[2]" = "$name"; or return
-    test -n "$place"; or return 0
-    test (count (string match --invert -- '-*' $words[3..-1])) -eq "$place"
+    switch "$place"
+        case ''
+            return 0
+        case '-*'
+            not contains -- $place $words
+        case '*'
+            test (count (string match --invert -- '-*' $words[3..-1])) -eq $place
+    end
 end
 
 function __spectre_first
@@ -361,7 +370,7 @@ def fish(page: str, commands: list[Command]) -> str:
     lines += [f"complete -c spectre -n __spectre_first -l {flag[2:]} -d {quoted(short(text))}" for flag, text in items(section(page, "OPTIONS"))]
     for command in commands:
         told = dict(items(command.lines))
-        lines += [f"complete -c spectre -n '__spectre_at {command.name}' -l {flag[2:]} -d {quoted(short(told[flag]))}" for flag in command.flags]
+        lines += [f"complete -c spectre -n '__spectre_at {command.name} {flag}' -l {flag[2:]} -d {quoted(short(told[flag]))}" for flag in command.flags]
     lines += [f"complete -c spectre -n '__spectre_at {spot.replace(':', ' ')}' -F" for spot in files]
     for spot, found in words:
         where = f"'__spectre_at {spot.replace(':*', '').replace(':', ' ')}'"

@@ -1,11 +1,18 @@
 # Completes the words of spectre in fish. Made of the manual page by tools/manual.py.
 
-# Whether the word at the cursor is the one at this place of this command, or one of its flags.
+# Whether the word at the cursor is one of this command, at this place among those that are no flags; or,
+# where a flag is named, whether that one doesn't stand yet.
 function __spectre_at --argument-names name place
     set -l words (commandline -opc)
     test (count $words) -gt 1; and test "$words[2]" = "$name"; or return
-    test -n "$place"; or return 0
-    test (count (string match --invert -- '-*' $words[3..-1])) -eq "$place"
+    switch "$place"
+        case ''
+            return 0
+        case '-*'
+            not contains -- $place $words
+        case '*'
+            test (count (string match --invert -- '-*' $words[3..-1])) -eq $place
+    end
 end
 
 function __spectre_first
@@ -17,7 +24,7 @@ complete -c spectre -f
 complete -c spectre -n __spectre_first -a play -d 'reads a scenario, and writes the answers to it'
 complete -c spectre -n __spectre_first -a build -d 'reads a scenario, and writes its feed'
 complete -c spectre -n __spectre_first -a make -d 'writes a scenario that is made of three numbers'
-complete -c spectre -n __spectre_first -a drill -d 'plays such a scenario, and writes a summary of it'
+complete -c spectre -n __spectre_first -a drill -d 'plays a scenario of three numbers, and writes a summary'
 complete -c spectre -n __spectre_first -a replay -d 'reads a feed, and writes the answers to it'
 complete -c spectre -n __spectre_first -a node -d 'answers a feed, and keeps its blocks in a journal'
 complete -c spectre -n __spectre_first -a show -d 'writes what the journal in FILE holds'
@@ -28,10 +35,10 @@ complete -c spectre -n __spectre_first -a gossip -d 'plays nodes that send each 
 complete -c spectre -n __spectre_first -a spend -d 'reads a feed, and writes a transaction that pays'
 complete -c spectre -n __spectre_first -a watch -d 'answers a feed, and tells what each block changes'
 complete -c spectre -n __spectre_first -a snapshot -d 'copies a journal that may be in use'
-complete -c spectre -n __spectre_first -a help -d 'tells a command'\''s words, what it reads and writes, and how it ends'
+complete -c spectre -n __spectre_first -a help -d 'tells a command'\''s words, and what it reads and writes'
 complete -c spectre -n __spectre_first -l help -d 'writes a line for each command, and ends with 0'
-complete -c spectre -n __spectre_first -l version -d 'writes the version, the toolchain and the digest of the sources of which the program is, and whether it was shipped or proved here'
-complete -c spectre -n '__spectre_at node' -l fresh -d 'makes a new journal where FILE holds other bytes, over these'
+complete -c spectre -n __spectre_first -l version -d 'writes the version, and of which sources the program is'
+complete -c spectre -n '__spectre_at node --fresh' -l fresh -d 'makes a new journal where FILE holds other bytes, over these'
 complete -c spectre -n '__spectre_at node 0' -F
 complete -c spectre -n '__spectre_at show 0' -F
 complete -c spectre -n '__spectre_at export 0' -F
@@ -44,7 +51,7 @@ complete -c spectre -n '__spectre_at watch' -a 'tx: lock: pair:'
 complete -c spectre -n '__spectre_at help 0' -a play -d 'reads a scenario, and writes the answers to it'
 complete -c spectre -n '__spectre_at help 0' -a build -d 'reads a scenario, and writes its feed'
 complete -c spectre -n '__spectre_at help 0' -a make -d 'writes a scenario that is made of three numbers'
-complete -c spectre -n '__spectre_at help 0' -a drill -d 'plays such a scenario, and writes a summary of it'
+complete -c spectre -n '__spectre_at help 0' -a drill -d 'plays a scenario of three numbers, and writes a summary'
 complete -c spectre -n '__spectre_at help 0' -a replay -d 'reads a feed, and writes the answers to it'
 complete -c spectre -n '__spectre_at help 0' -a node -d 'answers a feed, and keeps its blocks in a journal'
 complete -c spectre -n '__spectre_at help 0' -a show -d 'writes what the journal in FILE holds'
