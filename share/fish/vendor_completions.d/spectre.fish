@@ -1,4 +1,4 @@
-# Completes the words of spectre in fish. Made of the manual page by tools/manual.py.
+# Completes the words of spectre in fish. Made of the manual page by tools/from_manual.py.
 
 # Whether the word at the cursor is one of this command, at this place among those that are no flags; or,
 # where a flag is named, whether that one doesn't stand yet.
@@ -62,3 +62,4 @@ complete -c spectre -n '__spectre_at help 0' -a gossip -d 'plays nodes that send
 complete -c spectre -n '__spectre_at help 0' -a spend -d 'reads a feed, and writes a transaction that pays'
 complete -c spectre -n '__spectre_at help 0' -a watch -d 'answers a feed, and tells what each block changes'
 complete -c spectre -n '__spectre_at help 0' -a snapshot -d 'copies a journal that may be in use'
+complete -c spectre -n '__spectre_at help 0' -a help -d 'tells a command'\''s words, and what it reads and writes'

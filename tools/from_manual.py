@@ -1,8 +1,8 @@
 #!/usr/bin/env python3
 """Makes the help texts and the completions of shells out of the manual page.
 
-    python3 tools/manual.py
-    python3 tools/manual.py --check
+    python3 tools/from_manual.py
+    python3 tools/from_manual.py --check
 
 The page is share/man/man1/spectre.1. The commands are the parts of its section COMMANDS: the words of a command are
 the part's heading, what it does in one line is the first paragraph, and the whole part is its help. With --check
@@ -221,14 +221,14 @@ def table(commands: list[Command]) -> tuple[list[str], list[tuple[str, list[str]
             elif place == ["ITEM"]:
                 words.append((spot, ITEMS))
             elif place == ["COMMAND"]:
-                words.append((spot, [each.name for each in commands if each.name != command.name]))
+                words.append((spot, [each.name for each in commands]))
             elif not place[0].isupper():
                 words.append((spot, place))
     return files, words
 
 
 BASH = """\
-# Completes the words of spectre in bash. Made of the manual page by tools/manual.py.
+# Completes the words of spectre in bash. Made of the manual page by tools/from_manual.py.
 # shellcheck shell=bash
 
 _spectre() {
@@ -240,7 +240,10 @@ _spectre() {
         return
     fi
     if [[ $COMP_CWORD == 1 ]]; then
-        words='FIRST'
+        case $word in
+            -*) words='OPTIONS' ;;
+            *) words='COMMANDS' ;;
+        esac
     else
         for ((at = 2; at < COMP_CWORD; at++)); do
             case ${COMP_WORDS[at]} in
@@ -273,7 +276,7 @@ def bash(page: str, commands: list[Command]) -> str:
     flags = [(each, flag) for each in commands for flag in each.flags]
     row = "            {}) words='{}' ;;"
     options = [flag for flag, _ in items(section(page, "OPTIONS"))]
-    text = BASH.replace("FIRST", " ".join([*(each.name for each in commands), *options]))
+    text = BASH.replace("OPTIONS", " ".join(options)).replace("COMMANDS", " ".join(each.name for each in commands))
     text = text.replace("FLAGS", "\n".join(f"            {each.name}:*:-*) [[ $flags == *' {flag} '* ]] || words='{flag}' ;;" for each, flag in flags))
     text = text.replace("FILES", " | ".join(f"{spot}:*" for spot in files))
     return text.replace("PLACES", "\n".join(row.format(f"{spot}:*".replace("*:*", "*"), " ".join(found)) for spot, found in words))
@@ -281,7 +284,7 @@ def bash(page: str, commands: list[Command]) -> str:
 
 ZSH = """\
 #compdef spectre
-# Completes the words of spectre in zsh. Made of the manual page by tools/manual.py.
+# Completes the words of spectre in zsh. Made of the manual page by tools/from_manual.py.
 
 _spectre() {
     local -a commands options
@@ -331,7 +334,7 @@ def zsh(page: str, commands: list[Command]) -> str:
 
 
 FISH = """\
-# Completes the words of spectre in fish. Made of the manual page by tools/manual.py.
+# Completes the words of spectre in fish. Made of the manual page by tools/from_manual.py.
 
 # Whether the word at the cursor is one of this command, at this place among those that are no flags; or,
 # where a flag is named, whether that one doesn't stand yet.
@@ -394,7 +397,7 @@ def made_of(page: str) -> dict[str, str]:
 
 def main() -> int:
     if sys.argv[1:] not in ([], ["--check"]):
-        print("usage: manual.py [--check]", file=sys.stderr)
+        print("usage: from_manual.py [--check]", file=sys.stderr)
         return 2
     files = made_of(PAGE.read_text())
     there = [path.relative_to(ROOT).as_posix() for path in (ROOT / "share").rglob("*") if path.is_file() and path != PAGE]
