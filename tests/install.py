@@ -308,7 +308,7 @@ def try_use(folder: pathlib.Path) -> None:
     done = call(["spectre", "--version"], **more)
     see(f"--version: {done.stdout!r}", done.returncode == DONE and (ROOT / "VERSION").read_bytes().strip() in done.stdout)
     for shell in SHELLS:
-        for words, name in ((["--help"], "spectre"), (["help", "node"], "node"), (["help"], "spectre")):
+        for words, name in ((["--help"], "spectre"), (["help", "node"], "node")):
             done = call([*by_shell(shell), spectre, *words], **more)
             see(f"{shell} {words}: {done.returncode}", done.returncode == DONE and done.stdout == (ROOT / f"share/spectre/help/{name}.txt").read_bytes())
     done = call(["spectre", "snapshot", journal, folder / "copy"], **more)
