@@ -160,10 +160,15 @@ def try_programs(folder: pathlib.Path) -> None:
     is_refused("no shipped program")
     tree = make_sources(folder / "built", built=True)
     shutil.rmtree(tree / "release")
-    done = install(tree, "--prefix", str(prefix))
-    told_about = (prefix / OWN[2]).read_text().split("\n")
-    see(f"the tree's own: {done.stderr!r}", done.returncode == DONE and is_whole(prefix))
-    see(f"the tree's own: {told_about}", [line.split(" ")[0] for line in told_about] == ["kit", "sources", "program", ""])
+    note = tree / "crates/spectre/out/proved"
+    for line in ("kit unknown", "kit of a test"):
+        # What was noted when it was proved, or that nothing was.
+        if line != "kit unknown":
+            note.write_text(f"{line}\nsources 0\nprogram {digest_of(pathlib.Path(PROGRAM))}\nby prove\n")
+        done = install(tree, "--prefix", str(prefix))
+        told_about = (prefix / OWN[2]).read_text()
+        see(f"the tree's own: {done.stderr!r} {told_about!r}", done.returncode == DONE and is_whole(prefix) and told_about.startswith(f"{line}\nsources "))
+    see("what was noted is told", told_about == note.read_text())
     os.utime(tree / "crates.txt")
     done = install(tree, "--prefix", str(prefix))
     see("an old one of the tree", done.returncode == HINDERED and b"bin/prove" in done.stderr and is_whole(prefix))
@@ -223,9 +228,9 @@ def try_older(folder: pathlib.Path) -> None:
     shutil.rmtree(prefix)
     tools = folder / "tools"
     tools.mkdir()
-    # It is killed at each place in turn at which it moves a file to its place.
+    # It is killed before it moves a file to its place, at some of these moments in turn.
     mover = shutil.which("mv")
-    (tools / "mv").write_text(f'#!/bin/sh\necho >> "{folder}/count"\n[ "$(wc -l < "{folder}/count")" -ne "$AT" ] || kill -9 "$PPID"\nexec "{mover}" "$@"\n')
+    (tools / "mv").write_text(f'#!/bin/sh\necho >> "{folder}/count"\n[ "$(wc -l < "{folder}/count")" -ne "$AT" ] || {{ kill -9 "$PPID"; exit; }}\nexec "{mover}" "$@"\n')
     (tools / "mv").chmod(0o755)
     for at in (1, 2, 3, 9, len(OWN) + len(SHARED), len(OWN) + len(SHARED) + 1):
         for again in (True, False):
@@ -238,8 +243,11 @@ def try_older(folder: pathlib.Path) -> None:
                 see(f"killed at {at}, and again: {done.stderr!r}", done.returncode == DONE)
             done = install(tree, "--remove", "--prefix", str(prefix))
             left = files_in(prefix)
-            # The file that was on its way has a name of its own. Before the list stands nothing else does.
-            see(f"killed at {at}, and removed: {left}", len(left) <= 1 and all(".new." in name for name in left) and (done.returncode == DONE or at == 1))
+            if at == 1 and not again:
+                # The list itself was on its way, and nothing else was put there.
+                see(f"killed at {at}, and removed: {left}", done.returncode == HINDERED and len(left) == 1 and left[0].startswith(f"{OWN[3]}.new."))
+            else:
+                see(f"killed at {at}, and removed: {left}", done.returncode == DONE and not prefix.exists())
             shutil.rmtree(prefix, ignore_errors=True)
 
 
