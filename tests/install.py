@@ -243,9 +243,9 @@ def try_older(folder: pathlib.Path) -> None:
                 see(f"killed at {at}, and again: {done.stderr!r}", done.returncode == DONE)
             done = install(tree, "--remove", "--prefix", str(prefix))
             left = files_in(prefix)
-            if at == 1 and not again:
-                # The list itself was on its way, and nothing else was put there.
-                see(f"killed at {at}, and removed: {left}", done.returncode == HINDERED and len(left) == 1 and left[0].startswith(f"{OWN[3]}.new."))
+            if at == 1:
+                # The list itself was on its way, and but for folders nothing else was made: these stay.
+                see(f"killed at {at}, and removed: {left}", len(left) == (0 if again else 1) and all(name.startswith(f"{OWN[3]}.new.") for name in left))
             else:
                 see(f"killed at {at}, and removed: {left}", done.returncode == DONE and not prefix.exists())
             shutil.rmtree(prefix, ignore_errors=True)
