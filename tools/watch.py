@@ -21,6 +21,7 @@ REPORTED = 4  # as so many lines of pairs counts what a report may have to say o
 MOST_STOPS = 600
 MOST_UNKEPT = 2_000  # arrivals that are listed though nothing was kept
 
+
 class Arrived(NamedTuple):
     """A block that was sent: the program's line, the kept block's number or None, and the numbers of those
     that became present with it."""
