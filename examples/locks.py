@@ -40,6 +40,7 @@ COMMANDS = ("sh", "env", "find", "readlink", "dirname", "cat", "nproc")
 # A feed whose head is at fault: `node` opens its file, finds it empty, and ends with 2.
 FAULTY = b"no feed at all"
 
+
 def is_held(file: str, kind: int) -> bool:
     with open(file, "rb") as opened:
         try:
@@ -143,4 +144,7 @@ def main() -> int:
 
 
 if __name__ == "__main__":
+    if sys.argv[1:]:
+        print("usage: locks.py", file=sys.stderr)
+        sys.exit(2)
     sys.exit(main())

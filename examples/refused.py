@@ -180,4 +180,7 @@ def main():
 
 
 if __name__ == "__main__":
+    if sys.argv[1:]:
+        print("usage: refused.py", file=sys.stderr)
+        sys.exit(2)
     sys.exit(main())

@@ -121,7 +121,7 @@ class Page:
             if found.get("id") == self.number:
                 if "error" in found:
                     raise RuntimeError(f"{method}: {found['error']}")
-                return found["result"]
+                return dict(found["result"])
             self.events.append(found)
 
     def resize(self, width: int, height: int) -> None:

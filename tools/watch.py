@@ -92,7 +92,8 @@ class Watch:
 
     def plan(self) -> Tuple[int, bool]:
         """Behind every how many arrivals a stop stands, and whether only behind those of kept blocks."""
-        sizes, seen, txs, outputs = [], {self.kept[0].block.id}, 0, 0
+        sizes: List[int] = []
+        seen, txs, outputs = {self.kept[0].block.id}, 0, 0
         for data in self.subject.arrivals:
             if len(seen) < 512 and sha256(data) not in seen:
                 seen.add(sha256(data))
