@@ -53,19 +53,29 @@ RUNS: list[tuple[list[str], tuple[int, int], list[str]]] = [
     (["right", "wrong", "hangs", "leaves"], (7, 3), ["begun", "WRONG: this"]),
 ]
 RT = '#!/bin/sh\necho "rt $*"\n[ -z "$SLEEP" ] || exec sleep "$SLEEP"\n[ -z "$RT" ] || echo "$RT"\nexit "$RT_STATUS"\n'
-RELEASE = '#!/bin/sh\necho "release $*"\n[ "$1" != --check ] || exit "$RELEASE"\n'
+# What .ci/run asks of it: the digest before rt ci, and behind it the note that the program was proved, and the comparison.
+RELEASE = """#!/bin/sh
+case $*:$RELEASE in
+    --digest:*) echo 1234 ;;
+    "--mark 1234 gate:mark") exit 1 ;;
+    "--mark 1234 gate:"*) echo marked ;;
+    --check:same) echo "the same program: 5678" ;;
+    *) exit 1 ;;
+esac
+"""
 TRIED = '#!/bin/sh\necho "over $SPECTRE"\n[ -z "$TESTS" ] || echo "$TESTS"\nexit "$TESTS_STATUS"\n'
 # What rt ci says and its status, that of the comparison, what the tests say and their status; the last line and the status.
-GATES: list[tuple[tuple[str, int, int, str, int], tuple[str, int]]] = [
-    (("10 passed, 0 failed", 0, 0, "5 passed, 0 failed", 0), ("16 passed, 0 failed", 0)),
-    (("8 passed, 2 failed", 1, 0, "5 passed, 0 failed", 0), ("8 passed, 2 failed", 1)),
-    (("", 3, 0, "5 passed, 0 failed", 0), ("rt ci", 3)),
-    (("", 0, 0, "5 passed, 0 failed", 0), ("0 passed, 1 failed", 1)),
-    (("10 passed, 1 failed", 0, 0, "5 passed, 0 failed", 0), ("10 passed, 1 failed", 1)),
-    (("10 passed, 0 failed", 0, 1, "5 passed, 0 failed", 0), ("15 passed, 1 failed", 1)),
-    (("10 passed, 0 failed", 0, 0, "4 passed, 1 failed", 1), ("15 passed, 1 failed", 1)),
-    (("10 passed, 0 failed", 0, 0, "", 1), ("11 passed, 1 failed", 1)),
-    (("10 passed, 0 failed", 0, 0, "0 passed, 0 failed", 1), ("11 passed, 1 failed", 1)),
+GATES: list[tuple[tuple[str, int, str, str, int], tuple[str, int]]] = [
+    (("10 passed, 0 failed", 0, "same", "5 passed, 0 failed", 0), ("16 passed, 0 failed", 0)),
+    (("8 passed, 2 failed", 1, "same", "5 passed, 0 failed", 0), ("8 passed, 2 failed", 1)),
+    (("", 3, "same", "5 passed, 0 failed", 0), ("rt ci", 3)),
+    (("", 0, "same", "5 passed, 0 failed", 0), ("0 passed, 1 failed", 1)),
+    (("10 passed, 1 failed", 0, "same", "5 passed, 0 failed", 0), ("10 passed, 1 failed", 1)),
+    (("10 passed, 0 failed", 0, "other", "5 passed, 0 failed", 0), ("15 passed, 1 failed", 1)),
+    (("10 passed, 0 failed", 0, "mark", "5 passed, 0 failed", 0), ("15 passed, 1 failed", 1)),
+    (("10 passed, 0 failed", 0, "same", "4 passed, 1 failed", 1), ("15 passed, 1 failed", 1)),
+    (("10 passed, 0 failed", 0, "same", "", 1), ("11 passed, 1 failed", 1)),
+    (("10 passed, 0 failed", 0, "same", "0 passed, 0 failed", 1), ("11 passed, 1 failed", 1)),
 ]
 
 
@@ -97,7 +107,8 @@ def try_runner(folder: pathlib.Path) -> None:
         see(f"{name}: {wanted}", all(line in lines for line in wanted) and any(line.startswith("FAILED ") for line in lines) == (failed > 0))
     see("what a test leaves behind is ended", is_gone(int(pids.read_text())))
     see("no folder stays", list(places.iterdir()) == [])
-    for words, more in ((["nobody"], {}), (["--limit", "soon"], {}), (["right"], {"SPECTRE": "/nothing"})):
+    faulty: list[tuple[list[str], dict[str, str]]] = [(["nobody"], {}), (["--limit", "soon"], {}), (["right"], {"SPECTRE": "/nothing"})]
+    for words, more in faulty:
         done = call([sys.executable, runner, *words], env={**env, **more})
         see(f"tests/run {' '.join(words)}: {done.returncode}, {done.stderr!r}", done.returncode == 2 and done.stdout == b"" and done.stderr != b"")
     for number in (signal.SIGINT, signal.SIGTERM):
@@ -127,10 +138,10 @@ def try_gate(folder: pathlib.Path) -> None:
     gate = folder / "tree/.ci/run"
     for shell in SHELLS:
         for (said, status, same, tests, ended), (last, wanted) in GATES:
-            more = {"RT": said, "RT_STATUS": str(status), "RELEASE": str(same), "TESTS": tests, "TESTS_STATUS": str(ended)}
+            more = {"RT": said, "RT_STATUS": str(status), "RELEASE": same, "TESTS": tests, "TESTS_STATUS": str(ended)}
             done = call([*shell, gate], env={**env, **more})
             lines = done.stdout.decode().splitlines()
-            see(f"{shell} .ci/run with {more}: {done.returncode}, {lines}", lines[0] == "rt ci" and lines[-1] == last and done.returncode == wanted)
+            see(f"{shell} .ci/run with {more}: {done.returncode}, {lines}", lines[0] == "rt ci" and ("marked" in lines) >= ("the same program: 5678" in lines) and lines[-1] == last and done.returncode == wanted)
             over = f"over {(folder / 'tree').resolve()}/crates/spectre/out/spectre"
             see(f"{shell} .ci/run runs the tests: {lines}", (over in lines) == (last.startswith("1") and status == 0 and said.endswith(" 0 failed")))
         for number in (signal.SIGTERM, signal.SIGINT, signal.SIGHUP):
@@ -153,7 +164,7 @@ def try_packages(folder: pathlib.Path) -> None:
             (tools / name).symlink_to(found)
     script(tools / "apt-get", '#!/bin/sh\necho "$*" >>"$CALLS"\necho "no network"\nexit "$APT"\n')
     script(tools / "apt-cache", '#!/bin/sh\n[ "$2" != fish ]\n')
-    env.update(PATH=str(tools), CALLS=str(calls), RT="1 passed, 0 failed", RT_STATUS="0", RELEASE="0", TESTS="2 passed, 0 failed", TESTS_STATUS="0")
+    env.update(PATH=str(tools), CALLS=str(calls), RT="1 passed, 0 failed", RT_STATUS="0", RELEASE="same", TESTS="2 passed, 0 failed", TESTS_STATUS="0")
     for user, apt in (("0", "0"), ("0", "100"), ("1000", "0")):
         calls.write_text("")
         script(tools / "id", f"#!/bin/sh\necho {user}\n")
