@@ -92,6 +92,27 @@ class Truth:
     def balances(self, arrivals: int, locks: Sequence[str]) -> List[str]:
         return [line.split(" ")[2] for line in self.ask(arrivals, [frame(b"U", bytes.fromhex(each)) for each in locks])]
 
+    def at_stops(self, asked: Dict[int, Sequence[bytes]]) -> Dict[int, Tuple[List[str], List[str]]]:
+        """Behind so many blocks each, the words that answer these questions on two blocks, and the counts: by one
+        run, since a run on many blocks takes long."""
+        text, before = head(self.head.genesis, self.head.bits, self.head.profile), 0
+        for arrivals in sorted(asked):
+            text += b"".join(frame(b"B", each) for each in self.sent[before:arrivals]) + b"".join(asked[arrivals]) + frame(b"R")
+            before = arrivals
+        lines, before, found = iter(run("replay", given=text + frame(b"E")).decode().splitlines()), 0, {}
+        for arrivals in sorted(asked):
+            for _ in range(before, arrivals):
+                next(lines)
+            words = [next(lines).split(" ")[3] for _ in asked[arrivals]]
+            counted = next(lines).split(" ")
+            counts = [counted[1], counted[3]]
+            for _ in ("accepted", "balances"):
+                counts.append(next(lines).split(" ")[1])
+                for _ in range(int(counts[-1])):
+                    next(lines)
+            before, found[arrivals] = arrivals, (words, counts)
+        return found
+
     def counts(self, arrivals: int) -> List[str]:
         lines = self.ask(arrivals, [frame(b"R")])
         told = [line.split(" ") for line in lines if re.match("blocks|accepted|balances", line)]
@@ -163,14 +184,23 @@ class Shown:
 
 def same_words(page: Shown, truth: Truth, arrivals: int, number: int) -> None:
     """The words in all blocks, once this one is chosen."""
+    chosen, shown = choose(page, number)
+    compare_words(page.name, arrivals, number, shown, truth.words(arrivals, chosen, list(shown)))
+
+
+def choose(page: Shown, number: int) -> Tuple[str, Dict[str, str]]:
+    """Chooses a block: its id, and the words in all others by theirs."""
     ids = page.data(".blocks.map(each => each.id)")
     page.choose(number)
-    shown = {each: word for each, word in page.in_blocks().items() if each != ids[number]}
-    told = dict(zip(shown, truth.words(arrivals, ids[number], list(shown))))
+    see(f"{page.name}: id of block {number}", page.text("#chosen [data-id]"), ids[number])
+    return ids[number], {each: word for each, word in page.in_blocks().items() if each != ids[number]}
+
+
+def compare_words(name: str, arrivals: int, number: int, shown: Dict[str, str], words: List[str]) -> None:
+    told = dict(zip(shown, words))
     if not all(word == "absent" for word in told.values()):  # of a block that waits nothing is said
         told = {each: "waits" if word == "absent" else word for each, word in told.items()}
-        see(f"{page.name}: words of block {number} at {arrivals}", shown, told)
-    see(f"{page.name}: id of block {number}", page.text("#chosen [data-id]"), ids[number])
+        see(f"{name}: words of block {number} at {arrivals}", shown, told)
 
 
 def same_pair(page: Shown, truth: Truth, arrivals: int, x: int, y: int) -> None:
@@ -356,16 +386,21 @@ def try_many(page: Shown, name: str, text: bytes, kind: str) -> None:
     see(f"{name}: opened quickly", took < 4 * QUICK)
     stops = page.data(".stops.map(each => each.arrivals)")
     slowest, tries = 0.0, TRIES
+    looked: Dict[int, Tuple[int, str, Dict[str, str], List[str]]] = {}
     for at in (len(stops) - 1, len(stops) // 2, 3, len(stops) - 2):
         page.js(f"(e => {{ e.value = {at}; e.dispatchEvent(new Event('input')); }})(document.getElementById('at'))")
         number = page.js(f"(b => b[Math.floor(b.length / 2)])({THERE})")
-        same_words(page, truth, stops[at], number)
-        see(f"{name}: counts at {stops[at]}", page.counts(), truth.counts(stops[at]))
+        looked[stops[at]] = (number, *choose(page, number), page.counts())
         took = slowest_step(page)
         while took >= QUICK and tries:  # others may be at work on the machine
             took, tries = min(took, slowest_step(page)), tries - 1
         slowest = max(slowest, took)
     see(f"{name}: each step within {QUICK} s", slowest < QUICK)
+    asked = {at: [frame(b"V", bytes.fromhex(chosen + each)) for each in shown] for at, (_, chosen, shown, _) in looked.items()}
+    for at, (words, counts) in truth.at_stops(asked).items():
+        number, _, shown, counted = looked[at]
+        compare_words(name, at, number, shown, words)
+        see(f"{name}: counts at {at}", counted, counts)
     print(f"{name}: the slowest step takes {slowest:.2f} s", flush=True)
     page.choose(len(truth.sent) // 3)
     page.picture(name)
