@@ -10,8 +10,8 @@ exchanged, so each list is compared without regard to its order, and a label tha
 has stands for any. A scenario with a fault has no feed:
 `build` has to write the last line of `play` alone.
 
-The environment variable SPECTRE names another program than `bin/spectre`. The status is 1 where
-something differs.
+The environment variable SPECTRE names another program than `bin/spectre`. The last line is
+`N passed, M failed`. The status is 1 where something differs, and 2 where a SCENARIO can't be read.
 """
 
 import os
@@ -102,9 +102,8 @@ def alike(played, replayed):
     return True, ""
 
 
-def check(path):
+def check(text):
     """Compares one scenario, and answers what is wrong, or nothing."""
-    text = path.read_bytes()
     played, ended = run("play", text)
     built, status = run("build", text)
     if status != ended:
@@ -120,11 +119,17 @@ def check(path):
 
 def main(words):
     paths = [pathlib.Path(word) for word in words] or sorted(HERE.glob("*.txt"))
+    try:
+        texts = [path.read_bytes() for path in paths]
+    except OSError as why:
+        print("alike.py: %s" % why, file=sys.stderr)
+        return 2
     wrong = 0
-    for path in paths:
-        what = check(path)
+    for path, text in zip(paths, texts):
+        what = check(text)
         wrong += bool(what)
         print("%s: %s" % (path.name, what or "alike"))
+    print("%d passed, %d failed" % (len(paths) - wrong, wrong))
     return 1 if wrong else 0
 
 

@@ -16,7 +16,7 @@ import sys
 sys.dont_write_bytecode = True
 sys.path.append(str(pathlib.Path(__file__).resolve().parent.parent / "tools"))  # for the bytes of blocks
 
-from formats import Cursor, frame, head, read_block, sha256, spelled, transaction
+from formats import Cursor, NotThisForm, frame, head, read_block, sha256, spelled, transaction
 
 GRANT = transaction([], [(100, b"alice")])
 PAYMENT = transaction(GRANT.coins, [(100, b"bob")])
@@ -49,9 +49,14 @@ def main(words):
     elif words == ["pair"]:
         print(sha256(ONE).hex(), sha256(TWO).hex())
     elif len(words) == 2 and words[0] == "look":
-        print("\n".join(look(pathlib.Path(words[1]).read_bytes())))
+        try:
+            print("\n".join(look(pathlib.Path(words[1]).read_bytes())))
+        except (OSError, NotThisForm) as why:
+            print(f"certificate.py: {why}", file=sys.stderr)
+            sys.exit(2)
     else:
-        sys.exit(__doc__)
+        print(__doc__, file=sys.stderr)
+        sys.exit(2)
 
 
 if __name__ == "__main__":

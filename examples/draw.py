@@ -27,7 +27,7 @@ sys.dont_write_bytecode = True
 
 from drawing.answers import play
 from drawing.graph import graph_of
-from drawing.scenario import Misfit, lines_of, with_questions
+from drawing.scenario import Misfit, check_text, lines_of, with_questions
 from drawing.svg import drawing
 
 PROGRAM = pathlib.Path(__file__).resolve().parent.parent / "bin" / "spectre"
@@ -77,6 +77,7 @@ def main(words):
     job = commands().parse_args(words)
     try:
         scenario = read_text(job.scenario)
+        check_text(scenario)
         if job.command == "questions":
             write_text(with_questions(scenario, job.pair))
         elif job.command == "picture":

@@ -20,7 +20,7 @@ sys.dont_write_bytecode = True
 
 from drawing.answers import ARRIVAL, COUNT, Answers, answers_to
 from drawing.graph import Block, Graph
-from drawing.scenario import GENESIS, MAKES, Line, Misfit, lines_of, parents_and_carried
+from drawing.scenario import GENESIS, MAKES, Line, Misfit, check_text, lines_of, parents_and_carried
 from drawing.svg import drawing, element
 
 PROGRAM = pathlib.Path(__file__).resolve().parent.parent / "bin" / "spectre"
@@ -85,12 +85,18 @@ class Nodes:
         self.reporting = command == "report"
 
 
-def rows_of(script, text):
-    """The pictures of a script's reports, by the answers to it."""
-    lines = lines_of(script)
+def nodes_in(lines):
+    """The place of the line `nodes` among the lines of a script."""
     first = next((at for at, line in enumerate(lines) if line.words[0] == "nodes"), None)
     if first is None or len(lines[first].words) != 2 or not lines[first].words[1].isdecimal():
         raise Misfit("the script has no line `nodes`")
+    return first
+
+
+def rows_of(script, text):
+    """The pictures of a script's reports, by the answers to it."""
+    lines = lines_of(script)
+    first = nodes_in(lines)
     nodes, answers = Nodes(lines[:first], int(lines[first].words[1])), Answers(text)
     for line in lines[first + 1 :]:
         if answers.take_fault(line):
@@ -134,6 +140,8 @@ def main(words):
         return 1
     try:
         script = pathlib.Path(words[0]).read_bytes()
+        check_text(script.decode("latin-1"))
+        nodes_in(lines_of(script.decode("latin-1")))
         run = subprocess.run([os.environ.get("SPECTRE", PROGRAM), "gossip"], input=script, stdout=subprocess.PIPE)
         if run.returncode not in (0, 2):
             raise Misfit(f"the program ended with status {run.returncode}")

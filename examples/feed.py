@@ -179,7 +179,8 @@ FEEDS = {
 def main(words):
     name = words[0] if words else "first"
     if len(words) > 1 or name not in FEEDS:
-        sys.exit("usage: feed.py [" + " | ".join(FEEDS) + "]")
+        print("usage: feed.py [" + " | ".join(FEEDS) + "]", file=sys.stderr)
+        sys.exit(2)
     sys.stdout.buffer.write(FEEDS[name]())
 
 

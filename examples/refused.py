@@ -9,10 +9,12 @@ granted, the run has to end as it does with memory, and to write all. Of `node`,
 with at least the blocks whose lines were written, or none where no line was.
 
 The runs: a scenario of 40 blocks with a list of all pairs and a report, one in which payments turn, a feed
-of 60 blocks with payments, and a node that is sent two blocks, in either profile. It needs gcc, and runs from anywhere;
-SPECTRE names another program than the one that bin/spectre has built."""
+of 60 blocks with payments, and a node that is sent two blocks, in either profile. It needs gcc or clang, and runs from
+anywhere; SPECTRE names another program than the one that bin/spectre has built. The last line is `N passed, M failed`,
+with each run counted to which memory was refused."""
 
 import os
+import shutil
 import subprocess
 import sys
 import tempfile
@@ -91,6 +93,7 @@ class Trials:
 
     def __init__(self, folder, shim, name, words, given):
         self.name, self.words, self.given = name, words, given
+        self.passed, self.wrong = 0, 0
         self.env = dict(os.environ, LD_PRELOAD=shim)
         self.file = os.path.join(folder, "journal") if "node" in words else None
         self.counted = os.path.join(folder, "counted")
@@ -120,31 +123,45 @@ class Trials:
 
     def judge(self, number, spared, **more):
         run = self.run(REFUSED=str(number), **more)
+        is_spared = spared is not None and run.returncode == 0 and run.stdout == self.whole.stdout
         if not self.keeps(run):
-            sys.exit(f"{self.name}: allocation {number}: a block was lost")
-        if spared is not None and run.returncode == 0 and run.stdout == self.whole.stdout:
-            return spared + 1
-        if run.returncode != MEMORY or not self.whole.stdout.startswith(run.stdout):
-            sys.exit(f"{self.name}: allocation {number}: it ended with {run.returncode}")
-        return spared
+            self.fail(number, "a block was lost")
+        elif not is_spared and (run.returncode != MEMORY or not self.whole.stdout.startswith(run.stdout)):
+            self.fail(number, f"it ended with {run.returncode}")
+        else:
+            self.passed += 1
+        return spared + 1 if is_spared else spared
+
+    def fail(self, number, what):
+        self.wrong += 1
+        print(f"WRONG: {self.name}: allocation {number}: {what}", flush=True)
 
     def all(self):
         spared, count = 0, self.count()
         for number in range(count):
             spared = self.judge(number, spared)
             self.judge(number, None, ALL="1")
+        if self.wrong:
+            return
         print(f"{self.name}: {count} allocations, each refused once, and each with all that follow: Memory, and a front")
         print(f"of the output; but for {spared} refused once, where less was asked for, and all was written")
 
 
+def compiler():
+    return shutil.which("gcc") or shutil.which("clang")
+
+
 def main():
+    if not compiler():
+        print("not run: refused memory, since there is no gcc and no clang\n0 passed, 0 failed")
+        return 0
     drawn = made("make", "40", "1", "4")
     feed = made("build", given=made("make", "60", "7", "3") + b"report\n")
     blocks = b"block A on G\nblock B on G\n"
     two, ranked = made("build", given=blocks), made("build", given=b"profile 2\n" + blocks)
     with tempfile.TemporaryDirectory() as folder:
         shim = os.path.join(folder, "shim.so")
-        build = ["gcc", "-shared", "-fPIC", "-x", "c", "-o", shim, "-", "-ldl"]
+        build = [compiler(), "-shared", "-fPIC", "-x", "c", "-o", shim, "-", "-ldl"]
         subprocess.run(build, input=SHIM.encode(), check=True)
         runs = [
             ("a scenario of 40 blocks", ["play"], drawn + QUESTIONS),
@@ -153,9 +170,17 @@ def main():
             ("a node", ["node"], two),
             ("a node of profile 2", ["node"], ranked),
         ]
+        passed, wrong = 0, 0
         for name, words, given in runs:
-            Trials(folder, shim, name, words, given).all()
+            trials = Trials(folder, shim, name, words, given)
+            trials.all()
+            passed, wrong = passed + trials.passed, wrong + trials.wrong
+    print(f"{passed} passed, {wrong} failed")
+    return 1 if wrong else 0
 
 
 if __name__ == "__main__":
-    main()
+    if sys.argv[1:]:
+        print("usage: refused.py", file=sys.stderr)
+        sys.exit(2)
+    sys.exit(main())

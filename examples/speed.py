@@ -193,6 +193,11 @@ def main():
     parser.add_argument("--draw", type=int, default=0, help="run graphs of many tips by so many seeds instead")
     parser.add_argument("word", nargs="?", default="", help="make only the runs whose name has this word")
     given = parser.parse_args()
+    names = [name for name, *_ in RUNS] + [f"certificates: {name}" for name, _ in CERTIFIED]
+    if given.draw < 0 or not any(given.word in name for name in names):
+        parser.error(f"no run has `{given.word}` in its name" if given.word else "N is at least 1")
+    if not os.access(SPECTRE, os.X_OK):
+        parser.error(f"there is no program {SPECTRE}; bin/spectre builds it")
     if given.draw:
         show_drawn(given.draw)
         return

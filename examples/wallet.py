@@ -44,9 +44,14 @@ def main(words):
     if words == ["start"]:
         feed = start()
     elif len(words) == 2 and words[0] == "round":
-        feed = around(pathlib.Path(words[1]).read_bytes())
+        try:
+            feed = around(pathlib.Path(words[1]).read_bytes())
+        except OSError as why:
+            print(f"wallet.py: {why}", file=sys.stderr)
+            sys.exit(2)
     else:
-        sys.exit(__doc__)
+        print(__doc__, file=sys.stderr)
+        sys.exit(2)
     sys.stdout.buffer.write(feed)
 
 

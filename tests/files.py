@@ -14,13 +14,12 @@ from __future__ import annotations
 import os
 import pathlib
 import resource
-import shutil
 import signal
 import socket
 import sys
 import tempfile
 
-from harness import DISK_FAULT, DONE, PROGRAM, WRITE_FAULT, call, feed_of, make_tree, run_all, see
+from harness import DISK_FAULT, DONE, PROGRAM, WRITE_FAULT, call, can_trace, feed_of, lacks, make_tree, run_all, see
 
 BLOCKS = 40
 INTERRUPTED = "read,write,lseek,pread64,pwrite64"
@@ -100,8 +99,8 @@ def spawn_into(launcher: str, taken: int, given: bytes, folder: pathlib.Path) ->
 
 def try_interruptions(folder: pathlib.Path) -> None:
     """Each second read, write or seek on the feed, the output and the journal is interrupted."""
-    if shutil.which("strace") is None:
-        print("not run: interrupted calls, since there is no strace")
+    if not can_trace():
+        lacks("interrupted calls", "there is no strace that may trace here")
         return
     feed, output, journal, log = (folder / name for name in ("feed", "output", "journal", "log"))
     feed.write_bytes(feed_of(scenario()))

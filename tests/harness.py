@@ -6,6 +6,7 @@ from __future__ import annotations
 
 import os
 import pathlib
+import shutil
 import subprocess
 import sys
 from collections.abc import Callable, Sequence
@@ -32,6 +33,16 @@ def see(name: str, holds: bool) -> None:
     if not holds:
         _wrong.append(name)
         print(f"WRONG: {name}")
+
+
+def lacks(what: str, why: str) -> None:
+    """Names what can't be tried on this machine, which counts for nothing."""
+    print(f"not run: {what}, since {why}")
+
+
+def can_trace() -> bool:
+    """Whether there is `strace`, and it may trace here."""
+    return shutil.which("strace") is not None and call(["strace", "-qq", "-o", "/dev/null", "true"]).returncode == 0
 
 
 def finish() -> int:
@@ -66,6 +77,9 @@ def make_tree(folder: pathlib.Path, built: bool = True) -> pathlib.Path:
     launcher.parent.mkdir()
     launcher.write_bytes(LAUNCHER.read_bytes())
     launcher.chmod(0o755)
+    for name in ("share", "VERSION"):  # what the launcher answers by itself
+        if (ROOT / name).exists():
+            (folder / name).symlink_to(ROOT / name)
     if built:
         out = folder / "crates/spectre/out"
         out.mkdir()

@@ -155,6 +155,6 @@ def report(talk: Talk) -> Report:
     return Report(
         present,
         waiting,
-        tuple(bytes.fromhex(each[1]) for each in accepted),
-        {bytes.fromhex(each[1]): int(each[2]) for each in left},
+        tuple(bytes.fromhex(str(each[1])) for each in accepted),
+        {bytes.fromhex(str(each[1])): int(each[2]) for each in left},
     )

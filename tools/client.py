@@ -34,14 +34,15 @@ import json
 import os
 import secrets
 import sys
-from typing import Any, Iterable, List, Optional, Type
+from typing import Any, Callable, Iterable, List, Optional, Type
 
 sys.dont_write_bytecode = True
 
 import answers
 from answers import Arrival, Balance, Report, State, Vote
-from errors import Closed, Ended, LedgerError, NoAnswer, NoGenesis, Unexpected
+from errors import Closed, Ended, LedgerError, NoAnswer, NoGenesis, Unexpected, ended
 from formats import (
+    OPEN_GATE,
     PROFILES,
     Cursor,
     Head,
@@ -52,6 +53,7 @@ from formats import (
     lock_of,
     locked,
     mined,
+    read_block,
     read_journal_head,
     sha256,
     spelled,
@@ -239,25 +241,28 @@ def identity(text: str) -> bytes:
     return data
 
 
-def answer(ledger: Ledger, words: List[str]) -> Any:
-    """The value that answers a request."""
+def request_of(words: List[str]) -> Callable[[Ledger], Any]:
+    """What a request asks of a ledger."""
     kind, rest = words[0], words[1:]
     if kind == "offer" and len(rest) == 1:
-        return ledger.offer(hexadecimal(rest[0]))
+        data = hexadecimal(rest[0])
+        return lambda ledger: ledger.offer(data)
     if kind == "mine" and rest:
-        return ledger.offer(ledger.mine([identity(each) for each in rest]))
+        parents = [identity(each) for each in rest]
+        return lambda ledger: ledger.offer(ledger.mine(parents))
     if kind == "vote" and len(rest) == 2:
-        return ledger.vote(identity(rest[0]), identity(rest[1]))
+        x, y = map(identity, rest)
+        return lambda ledger: ledger.vote(x, y)
     if kind == "tx" and len(rest) == 1:
-        return ledger.tx(identity(rest[0]))
-    if kind == "balance" and len(rest) == 1:
-        return ledger.balance(identity(rest[0]))
-    if kind == "balance" and len(rest) == 2 and rest[0] == "of":
-        return ledger.balance(lock_of(os.fsencode(rest[1])))
+        tx = identity(rest[0])
+        return lambda ledger: ledger.tx(tx)
+    if kind == "balance" and (len(rest) == 1 or len(rest) == 2 and rest[0] == "of"):
+        lock = identity(rest[0]) if len(rest) == 1 else lock_of(os.fsencode(rest[1]))
+        return lambda ledger: ledger.balance(lock)
     if kind == "pairs" and not rest:
-        return ledger.pairs()
+        return Ledger.pairs
     if kind == "report" and not rest:
-        return ledger.report()
+        return Ledger.report
     raise NoRequest(f"`{' '.join(words)[:80]}` is no request")
 
 
@@ -294,12 +299,28 @@ def serve(ledger: Ledger, words: List[str]) -> int:
     status = 0
     for request in requests(words):
         try:
-            show(answer(ledger, request))
+            show(request_of(request)(ledger))
         except LedgerError as error:
             status = max(status, show_error(error))
             if not ledger.is_open:
                 break
     return status
+
+
+def look(file: Path, fresh: bool) -> None:
+    """Tells before the program is started, which may have to be built first, what it would tell of a file that
+    can't be opened, or that begins as no journal does."""
+    try:
+        with open(file, "rb") as opened:
+            first = opened.read(1)
+    except FileNotFoundError:
+        if not os.path.isdir(os.path.dirname(file) or "."):
+            raise ended(6, said=f"{os.fspath(file)}: there is no such folder") from None
+        return
+    except OSError as why:
+        raise ended(6, said=str(why)) from None
+    if first and first[0] != OPEN_GATE and not fresh:
+        raise ended(7, said=f"{os.fspath(file)} begins as no journal does")
 
 
 def main(words: List[str]) -> int:
@@ -312,11 +333,18 @@ def main(words: List[str]) -> int:
     parser.add_argument("--timeout", type=float, metavar="S", help="how many seconds an answer may take")
     parser.add_argument("request", nargs="*", metavar="REQUEST")
     given = parser.parse_intermixed_args(words)
-    sys.stdin.reconfigure(errors="surrogateescape")  # type: ignore[union-attr]
+    sys.stdin.reconfigure(errors="surrogateescape")  # type: ignore[attr-defined]
     try:
         first = EMPTY if given.genesis == "empty" else given.genesis and hexadecimal(given.genesis)
+        if first:
+            read_block(first)
+        if given.request:
+            request_of(given.request)
+        look(given.file, given.fresh)
         with Ledger(given.file, first, given.bits, given.profile, given.fresh, given.timeout) as ledger:
             return serve(ledger, given.request)
+    except NotThisForm as why:
+        return show_error(NoGenesis(f"no genesis block: {why}"))
     except LedgerError as error:
         return show_error(error)
 

@@ -88,7 +88,11 @@ class Page:
         self.process = subprocess.Popen([browser(), *flags, "about:blank"], stdout=subprocess.DEVNULL, stderr=subprocess.DEVNULL)
         self.number, self.events = 0, []  # type: int, List[Dict[str, Any]]
         self.socket: Optional[Socket] = None
-        port, path = self.address()
+        try:
+            port, path = self.address()
+        except NoBrowser:
+            self.close()
+            raise
         self.socket = Socket(port, path)
         target = self.call("Target.createTarget", url="about:blank")["targetId"]
         self.session = ""
@@ -117,7 +121,7 @@ class Page:
             if found.get("id") == self.number:
                 if "error" in found:
                     raise RuntimeError(f"{method}: {found['error']}")
-                return found["result"]
+                return dict(found["result"])
             self.events.append(found)
 
     def resize(self, width: int, height: int) -> None:
@@ -184,6 +188,8 @@ class Page:
                 self.session = ""
                 self.call("Browser.close")
                 self.socket.close()
+            else:
+                self.process.kill()
         except (OSError, NoBrowser):
             pass
         try:

@@ -13,12 +13,14 @@ behind all arrivals would have more than five million lines, or as many as `--li
 every second arrival, every third, and so on.
 
 With `--data` the data alone are written, as JSON. What the input is, is seen by its first bytes, or said by
-`--kind`. A journal is read under the lock of bin/spectre. The status is 2 where nothing can be shown.
+`--kind`. A journal is read under the lock of bin/spectre. The status is 2 where nothing can be shown; what the
+words and the file's first bytes tell is said before the program is started.
 bin/spectre is asked, or the program that the environment names as SPECTRE. This tool is outside of what is
 proved: see docs/USE.md.
 """
 
 import argparse
+import os
 import pathlib
 import sys
 import tempfile
@@ -31,8 +33,7 @@ sys.path.append(str(pathlib.Path(__file__).resolve().parent.parent / "examples")
 from errors import LedgerError
 from page.data import data_of
 from page.whole import json_of, page_of
-from talk import ready
-from subject import KINDS, subject_of
+from subject import KINDS, Misfit, subject_of
 from watch import MOST_LINES
 
 
@@ -63,8 +64,11 @@ def main(words: List[str]) -> int:
     parser.add_argument("--data", action="store_true", help="write the data alone, as JSON")
     parser.add_argument("--open", action="store_true", help="open the page in the browser")
     given = parser.parse_args(words)
+    if given.lines < 1:
+        parser.error("N is at least 1")
     try:
-        ready()
+        if given.output != "-" and not os.access(pathlib.Path(given.output).absolute().parent, os.W_OK):
+            raise Misfit(f"nothing can be written to {given.output}")
         data = data_of(subject_of(given.input, given.kind), given.lines)
         if given.data:
             write(json_of(data) + "\n", given.output)

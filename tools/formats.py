@@ -7,7 +7,7 @@ it took. Bytes that are none of the form have the one error `NotThisForm`.
 import hashlib
 import itertools
 import struct
-from typing import Iterable, Iterator, NamedTuple, Optional, Sequence
+from typing import Iterable, Iterator, List, NamedTuple, Optional, Sequence, Tuple
 
 # The first eight bytes of a feed and of a journal, for each profile.
 PROFILES = {1: (b"SPCTRF01", b"SPCTRJ01"), 2: (b"SPCTRF02", b"SPCTRJ02")}
@@ -47,8 +47,8 @@ class Tx(NamedTuple):
 
     id: bytes
     text: bytes
-    spent: list
-    coins: list
+    spent: List[Tuple[bytes, int]]
+    coins: List[Coin]
 
 
 class Input(NamedTuple):
@@ -66,8 +66,8 @@ class ReadTx(NamedTuple):
     """A transaction as it was read off a block."""
 
     id: bytes
-    inputs: list
-    outputs: list
+    inputs: List[Input]
+    outputs: List[Output]
 
 
 class ReadBlock(NamedTuple):
@@ -76,8 +76,8 @@ class ReadBlock(NamedTuple):
     id: bytes
     salt: int
     nonce: int
-    parents: list
-    txs: list
+    parents: List[bytes]
+    txs: List[ReadTx]
 
 
 class Head(NamedTuple):
@@ -97,13 +97,13 @@ class Frame(NamedTuple):
 # Making
 
 
-def transaction(spends: Iterable[Coin], pays: Iterable[tuple]) -> Tx:
+def transaction(spends: Iterable[Coin], pays: Iterable[Tuple[int, bytes]]) -> Tx:
     """One that spends these coins and pays each (amount, word)."""
     pays = list(pays)
     return locked(spends, [(amount, sha256(word)) for amount, word in pays], [word for _, word in pays])
 
 
-def locked(spends: Iterable[Coin], outputs: Sequence[tuple], words: Sequence[bytes] = ()) -> Tx:
+def locked(spends: Iterable[Coin], outputs: Sequence[Tuple[int, bytes]], words: Sequence[bytes] = ()) -> Tx:
     """One that spends these coins and has these outputs, each (amount, lock). Where the words that open
     the locks aren't given, neither do the coins have them."""
     spends = sorted(spends)
@@ -129,7 +129,7 @@ def block(salt: int, parents: Iterable[bytes], txs: Iterable[Tx] = (), nonce: in
 
 def meets(block_id: bytes, bits: int) -> bool:
     """Whether the first `bits` bits of an id are zero."""
-    return int.from_bytes(block_id, "big") < 2 ** (256 - bits)
+    return int.from_bytes(block_id, "big") >> (256 - bits) == 0
 
 
 def mined(text: bytes, bits: int, tries: Optional[int] = None) -> Optional[bytes]:

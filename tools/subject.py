@@ -8,7 +8,7 @@ import sys
 import tempfile
 from typing import Dict, List, NamedTuple, Optional, Tuple
 
-from drawing.scenario import GENESIS, lines_of, parents_and_carried, pieces_of
+from drawing.scenario import GENESIS, TEXT, lines_of, parents_and_carried, pieces_of
 from errors import LedgerError, ended
 from formats import (
     Cursor,
@@ -22,7 +22,7 @@ from formats import (
     records_of,
     sha256,
 )
-from talk import Path, hold, program
+from talk import Path, hold, program, ready
 
 KINDS = ("scenario", "feed", "journal")
 # The statuses of inputs that are at fault, of which a page can tell.
@@ -60,7 +60,13 @@ NOTHING = Names({}, {}, {})
 
 def kind_of(data: bytes) -> str:
     """What bytes are, by how they begin. The program judges them."""
-    return "feed" if data.startswith(b"SPCTRF") else "journal" if data[1:7] == b"SPCTRJ" else "scenario"
+    if data.startswith(b"SPCTRF"):
+        return "feed"
+    if data[1:7] == b"SPCTRJ":
+        return "journal"
+    if data and data[0] not in TEXT:
+        raise Misfit(f"the first byte is 0x{data[0]:02x}, with which no scenario, feed or journal begins; `--kind` says for which it is to be taken")
+    return "scenario"
 
 
 def run(words: List[str], data: bytes = b"") -> Tuple[int, bytes]:
@@ -194,13 +200,15 @@ def name_txs(names: Names, block: bytes, carried: List[str]) -> None:
 
 
 def subject_of(path: Path, kind: Optional[str] = None) -> Subject:
-    """What a file, or standard input where it is `-`, holds."""
+    """What a file, or standard input where it is `-`, holds. The program is asked, and built where it has to be,
+    once the file was read."""
     is_input = os.fspath(path) == "-"
     data = sys.stdin.buffer.read() if is_input else pathlib.Path(path).read_bytes()
     kind = kind or kind_of(data)
     name = f"a {kind}" if is_input else os.fsencode(pathlib.Path(path).name).decode("utf-8", "replace")
     if kind == "journal" and is_input:
         raise Misfit("a journal is a file")
+    ready()
     if kind == "journal":
         return of_journal(name, path)
     return (of_feed if kind == "feed" else of_scenario)(name, data)

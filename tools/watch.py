@@ -21,6 +21,7 @@ REPORTED = 4  # as so many lines of pairs counts what a report may have to say o
 MOST_STOPS = 600
 MOST_UNKEPT = 2_000  # arrivals that are listed though nothing was kept
 
+
 class Arrived(NamedTuple):
     """A block that was sent: the program's line, the kept block's number or None, and the numbers of those
     that became present with it."""
@@ -91,7 +92,8 @@ class Watch:
 
     def plan(self) -> Tuple[int, bool]:
         """Behind every how many arrivals a stop stands, and whether only behind those of kept blocks."""
-        sizes, seen, txs, outputs = [], {self.kept[0].block.id}, 0, 0
+        sizes: List[int] = []
+        seen, txs, outputs = {self.kept[0].block.id}, 0, 0
         for data in self.subject.arrivals:
             if len(seen) < 512 and sha256(data) not in seen:
                 seen.add(sha256(data))

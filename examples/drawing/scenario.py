@@ -10,6 +10,8 @@ from typing import NamedTuple
 GENESIS = "G"
 MAKES = ("make", "block")
 SENDS = ("block", "send")
+# The bytes with which a scenario's first line may begin.
+TEXT = (9, 10, 13, *range(32, 127))
 
 
 class Misfit(Exception):
@@ -40,6 +42,12 @@ def lines_of(text):
     """The lines that aren't skipped."""
     numbered = enumerate(map(words_of, pieces_of(text)), start=1)
     return [Line(number, words) for number, words in numbered if words]
+
+
+def check_text(text):
+    """Refuses what begins as no scenario does, and is no text then."""
+    if text and ord(text[0]) not in TEXT:
+        raise Misfit(f"the first byte is 0x{ord(text[0]):02x}, with which no scenario begins")
 
 
 def parents_and_carried(words):
