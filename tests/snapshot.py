@@ -5,7 +5,7 @@
 
 Two callers at a time copy the journals of nodes that get one block after another, with payments, as fast as they
 take them. Each copy is shown: it is a journal, its records are the first ones of the node's, byte for byte, and every
-block whose line the node had written when the copy began is among them. After fifty seconds no more copies are begun,
+block whose line the node had written when the copy began is among them. After forty seconds no more copies are begun,
 and it says how many lack. Where the environment names a program as SPECTRE it takes the place of the one that
 `bin/spectre` builds."""
 
@@ -25,7 +25,7 @@ COPIES = int(sys.argv[1]) if len(sys.argv) > 1 else 1000
 CALLERS = 2
 # A node keeps at most so many blocks, with genesis.
 MOST = 512
-SECONDS = 50
+SECONDS = 40
 
 
 def payments() -> bytes:
@@ -73,11 +73,11 @@ def end_of_records(journal: bytes) -> int:
     return at
 
 
-def copy_while(launcher: pathlib.Path, node: Node, folder: pathlib.Path, name: str, most: int) -> list[tuple[pathlib.Path, int]]:
+def copy_while(launcher: pathlib.Path, node: Node, folder: pathlib.Path, name: str, most: int, until: float) -> list[tuple[pathlib.Path, int]]:
     """At most so many copies as long as the node works: each copy, and how many blocks had been acknowledged when it began."""
     found: list[tuple[pathlib.Path, int]] = []
     node.has_begun.wait(30)
-    while node.is_at_work() and len(found) < most:
+    while node.is_at_work() and len(found) < most and time.monotonic() < until:
         before, copy = node.acknowledged, folder / f"{name}.{len(found)}"
         done = call([launcher, "snapshot", node.journal, copy])
         if done.returncode != DONE:
@@ -113,7 +113,7 @@ def try_copies(folder: pathlib.Path) -> None:
         node = Node(launcher, place / "journal", feed)
         with concurrent.futures.ThreadPoolExecutor(CALLERS) as pool:
             most = (COPIES - made + CALLERS - 1) // CALLERS
-            callers = [pool.submit(copy_while, launcher, node, place, f"copy{number}", most) for number in range(CALLERS)]
+            callers = [pool.submit(copy_while, launcher, node, place, f"copy{number}", most, began + SECONDS) for number in range(CALLERS)]
             copies = [each for caller in callers for each in caller.result()]
         see(f"the node ended: {node.end()}", node.end() == DONE)
         whole = (place / "journal").read_bytes()
