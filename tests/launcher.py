@@ -93,6 +93,7 @@ def try_links(folder: pathlib.Path) -> None:
 FAKE_RT = """#!/bin/sh
 # Builds at once, by a copy.
 case $1 in
+    version) echo 'a kit' ;;
     lib) mkdir -p out/rlib out/incremental ;;
     run) cp "$PROGRAM" out/spectre ;;
 esac
@@ -102,6 +103,8 @@ esac
 def try_builds(folder: pathlib.Path) -> None:
     """A build clears what a killed one left."""
     launcher = make_tree(folder / "tree", built=False)
+    for name in ("prove", "release"):
+        shutil.copy(LAUNCHER.parent / name, launcher.parent / name)
     tools, out = folder / "tools", folder / "tree/crates/spectre/out"
     tools.mkdir()
     (tools / "rt").write_text(FAKE_RT)

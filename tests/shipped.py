@@ -41,7 +41,10 @@ FAKE_RT = """#!/bin/sh
 name=${PWD##*/}
 [ -z "$(ls out/incremental 2>/dev/null)" ] || echo "rt: $name: begins with what a check kept in this folder"
 printf '%s %s\\n' "$name" "$*" >>"$LOG"
-sleep "${NAP:-0}"
+# As rt's own processes do, what it started goes with it.
+sleep "${NAP:-0}" &
+trap 'kill "$!"; exit 143' TERM
+wait "$!"
 if [ "$name" = "$FAULTY" ]; then echo "error: $name is refused"; exit 1; fi
 mkdir -p out/incremental out/rlib
 : >out/incremental/kept
@@ -282,7 +285,7 @@ def try_release(folder: pathlib.Path) -> None:
     tree = folder / "tree"
     fill(tree)
     out = tree / "crates/spectre/out"
-    program, words = out / "spectre", [tree / "bin/release"]
+    program, words = out / "spectre", [str(tree / "bin/release")]
 
     def is_kept_back(name: str, word: bytes) -> None:
         done = call(words, env=env)
@@ -404,7 +407,7 @@ def try_words(folder: pathlib.Path) -> None:
     shutil.copy(tree / "VERSION", prefix / "lib/spectre/VERSION")
     program = hashlib.sha256(pathlib.Path(PROGRAM).read_bytes()).hexdigest()
     for root, origin in ((tree, "shipped"), (prefix, "installed")):
-        words = [root / "bin/spectre"]
+        words = [str(root / "bin/spectre")]
         version = call([*words, "--version"], env=without).stdout.decode()
         see(f"{origin}: {version!r}", version == f"spectre 1.2.3\nkit a kit\nsources {digest_of(tree)}\nprogram {program}\n{origin}\n")
         see(f"{origin}: it plays", is_played(call([*words, "play"], SCENARIO, env=without)))
@@ -419,22 +422,23 @@ def try_words(folder: pathlib.Path) -> None:
         for name in ("plya", "../help/play", "", "*", "-x"):
             done = call([*words, "help", name], env=without)
             see(f"{origin}: help {name}: {done.stderr!r}", done.returncode == 1 and not done.stdout and b"the commands are node play\n" in done.stderr)
-        for more in (["--help", "x"], ["--version", "x"], ["help"], ["help", "play", "x"], ["snapshot", "x"], ["snapshot", "a", "b", "c"], ["-h"]):
-            done = call([*words, *more], env=without)
-            see(f"{origin}: {more}: {done.returncode}", done.returncode == USAGE and b"usage: spectre" in done.stderr)
+        for line in ("--help x", "--version x", "help", "help play x", "snapshot x", "snapshot a b c", "-h"):
+            done = call([*words, *line.split()], env=without)
+            see(f"{origin}: {line}: {done.returncode}", done.returncode == USAGE and b"usage: spectre" in done.stderr)
     see("installed: SPECTRE_PROVE=1", is_refused(call([prefix / "bin/spectre", "play"], SCENARIO, env={**with_rt, "SPECTRE_PROVE": "1"}), b"installed"))
     journal = folder / "journal"
     see("installed: a journal", call([prefix / "bin/spectre", "node", journal], feed_of(SCENARIO), env=without).returncode == DONE)
     with open(journal, "rb") as held:
         fcntl.flock(held, fcntl.LOCK_EX)
-        for command, more, word in (("show", [], b"snapshot"), ("export", ["1"], b"snapshot"), ("node", [], b"in use")):
+        in_use: tuple[tuple[str, list[str], bytes], ...] = (("show", [], b"snapshot"), ("export", ["1"], b"snapshot"), ("node", [], b"in use"))
+        for command, more, word in in_use:
             done = call([prefix / "bin/spectre", command, journal, *more], env=without)
             see(f"installed: {command} in use: {done.stderr!r}", done.returncode == IN_USE and word in done.stderr and done.stderr.count(b"\n") == 1)
         see("a snapshot needs no lock", call([prefix / "bin/spectre", "snapshot", journal, folder / "copy"], env=without).returncode == DONE)
     see("and is the file", (folder / "copy").read_bytes() == journal.read_bytes())
     shutil.rmtree(tree / "release")
-    version = call([launcher, "--version"], env=without).stdout
-    see(f"with no program: {version!r}", version.startswith(b"spectre 1.2.3\nsources ") and b"no program yet" in version)
+    said = call([launcher, "--version"], env=without).stdout
+    see(f"with no program: {said!r}", said.startswith(b"spectre 1.2.3\nsources ") and b"no program yet" in said)
 
 
 def try_snapshots(folder: pathlib.Path) -> None:
