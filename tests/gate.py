@@ -100,11 +100,13 @@ def try_runner(folder: pathlib.Path) -> None:
         (folder / f"tests/{name}.py").write_text(text)
     env = {**os.environ, "SPECTRE": PROGRAM, "PIDS": str(pids), "TMPDIR": str(places)}
     for names, (passed, failed), wanted in RUNS:
-        done = call([sys.executable, runner, "--limit", "2", *names], env=env)
+        limit = ["--limit", "10"] if "hangs" in names else []  # a busy machine may take seconds to begin
+        done = call([sys.executable, runner, *limit, *names], env=env)
         lines = done.stdout.decode().splitlines()
         name = f"tests/run {' '.join(names)}: {done.returncode}, {lines}"
         see(name, lines[-1] == f"{passed} passed, {failed} failed" and done.returncode == (0 if passed and not failed else 1))
-        see(f"{name}: {wanted}", all(any(line.startswith(each) for line in lines) for each in wanted) and any(line.startswith("FAILED ") for line in lines) == (failed > 0))
+        see(f"{name}: {wanted}", all(any(line.startswith(each) for line in lines) for each in wanted))
+        see(f"{name}: what failed is named", any(line.startswith("FAILED ") for line in lines) == (failed > 0))
     see("what a test leaves behind is ended", is_gone(int(pids.read_text())))
     see("no folder stays", list(places.iterdir()) == [])
     faulty: list[tuple[list[str], dict[str, str]]] = [(["nobody"], {}), (["--limit", "soon"], {}), (["right"], {"SPECTRE": "/nothing"})]
@@ -141,7 +143,8 @@ def try_gate(folder: pathlib.Path) -> None:
             more = {"RT": said, "RT_STATUS": str(status), "RELEASE": same, "TESTS": tests, "TESTS_STATUS": str(ended)}
             done = call([*shell, gate], env={**env, **more})
             lines = done.stdout.decode().splitlines()
-            see(f"{shell} .ci/run with {more}: {done.returncode}, {lines}", lines[0] == "rt ci" and ("marked" in lines) >= ("the same program: 5678" in lines) and lines[-1] == last and done.returncode == wanted)
+            is_right = lines[0] == "rt ci" and lines[-1] == last and done.returncode == wanted
+            see(f"{shell} .ci/run with {more}: {done.returncode}, {lines}", is_right and ("marked" in lines) >= ("the same program: 5678" in lines))
             over = f"over {(folder / 'tree').resolve()}/crates/spectre/out/spectre"
             see(f"{shell} .ci/run runs the tests: {lines}", (over in lines) == (last.startswith("1") and status == 0 and said.endswith(" 0 failed")))
         for number in (signal.SIGTERM, signal.SIGINT, signal.SIGHUP):

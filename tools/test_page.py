@@ -38,7 +38,7 @@ from talk import program
 MANY = ("drawn-511", "wide-511", "star-511", "parents-511", "payments-511")
 SCENARIOS = ("double_spend.txt", "overturned.txt", "late.txt", "cycle.txt", "payment.txt")
 QUICK = 2.0  # seconds that a click or a step may take with 511 blocks, on a busy machine
-TRIES = 10  # of steps that take longer, as others may be at work on the machine
+TRIES = 5  # of what takes longer
 LINES = 2_000_000  # of answers that are asked for on 511 blocks
 # The numbers of the blocks that are present.
 THERE = "[...document.querySelectorAll('g.block[data-block]:not(.absent):not(.waits)')].map(each => Number(each.dataset.block))"
@@ -383,6 +383,9 @@ def try_many(page: Shown, name: str, text: bytes, kind: str) -> None:
     took = page.open(name, text, kind)
     print(f"{name}: a page of {os.path.getsize(page.path):,} bytes in {time.monotonic() - begin - took:.1f} s, open after {took:.2f} s", flush=True)
     truth = Truth(run("build", given=text) if kind == "scenario" else text)
+    tries = TRIES
+    while took >= 4 * QUICK and tries:  # others may be at work on the machine
+        took, tries = min(took, page.browser.open(page.path)), tries - 1
     see(f"{name}: opened quickly", took < 4 * QUICK)
     stops = page.data(".stops.map(each => each.arrivals)")
     slowest, tries = 0.0, TRIES
