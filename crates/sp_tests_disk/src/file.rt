@@ -4,6 +4,7 @@ use sp_disk::{Disk, FileDisk};
 use sp_io::Failed;
 use std::fs;
 use std::fs::Files;
+use std::io::ErrorKind;
 use std::test::Fail;
 
 const PATH: &str = "sp_tests_disk.bytes";
@@ -28,6 +29,19 @@ fn read<R: Files>(rt: &R, at: u64) -> (Result<usize, Failed>, [u8; 4]) {
     let mut out = *b"----";
     let answer = FileDisk::new(rt, PATH, false).read_at(at, &mut out);
     (answer, out)
+}
+
+/// Why the length of the file that isn't there can't be had, before and after it is asked for, and whether a
+/// file that is for reading alone may not be written.
+#[test]
+fn reasons(rt: HostRuntime) -> Result<(), Fail> {
+    let mut disk = FileDisk::new(&rt, "sp_tests_disk.none", false);
+    assert!(rt; disk.reason().is_none());
+    assert!(rt; disk.len() == Err(Failed));
+    assert!(rt; disk.reason().map(|error| error.kind()) == Some(ErrorKind::NotFound));
+    assert!(rt; disk.write_at(0, b"a") == Err(Failed));
+    assert!(rt; disk.reason().map(|error| error.kind()) == Some(ErrorKind::PermissionDenied));
+    Ok(())
 }
 
 #[test]

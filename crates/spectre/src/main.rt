@@ -3,6 +3,7 @@
 //! theorem, and `main` hands it the real ends.
 #![tactic(auto)]
 
+mod behind_name;
 mod bringing;
 mod certify;
 mod check;
@@ -13,6 +14,7 @@ mod counts;
 mod doing;
 mod drill;
 mod ending;
+mod escaped;
 mod feeding;
 mod file_name;
 mod files;
@@ -24,6 +26,7 @@ mod keep;
 mod laws;
 mod lines;
 mod made;
+mod message;
 mod no_disk;
 mod outside;
 mod play;
@@ -42,13 +45,17 @@ mod summary;
 mod tests;
 mod watch;
 mod watch_words;
+mod word_fault;
 
 ghost use Rattle.std.specs.Prelude.{◌⊎◌, ◌≡◌, IfErr};
 ghost use Rattle.std.specs.Process.{exit_status};
 ghost use Rattle.spectre.specs.Codes.{code_of};
 
+use behind_name::behind_name;
+use command::run;
 use commands::{USAGE, help_text, rows_in};
-use outside::run_on;
+use message::Message;
+use outside::disk_of;
 use sp_io::{StdSink, StdSource};
 use status::Status;
 use std::process::ExitCode;
@@ -59,15 +66,10 @@ fn words_of_call(rt: &(impl env::Env + AllocGlobal)) -> Result<Vec<String>, Stat
     ensures { IfErr result (λ status. (status ≡ Status.Usage) ⊎ (status ≡ Status.Memory)) }
 {
     match env::args(rt) {
-        Ok(all) => {
-            let mut words = Vec::new(rt.alloc());
-            for word in all.skip(1) {
-                if words.push(word).is_err() {
-                    return Err(Status::Memory);
-                }
-            }
-            Ok(words)
-        }
+        Ok(all) => match behind_name(rt.alloc(), all) {
+            Ok(words) => Ok(words),
+            Err(_) => Err(Status::Memory),
+        },
         Err(error) if error.kind() == io::ErrorKind::OutOfMemory => Err(Status::Memory),
         Err(_) => Err(Status::Usage),
     }
@@ -90,17 +92,58 @@ fn print_usage(rt: &(impl Eprint + AllocGlobal)) {
     }
 }
 
-fn main(rt: HostRuntime) -> ExitCode {
-    let status = match words_of_call(&rt) {
-        Ok(words) => {
-            let mut source = StdSource::new(rt.stdin());
-            let mut sink = StdSink::new(rt.stdout());
-            run_on(rt.alloc(), &rt, &words, &mut source, &mut sink)
-        }
-        Err(status) => status,
-    };
-    if status == Status::Usage {
-        print_usage(&rt);
+/// Says on standard error how a run ended that isn't done; where that fails, nothing.
+fn say(rt: &(impl Eprint + AllocGlobal), message: Message<'_>) {
+    if message.status == Status::Usage {
+        print_usage(rt);
     }
+    if message.status != Status::Done {
+        let _ = eprintln!(rt; "spectre: {message}");
+    }
+}
+
+/// Says that the words of the call can't be had.
+fn say_no_words(rt: &(impl Eprint + AllocGlobal), status: Status) {
+    if status == Status::Usage {
+        print_usage(rt);
+        let _ = eprintln!(rt; "spectre: the words aren't UTF-8; here stands text in UTF-8");
+    } else {
+        say(
+            rt,
+            Message {
+                status,
+                words: &[],
+                reason: None,
+            },
+        );
+    }
+}
+
+fn main(rt: HostRuntime) -> ExitCode {
+    let words = match words_of_call(&rt) {
+        Ok(words) => words,
+        Err(status) => {
+            say_no_words(&rt, status);
+            return exit_of(status);
+        }
+    };
+    let mut source = StdSource::new(rt.stdin());
+    let mut sink = StdSink::new(rt.stdout());
+    let mut disk = disk_of(&rt, &words);
+    let status = run(rt.alloc(), &words, &mut source, &mut sink, &mut disk);
+    let reason = match status {
+        Status::ReadFault => source.reason(),
+        Status::WriteFault => sink.reason(),
+        Status::DiskFault => disk.reason(),
+        _ => None,
+    };
+    say(
+        &rt,
+        Message {
+            status,
+            words: &words,
+            reason,
+        },
+    );
     exit_of(status)
 }

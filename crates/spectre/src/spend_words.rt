@@ -13,11 +13,11 @@ use sp_wallet::Preimages;
 use std::alloc::Global;
 
 /// The largest amount.
-const LARGEST: u64 = (1 << 63) - 1;
+pub const LARGEST: u64 = (1 << 63) - 1;
 
 /// Whether a word may open a lock: it has 1 to 64 bytes and doesn't begin with `-`.
 #[tactic(auto, unfolding(crate::specs::WalletWords::is_word))]
-fn is_word(word: &[u8]) -> bool
+pub fn is_word(word: &[u8]) -> bool
     ensures { result ≡ meant.is_word word.now }
 {
     is_file(word) && word.len() <= 64
@@ -40,7 +40,7 @@ fn stands_in(words: &[String], word: &[u8]) -> bool
 }
 
 /// Whether a word may open a lock, and isn't one of these.
-fn is_new_word(word: &[u8], words: &[String]) -> bool
+pub fn is_new_word(word: &[u8], words: &[String]) -> bool
     ensures { result ≡ meant.is_new_word word.now (texts words.now) }
 {
     is_word(word) && !stands_in(words, word)

@@ -27,6 +27,7 @@ mod large;
 mod lengths;
 mod lines;
 mod made;
+mod messages;
 mod orders;
 mod pages;
 mod paired;

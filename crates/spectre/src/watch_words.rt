@@ -112,7 +112,7 @@ fn stands_in(words: &[String], item: &Item) -> bool
 }
 
 /// Whether a word is an item, and none of these is the same one.
-fn is_new_item(word: &[u8], words: &[String]) -> bool
+pub fn is_new_item(word: &[u8], words: &[String]) -> bool
     ensures { result ≡ meant.is_new (meant.item_in word.now) (texts words.now) }
 {
     match item_of(word) {

@@ -1,7 +1,8 @@
 //! A journal in a file of the folder that the tests run in: it is made by `node` alone, it stays over
 //! runs, it is the file that the words name, and one that may only be read is shown.
 
-use crate::outside::run_on;
+use crate::command::run;
+use crate::outside::disk_of;
 use crate::status::Status;
 use crate::tests::crashes::both;
 use crate::tests::feed_bytes::in_full;
@@ -53,7 +54,8 @@ fn try_row<R: Files + Abort>(rt: &R, alloc: Global, at: usize, (words, fed, stat
     };
     let mut source = source_of(rt, alloc, &trial);
     let mut sink = sink_of(rt, alloc, &WIDE);
-    let ended = run_on(alloc, rt, &words, &mut source, &mut sink);
+    let mut disk = disk_of(rt, &words);
+    let ended = run(alloc, &words, &mut source, &mut sink, &mut disk);
     let output = in_full(alloc, output);
     let is_so = ended == status && sink.bytes() == output.whole(rt);
     assert!(rt; is_so, "{at}: {ended:?}");

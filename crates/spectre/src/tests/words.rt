@@ -6,6 +6,7 @@ use crate::job::{Job, JobFault, read_job};
 use crate::status::Status;
 use crate::tests::text::Text;
 use crate::tests::{Ends, SAMPLE, Trial, WIDE, Wanted, tries, words_of};
+use crate::word_fault::word_fault;
 use sp_model::Profile;
 use std::alloc::Global;
 use std::process::Abort;
@@ -238,7 +239,7 @@ const UNTOUCHED: Wanted = Wanted {
     rest: Some((None, Some(7), *b"block A", false)),
 };
 
-/// Whether the words name no file, and are a command, or none.
+/// Whether the words name no file, and are a command, or none, in which a word is at fault.
 fn are_without_file(rt: &impl Abort, alloc: Global, lines: &[u8], are_command: bool) -> bool {
     let words = words_of(rt, alloc, lines);
     let is_so = match read_job(alloc, &words) {
@@ -246,7 +247,7 @@ fn are_without_file(rt: &impl Abort, alloc: Global, lines: &[u8], are_command: b
         Err(JobFault::Usage) => !are_command,
         Err(JobFault::Memory) => false,
     };
-    is_so && path_of(&words).is_none()
+    is_so && path_of(&words).is_none() && word_fault(&words).is_none() == are_command
 }
 
 /// The words of a row behind these first ones.
@@ -338,7 +339,7 @@ fn files(rt: HostRuntime) {
     for (at, (words, file, done)) in FILES.iter().enumerate() {
         let words = words_of(&rt, rt.alloc(), words);
         let made = matches!(done, Done::Kept | Done::KeptFresh);
-        let is_so = path_of(&words) == Some((*file, made));
+        let is_so = path_of(&words) == Some((*file, made)) && word_fault(&words).is_none();
         assert!(&rt; is_so && asks_for(rt.alloc(), &words, file, *done), "{at}");
     }
 }
