@@ -50,17 +50,23 @@ def reason(number: int) -> str:
     return f"{os.strerror(number)} (os error {number})"
 
 
-def tried(name: str, words: list[str], given: bytes, status: int, said: str, **more: object) -> bytes:
-    """A run, which has to end with this status and to say this; what it wrote."""
-    done = call([PROGRAM, *words], given, **more)
+def flipped(content: bytes, place: int) -> bytes:
+    """The bytes with one bit of the one at a place changed."""
+    changed = bytearray(content)
+    changed[place] ^= 1
+    return bytes(changed)
+
+
+def tried(name: str, words: list[str], given: bytes, status: int, said: str, limit: Callable[[], None] | None = None) -> None:
+    """A run, under a limit where one is set, which has to end with this status and to say this."""
+    done = call([PROGRAM, *words], given, preexec_fn=limit)
     wanted = f"spectre: {said}\n".encode() if status else b""
     see(f"{name}: ended with {done.returncode}", done.returncode == status)
     see(f"{name}: said {done.stderr!r}", done.stderr == wanted)
     # A node that is done changes its file, and so what the next one says.
-    if OTHER and "preexec_fn" not in more and (status or "node" not in words):
-        other = call([OTHER, *words], given, **more)
+    if OTHER and limit is None and (status or "node" not in words):
+        other = call([OTHER, *words], given)
         see(f"{name}: as the other program", (other.returncode, other.stdout) == (done.returncode, done.stdout))
-    return done.stdout
 
 
 def usage_rows() -> list[tuple[list[str], str]]:
@@ -168,7 +174,7 @@ def try_refuted() -> None:
     ids = [line.split()[1].decode() for line in call([PROGRAM, "replay"], feed).stdout.splitlines()]
     certificate = call([PROGRAM, "certify", ids[0], ids[1]], feed).stdout
     for place in range(len(certificate)):
-        changed = certificate[:place] + bytes([certificate[place] ^ 1]) + certificate[place + 1 :]
+        changed = flipped(certificate, place)
         if call([PROGRAM, "check"], changed).returncode == 13:
             tried("a refuted certificate", ["check"], changed, 13, f"the certificate is refuted; {LAST}by what")
             return
@@ -187,8 +193,6 @@ def try_ends(folder: pathlib.Path) -> None:
     """Reads and writes that fail, by each cause that a system has."""
     inputs = [("play", "the scenario"), ("gossip", "the scenario with its script"), ("replay", "the feed"), ("check", "the certificate")]
     for word, named in inputs:
-        with open(folder / "closed", "wb"):
-            pass
         place = os.open(folder, os.O_RDONLY)
         done = subprocess.run([PROGRAM, word], stdin=place, capture_output=True, check=False)
         os.close(place)
@@ -235,7 +239,7 @@ def try_disk(folder: pathlib.Path) -> None:
         tried(f"{words[0]} of a folder", line, feed, 6, f"the disk failed: {place}: not a regular file")
     tried("a name with a line's end", ["show", str(odd)], b"", 6, f"the disk failed: {folder}/a\\nb'c: {reason(errno.ENOENT)}")
     file = folder / "journal"
-    tried("a file that can't grow", ["node", str(file)], feed, 6, f"the disk failed: {file}: {reason(errno.EFBIG)}", preexec_fn=limited(resource.RLIMIT_FSIZE, 8))
+    tried("a file that can't grow", ["node", str(file)], feed, 6, f"the disk failed: {file}: {reason(errno.EFBIG)}", limit=limited(resource.RLIMIT_FSIZE, 8))
     file.unlink()
     try_journals(folder, feed)
     try_leave(folder)
@@ -255,7 +259,7 @@ def try_journals(folder: pathlib.Path, feed: bytes) -> None:
     journal = file.read_bytes()
     found = False
     for place in range(len(journal)):
-        file.write_bytes(journal[:place] + bytes([journal[place] ^ 1]) + journal[place + 1 :])
+        file.write_bytes(flipped(journal, place))
         if call([PROGRAM, "show", str(file)]).returncode == 10:
             found = True
             break

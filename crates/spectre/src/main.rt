@@ -133,9 +133,9 @@ fn main(rt: HostRuntime) -> ExitCode {
     let mut disk = disk_of(&rt, &words);
     let status = run(rt.alloc(), &words, &mut source, &mut sink, &mut disk);
     let reason = match status {
-        Status::ReadFault => source.reason(),
-        Status::WriteFault => sink.reason(),
-        Status::DiskFault => disk.reason(),
+        Status::ReadFault => source.reason().copied(),
+        Status::WriteFault => sink.reason().copied(),
+        Status::DiskFault => disk.reason().copied(),
         _ => None,
     };
     // What bin/spectre names so, which hands on the file itself.

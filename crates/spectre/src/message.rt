@@ -18,17 +18,17 @@ const HELD: &str = "/dev/fd/9";
 pub struct Message<'a> {
     pub status: Status,
     pub words: &'a [String],
-    pub reason: Option<&'a Error>,
+    pub reason: Option<Error>,
     pub held: Option<&'a str>,
 }
 
 /// Why the outside refused a call, behind what it was.
 #[derive(Clone, Copy)]
-struct Because<'a>(Option<&'a Error>);
+struct Because(Option<Error>);
 
-impl<'a> Display for Because<'a> {
+impl Display for Because {
     fn fmt<W: fmt::Write>(&self, f: &mut Formatter<W>) -> fmt::Result {
-        match self.0 {
+        match &self.0 {
             Some(reason) => write!(f, ": {reason}"),
             None => Ok(()),
         }

@@ -62,11 +62,10 @@ const ROWS: &[Row] = &[
 /// Whether this is what is said.
 fn is_said(rt: &impl Abort, alloc: Global, (words, status, said): Row) -> bool {
     let words = words_of(rt, alloc, words);
-    let reason = Error::from(ErrorKind::PermissionDenied);
     let message = Message {
         status,
         words: &words,
-        reason: Some(&reason),
+        reason: Some(Error::from(ErrorKind::PermissionDenied)),
         held: Some("my\nown"),
     };
     match format!(in alloc; "{message}") {
