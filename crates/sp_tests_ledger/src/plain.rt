@@ -81,6 +81,14 @@ fn is_bar(row: &Row, past: &Row, n: u16) -> bool {
     past.within(row) && row.count() == past.count().saturating_add(1) && row.highest() == Some(n)
 }
 
+/// Whether the view of a block that is made anew is that of the block and its past.
+fn is_made_anew(engine: &Engine, n: u16) -> Result<bool, Fail>
+    requires { n < length engine.now.numbered.parents }
+{
+    let (view, _rows) = engine.block_view(n)?;
+    Ok(is_bar(view.members(), engine.dag().past(n), n))
+}
+
 /// Whether so many blocks are present, and the views that the engine keeps are those of all of them,
 /// and of each that is no parent with its past.
 pub fn views_are_right(engine: &Engine, count: usize) -> Result<bool, Fail> {
@@ -90,7 +98,7 @@ pub fn views_are_right(engine: &Engine, count: usize) -> Result<bool, Fail> {
             Some(view) => dag.future(n).count() == 0 && is_bar(view.members(), dag.past(n), n),
             None => dag.future(n).count() > 0,
         };
-        if !right {
+        if !(right && is_made_anew(engine, n)?) {
             return Ok(false);
         }
     }
