@@ -1,16 +1,13 @@
 -- Blocks with their pasts as rows: they stay where blocks are added, a block is the highest of its row, and a new block covers its parents.
-use Rattle.std.proofs.Common.{◌≡◌, ℕ, zero, suc, ◌+◌, ◌-◌, ◌≤◌, ◌<◌, Bool, true, false, cond, ◌||◌, ◌&&◌, List, [], ◌∷◌, ◌++◌, length, map, take, get_or, refl, sym, ap, subst, ◌∙◌, eqb, inl, inr, arith}
-use Rattle.std.specs.Prelude.{filter, not}
+use Rattle.std.proofs.Common.{◌≡◌, ℕ, zero, suc, ◌+◌, ◌-◌, ◌≤◌, ◌<◌, Bool, true, false, ◌||◌, List, [], ◌∷◌, ◌++◌, length, map, take, get_or, refl, sym, ap, subst, ◌∙◌, eqb, inl, inr, arith}
+use Rattle.std.specs.Prelude.{not}
 use Rattle.std.specs.List.{list_all, list_any, range_with_len}
 use Rattle.std.proofs.lemmas.Bool.{and_from, and_parts, cases_Bool, cases_lt, eq-eqb, eqb-true, false≢true, false_from_ne_true, or_cases, or_left, or_right}
-use Rattle.std.proofs.lemmas.List.{take_all}
-use Rattle.std.proofs.lemmas.List.Elements.{filter-append}
 use Rattle.sp_bits.specs.Places.{IsGreatest}
-use Rattle.sp_bits.proofs.RowSets.{filter-filter, has_places}
+use Rattle.sp_bits.proofs.RowSets.{has_places}
 use Rattle.sp_bits.proofs.Sets.{places_same}
 use Rattle.sp_dag.specs.Numbered.{with_next, Numbered, graph_of, AreInOrder}
 use Rattle.sp_dag.proofs.Ranked.{past_old, ancestors_lower, complete_numbered, parents_numbered, past_members}
-use Rattle.sp_dag.proofs.NewPairs.{range_more}
 use Rattle.sp_model.specs.Graph.{has, in_past, past, parents_of}
 use Rattle.sp_model.specs.Loose.{in_bar}
 use Rattle.sp_model.proofs.Pasts.{in_past_step, parent_in_past, past_trans}

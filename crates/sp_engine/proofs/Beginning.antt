@@ -1,5 +1,5 @@
 -- The votes of no blocks, and those of genesis alone.
-use Rattle.std.proofs.Common.{◌≡◌, ℕ, ◌≤◌, length, map, take, ap, ◌∙◌, sym, subst, arith, Option, List, [], ◌∷◌, ◌++◌, ◌+◌, refl, inl, inr, length-append}
+use Rattle.std.proofs.Common.{◌≡◌, ℕ, ◌≤◌, length, map, ap, ◌∙◌, sym, subst, arith, Option, List, [], ◌∷◌, ◌++◌, ◌+◌, refl, inl, inr, length-append}
 use Rattle.std.specs.List.{range_with_len}
 use Rattle.std.specs.Prelude.{ℤ}
 use Rattle.std.proofs.lemmas.Bool.{false≢true}

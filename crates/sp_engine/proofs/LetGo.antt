@@ -6,7 +6,7 @@ use Rattle.sp_bits.specs.Places.{IsGreatest}
 use Rattle.sp_dag.specs.Numbered.{AreInOrder, Numbered}
 use Rattle.sp_rows.specs.Pool.{Pool}
 use Rattle.sp_view.specs.Views.{Viewed}
-use Rattle.sp_engine.specs.Votes.{AreLeft, bar_row, entries_of, IsLater, tips_from, WereBeside}
+use Rattle.sp_engine.specs.Votes.{AreLeft, bar_row, entries_of, tips_from, WereBeside}
 use Rattle.sp_engine.proofs.Bars.{one_top, top_of_bar}
 use Rattle.sp_engine.proofs.StillTips.{tips_next}
 

@@ -1,13 +1,7 @@
 -- The votes stay where a block is added to the graph, before its own votes join.
-use Rattle.std.proofs.Common.{◌≡◌, ◌≤◌, ◌<◌, ◌+◌, ℕ, zero, suc, List, [], ◌∷◌, ◌++◌, length, map, take, Option, Some, refl, sym, ap, subst, ◌∙◌, arith}
-use Rattle.std.specs.Prelude.{slice_get}
-use Rattle.sp_dag.specs.Numbered.{AreInOrder, graph_of, IsNumbered, Numbered, with_next}
-use Rattle.sp_frozen.proofs.Growth.{frozen_stays}
-use Rattle.sp_model.specs.Graph.{past}
-use Rattle.sp_view.specs.Views.{IsBest, Viewed}
+use Rattle.std.proofs.Common.{◌≡◌, ◌≤◌, ◌+◌, ℕ, zero, suc, List, [], ◌∷◌, ◌++◌, length, map, take, refl, sym, ap, subst, ◌∙◌, arith}
+use Rattle.sp_dag.specs.Numbered.{AreInOrder, Numbered, with_next}
 use Rattle.sp_engine.specs.Votes.{AreOfTips, bar_row, Grew, Tallied, tips_from}
-use Rattle.sp_engine.proofs.Beside.{shared_stays}
-use Rattle.sp_engine.proofs.Sharing.{views_stay}
 use Rattle.sp_engine.proofs.Bars.{bars_stay}
 
 pub take_more : {X : Type 0} (xs ys : List X) (n : ℕ) → n ≤ length xs → take n (xs ++ ys) ≡ take n xs

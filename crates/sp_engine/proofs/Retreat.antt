@@ -1,5 +1,5 @@
 -- What the view of all blocks was is saved while blocks join, and the blocks that joined are taken back.
-use Rattle.std.proofs.Common.{◌≡◌, ℕ, ◌+◌, ◌<◌, ◌≤◌, ◌-◌, ◌&&◌, true, List, Option, Some, None, [], ◌∷◌, ◌++◌, length, map, get_or, inl, inr, refl, sym, ap, subst, ◌∙◌, arith, length-append}
+use Rattle.std.proofs.Common.{◌≡◌, ℕ, ◌+◌, ◌<◌, ◌≤◌, ◌-◌, ◌&&◌, true, List, Option, Some, None, [], ◌∷◌, ◌++◌, length, map, get_or, inl, refl, sym, ap, subst, ◌∙◌, arith, length-append}
 use Rattle.std.proofs.lemmas.List.{append_assoc}
 use Rattle.std.specs.Prelude.{filter, IsSome, slice_get}
 use Rattle.std.proofs.lemmas.Bool.{and_from, false≢true}

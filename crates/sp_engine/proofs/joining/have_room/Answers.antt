@@ -1,8 +1,8 @@
-use Rattle.std.proofs.Common.{◌≡◌, ◌<◌, ◌≤◌, ◌∙◌, ◌+◌, ◌*◌, ℕ, ap, sym, arith, length, get_or, List, take}
+use Rattle.std.proofs.Common.{◌≡◌, ◌<◌, ◌≤◌, ◌∙◌, ◌+◌, ◌*◌, ap, sym, arith, length, get_or, List, take}
 use Rattle.std.proofs.lemmas.Bool.{false≢true}
 use Rattle.sp_view.specs.Views.{Viewed}
 use Rattle.sp_engine.specs.Votes.{entries_of}
-use Rattle.sp_engine.proofs.LetGo.{entries_all, entries_front, entries_next}
+use Rattle.sp_engine.proofs.LetGo.{entries_front, entries_next}
 use Rattle.sp_engine.proofs.joining.have_room.Goals as goal
 
 pub views-preserved : goal.views-preserved

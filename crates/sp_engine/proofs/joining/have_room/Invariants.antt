@@ -1,4 +1,4 @@
-use Rattle.std.proofs.Common.{◌≡◌, ◌+◌, ◌*◌, ℕ, take}
+use Rattle.std.proofs.Common.{◌≡◌, ◌+◌, ◌*◌, take}
 use Rattle.sp_engine.specs.Votes.{entries_of}
 use Rattle.sp_engine.proofs.joining.have_room.Given as goal
 

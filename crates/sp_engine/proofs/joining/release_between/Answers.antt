@@ -1,7 +1,7 @@
-use Rattle.std.proofs.Common.{◌≡◌, ◌<◌, ◌∙◌, ◌+◌, ℕ, ap, sym, arith, length, get_or}
+use Rattle.std.proofs.Common.{◌≡◌, ◌<◌, ◌∙◌, ℕ, ap, sym, arith, length, get_or}
 use Rattle.sp_view.specs.Views.{Viewed, held}
 use Rattle.sp_engine.proofs.Covered.{held_without, views_without}
-use Rattle.sp_engine.proofs.Replacing.{none_left, one_less}
+use Rattle.sp_engine.proofs.Replacing.{one_less}
 use Rattle.sp_engine.proofs.joining.release_between.Goals as goal
 
 pub release-requires : goal.release-requires

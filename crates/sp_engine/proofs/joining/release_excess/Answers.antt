@@ -1,6 +1,5 @@
-use Rattle.std.proofs.Common.{◌≡◌, ◌<◌, ◌∙◌, ◌+◌, ◌*◌, ◌∷◌, ℕ, ap, refl, sym, subst, arith, length, get_or, List}
+use Rattle.std.proofs.Common.{◌≡◌, ◌<◌, ◌∙◌, ◌+◌, ◌*◌, ℕ, ap, refl, sym, subst, arith, length, get_or, List}
 use Rattle.sp_bits.specs.Places.{IsGreatest}
-use Rattle.sp_rows.specs.Pool.{Pool}
 use Rattle.sp_view.specs.Stored.{live}
 use Rattle.sp_view.specs.Views.{Viewed, held}
 use Rattle.sp_engine.specs.Votes.{bytes_of, entries_of, most_bytes, WereBeside}

@@ -1,6 +1,6 @@
-use Rattle.std.proofs.Common.{◌≡◌, ◌⊎◌, ◌+◌, ◌<◌, ◌≤◌, [], ℕ, length, refl, sym, subst, arith, inl, inr, length-append, ap, ◌++◌, ◌∷◌}
+use Rattle.std.proofs.Common.{◌≡◌, ◌+◌, [], length, refl, sym, subst, arith, inl, inr}
 use Rattle.std.proofs.lemmas.Bool.{cases_lt}
-use Rattle.sp_engine.specs.Votes.{AreLeft, HaveJoined, Tallied}
+use Rattle.sp_engine.specs.Votes.{HaveJoined, Tallied}
 use Rattle.sp_engine.proofs.Grown.{grew}
 use Rattle.sp_engine.proofs.Settled.{all_first, goes, held_left, left, left_is, lets, settled, since_is, starts, Starts, tips_within}
 use Rattle.sp_engine.proofs.votes.Votes.settle.Goals as goal

@@ -1,10 +1,10 @@
 use Rattle.std.proofs.Common.{◌≡◌, ◌∙◌, ◌<◌, ◌+◌, ℕ, Bool, List, ap, sym, arith, subst, true, false, inl, inr, length, Some}
 use Rattle.std.specs.Prelude.{slice_get}
-use Rattle.std.proofs.lemmas.Bool.{cases_lt, false≢true, false_from_ne_true}
+use Rattle.std.proofs.lemmas.Bool.{cases_lt, false≢true}
 use Rattle.std.proofs.lemmas.Option.{get_or_from_slice_get, slice_get-get_or}
 use Rattle.sp_bits.specs.Places.{IsGreatest}
 use Rattle.sp_view.specs.Views.{Viewed}
-use Rattle.sp_engine.specs.Votes.{is_tip, Tallied}
+use Rattle.sp_engine.specs.Votes.{Tallied}
 use Rattle.sp_engine.proofs.Voted.{has_view, is_of_tip, is_view}
 use Rattle.sp_engine.proofs.votes.Votes.tip.Goals as goal
 
