@@ -23,14 +23,20 @@ from harness import DONE, PROGRAM, call, feed_of, make_tree, run_all, see
 
 COPIES = int(sys.argv[1]) if len(sys.argv) > 1 else 1000
 CALLERS = 2
-# A node keeps at most so many blocks, with genesis.
-MOST = 512
+# So many blocks come to each node, each with so many payments: a journal is longer than what is read at once.
+BLOCKS, PAYMENTS = 150, 4
 SECONDS = 40
 
 
 def payments() -> bytes:
-    """A scenario of as many blocks as a node keeps, each on the one before, with coins that go from hand to hand."""
-    return call([PROGRAM, "make", str(MOST - 1), "7", "3"]).stdout
+    """A scenario of blocks, each on the one before, in which coins go from hand to hand."""
+    lines = [f"grant c{coin}-0 100 to w{coin}" for coin in range(PAYMENTS)]
+    last = "G"
+    for block in range(1, BLOCKS + 1):
+        lines += [f"tx c{coin}-{block} spends c{coin}-{block - 1}.0 pays 100 to w{coin}-{block}" for coin in range(PAYMENTS)]
+        lines.append(f"block b{block} on {last} carries " + " ".join(f"c{coin}-{block}" for coin in range(PAYMENTS)))
+        last = f"b{block}"
+    return "\n".join(lines).encode() + b"\n"
 
 
 class Node:
