@@ -74,8 +74,10 @@ def bare(home: pathlib.Path | None, path: str = "/usr/bin:/bin") -> dict[str, st
     return {"PATH": path, **({} if home is None else {"HOME": str(home)})}
 
 
-def install(tree: pathlib.Path, *words: str, shell: str = "/bin/sh", home: pathlib.Path | None = None, **more: Any) -> Done:
-    return call([*by_shell(shell), tree / "bin/install", *words], env=bare(home), **more)
+def install(tree: pathlib.Path, *words: str, shell: str = "/bin/sh", home: pathlib.Path | None = None, place: pathlib.Path | None = None, **more: Any) -> Done:
+    """A call of bin/install, with a place for its temporary files where one is named."""
+    env = bare(home) if place is None else {**bare(home), "TMPDIR": str(place)}
+    return call([*by_shell(shell), tree / "bin/install", *words], env=env, **more)
 
 
 def files_in(folder: pathlib.Path) -> list[str]:
@@ -260,24 +262,26 @@ def as_nobody() -> None:
 def try_closed(folder: pathlib.Path) -> None:
     """Folders that can't be written: nothing is half done."""
     folder.chmod(0o755)
-    tree, prefix = make_sources(folder / "tree"), folder / "prefix"
+    tree, prefix, place = make_sources(folder / "tree"), folder / "prefix", folder / "tmp"
+    place.mkdir()
+    place.chmod(0o777)
     prefix.mkdir(mode=0o555)
     before = sorted(prefix.rglob("*"))
     readable = call(["cat", tree / "crates.txt"], preexec_fn=as_nobody).returncode == DONE
     if not readable:
         print("not run: folders that can't be written, since another user can't read the test's folder")
         return
-    done = install(tree, "--prefix", str(prefix), preexec_fn=as_nobody)
+    done = install(tree, "--prefix", str(prefix), place=place, preexec_fn=as_nobody)
     see(f"a closed folder: {done.stderr!r}", done.returncode == HINDERED and os.fsencode(prefix) in done.stderr and sorted(prefix.rglob("*")) == before)
     prefix.chmod(0o777)
     (prefix / "share").mkdir()
     (prefix / "share").chmod(0o555)
-    done = install(tree, "--prefix", str(prefix), preexec_fn=as_nobody)
+    done = install(tree, "--prefix", str(prefix), place=place, preexec_fn=as_nobody)
     see(f"a closed folder in it: {done.stderr!r}", done.returncode == HINDERED and files_in(prefix) == [] and os.listdir(prefix) == ["share"])
     (prefix / "share").chmod(0o777)
-    see("an open one", install(tree, "--prefix", str(prefix), preexec_fn=as_nobody).returncode == DONE)
+    see("an open one", install(tree, "--prefix", str(prefix), place=place, preexec_fn=as_nobody).returncode == DONE)
     (prefix / "lib/spectre").chmod(0o555)
-    done = install(tree, "--remove", "--prefix", str(prefix), preexec_fn=as_nobody)
+    done = install(tree, "--remove", "--prefix", str(prefix), place=place, preexec_fn=as_nobody)
     see(f"closed at the removal: {done.stderr!r}", done.returncode == HINDERED and is_whole(prefix))
     (prefix / "lib/spectre").chmod(0o755)
     if os.path.isdir("/proc"):
