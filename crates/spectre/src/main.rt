@@ -114,7 +114,6 @@ fn say_no_words(rt: &(impl Eprint + AllocGlobal), status: Status) {
                 status,
                 words: &[],
                 reason: None,
-                held: None,
             },
         );
     }
@@ -138,19 +137,12 @@ fn main(rt: HostRuntime) -> ExitCode {
         Status::DiskFault => disk.reason().copied(),
         _ => None,
     };
-    // What bin/spectre names so, which hands on the file itself.
-    let name = env::var(&rt, "SPECTRE_FILE");
-    let held = match &name {
-        Ok(name) => Some(name.as_str()),
-        Err(_) => None,
-    };
     say(
         &rt,
         Message {
             status,
             words: &words,
             reason,
-            held,
         },
     );
     exit_of(status)

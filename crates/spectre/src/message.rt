@@ -9,17 +9,12 @@ use std::fmt;
 use std::fmt::{Display, Formatter};
 use std::io::Error;
 
-/// How the launcher names the file that it holds for the program.
-const HELD: &str = "/dev/fd/9";
-
-/// How a run ended, by its status, its words, why the outside refused a call, where one was refused, and the
-/// name of the file that the launcher holds, where it holds one.
+/// How a run ended, by its status, its words, and why the outside refused a call, where one was refused.
 #[derive(Clone, Copy)]
 pub struct Message<'a> {
     pub status: Status,
     pub words: &'a [String],
     pub reason: Option<Error>,
-    pub held: Option<&'a str>,
 }
 
 /// Why the outside refused a call, behind what it was.
@@ -70,14 +65,11 @@ impl<'a> Message<'a> {
         }
     }
 
-    /// The file that the words name, by the name that the user gave it.
+    /// The file that the words name.
     fn path(&self) -> Escaped<'a> {
-        let Some((path, _)) = path_of(self.words) else {
-            return Escaped("");
-        };
-        match self.held {
-            Some(name) if path == HELD => Escaped(name),
-            _ => Escaped(path),
+        match path_of(self.words) {
+            Some((path, _)) => Escaped(path),
+            None => Escaped(""),
         }
     }
 
