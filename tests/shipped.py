@@ -76,6 +76,8 @@ def make_tools(folder: pathlib.Path, with_rt: bool) -> Environment:
 def fill(folder: pathlib.Path) -> pathlib.Path:
     """A small repository with several crates, and the scripts beside the launcher; its launcher."""
     launcher = make_tree(folder, built=False)
+    for name in ("share", "VERSION"):  # links to the repository's own; here they are written
+        (folder / name).unlink(missing_ok=True)
     (folder / "crates.txt").write_text(CRATES)
     (folder / "HANDLES").write_text("Handles allowed: none.\n")
     (folder / "VERSION").write_text("1.2.3\n")
