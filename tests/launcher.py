@@ -5,9 +5,10 @@
 
 Words that aren't UTF-8 end with 1 and make no file; a repository whose own path isn't UTF-8, or has a blank or a
 colon in it, works. The journal that is used is the one that is locked, also where a link of its name leads
-elsewhere by then. A build clears the copies that a killed one left. A launcher that was copied out of its
-repository says so and makes no folder. All of this by each shell that is here. Where the environment names a
-program as SPECTRE it takes the place of the one that `bin/spectre` builds."""
+elsewhere by then, and what the program says of it has the name that was given. A build clears the copies that a
+killed one left. A launcher that was copied out of its repository says so and makes no folder. All of this by each
+shell that is here. Where the environment names a program as SPECTRE it takes the place of the one that `bin/spectre`
+builds."""
 
 from __future__ import annotations
 
@@ -23,6 +24,7 @@ SCENARIO = b"block A on G\nblock B on A\n"
 SHELLS = [shell for name in ("sh", "dash", "bash", "busybox") if (shell := shutil.which(name))]
 # What the launcher doesn't do where it can't start the program.
 NOT_STARTED = 125
+NOT_JOURNAL = 7
 
 
 def by_shell(shell: str) -> list[str]:
@@ -90,6 +92,25 @@ def try_links(folder: pathlib.Path) -> None:
             see(f"{shell} {words[0]}: {done.returncode}", done.returncode == DONE and is_used and not other.exists())
 
 
+def try_messages(folder: pathlib.Path) -> None:
+    """What the program says of a file has the name that was given, though it is handed the file itself."""
+    launcher = make_tree(folder / "tree")
+    for name in ("other", "a blank", "line\nend", "--", "ä"):
+        file = folder / name
+        file.write_bytes(b"other bytes")
+        said = f"{folder}/{name}".replace("\n", "\\n")
+        for shell in SHELLS:
+            for words, more in ((["show", str(file)], ""), (["export", str(file), "1"], ""), (["node", str(file)], "; node --fresh makes one over its bytes")):
+                done = call([*by_shell(shell), launcher, *words], feed_of(SCENARIO))
+                see(f"{shell} {words}: {done.stderr!r}", done.returncode == NOT_JOURNAL and done.stderr.decode() == f"spectre: {said} holds no journal{more}\n")
+    # Where the name isn't text, the file is named as it is handed on.
+    file = folder / "file"
+    file.write_bytes(b"other bytes")
+    odd = {**os.environb, b"SPECTRE_FILE": b"\xff"}
+    done = call(["sh", "-c", 'exec "$1" show /dev/fd/9 9<"$2"', "sh", PROGRAM, str(file)], env=odd)
+    see(f"a name that isn't text: {done.stderr!r}", done.returncode == NOT_JOURNAL and done.stderr == b"spectre: /dev/fd/9 holds no journal\n")
+
+
 FAKE_RT = """#!/bin/sh
 # Builds at once, by a copy.
 case $1 in
@@ -136,7 +157,7 @@ def try_copies(folder: pathlib.Path) -> None:
 
 def main() -> int:
     with tempfile.TemporaryDirectory() as folder:
-        return run_all([try_words, try_places, try_links, try_builds, try_copies], pathlib.Path(folder))
+        return run_all([try_words, try_places, try_links, try_messages, try_builds, try_copies], pathlib.Path(folder))
 
 
 if __name__ == "__main__":

@@ -102,20 +102,46 @@ fn say(rt: &(impl Eprint + AllocGlobal), message: Message<'_>) {
     }
 }
 
+/// The name of the file that bin/spectre holds and hands on itself, where how the run ended is of its file. It is
+/// asked for then alone, since it takes memory.
+fn held_name(rt: &(impl env::Env + AllocGlobal), status: Status) -> Option<String> {
+    match status {
+        Status::DiskFault | Status::NotJournal | Status::OtherChain | Status::Damaged => {
+            match env::var(rt, "SPECTRE_FILE") {
+                Ok(name) => Some(name),
+                Err(_) => None,
+            }
+        }
+        _ => None,
+    }
+}
+
+/// What there is to say of a run.
+fn message_of<'a>(
+    status: Status,
+    words: &'a [String],
+    reason: Option<io::Error>,
+    held: &'a Option<String>,
+) -> Message<'a> {
+    let held = match held {
+        Some(name) => Some(name.as_str()),
+        None => None,
+    };
+    Message {
+        status,
+        words,
+        reason,
+        held,
+    }
+}
+
 /// Says that the words of the call can't be had.
 fn say_no_words(rt: &(impl Eprint + AllocGlobal), status: Status) {
     if status == Status::Usage {
         print_usage(rt);
         let _ = eprintln!(rt; "spectre: the words aren't UTF-8; here stands text in UTF-8");
     } else {
-        say(
-            rt,
-            Message {
-                status,
-                words: &[],
-                reason: None,
-            },
-        );
+        say(rt, message_of(status, &[], None, &None));
     }
 }
 
@@ -137,13 +163,7 @@ fn main(rt: HostRuntime) -> ExitCode {
         Status::DiskFault => disk.reason().copied(),
         _ => None,
     };
-    say(
-        &rt,
-        Message {
-            status,
-            words: &words,
-            reason,
-        },
-    );
+    let held = held_name(&rt, status);
+    say(&rt, message_of(status, &words, reason, &held));
     exit_of(status)
 }

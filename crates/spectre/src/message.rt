@@ -9,12 +9,17 @@ use std::fmt;
 use std::fmt::{Display, Formatter};
 use std::io::Error;
 
-/// How a run ended, by its status, its words, and why the outside refused a call, where one was refused.
+/// How the launcher names the file that it holds for the program.
+const HELD: &str = "/dev/fd/9";
+
+/// How a run ended, by its status, its words, why the outside refused a call, where one was refused, and the
+/// name of the file that the launcher holds, where it holds one.
 #[derive(Clone, Copy)]
 pub struct Message<'a> {
     pub status: Status,
     pub words: &'a [String],
     pub reason: Option<Error>,
+    pub held: Option<&'a str>,
 }
 
 /// Why the outside refused a call, behind what it was.
@@ -65,11 +70,14 @@ impl<'a> Message<'a> {
         }
     }
 
-    /// The file that the words name.
+    /// The file that the words name, by the name that the user gave it.
     fn path(&self) -> Escaped<'a> {
-        match path_of(self.words) {
-            Some((path, _)) => Escaped(path),
-            None => Escaped(""),
+        let Some((path, _)) = path_of(self.words) else {
+            return Escaped("");
+        };
+        match self.held {
+            Some(name) if path == HELD => Escaped(name),
+            _ => Escaped(path),
         }
     }
 

@@ -48,6 +48,11 @@ const ROWS: &[Row] = &[
         "the journal f is damaged; the last line on standard output says where",
     ),
     (
+        b"show\n/dev/fd/9",
+        Status::NotJournal,
+        "my\\nown holds no journal",
+    ),
+    (
         b"spend\n7\nto\nb\nfrom\na",
         Status::Poor,
         "what may be spent doesn't reach 7; the last line on standard output says what it comes to",
@@ -61,6 +66,7 @@ fn is_said(rt: &impl Abort, alloc: Global, (words, status, said): Row) -> bool {
         status,
         words: &words,
         reason: Some(Error::from(ErrorKind::PermissionDenied)),
+        held: Some("my\nown"),
     };
     match format!(in alloc; "{message}") {
         Ok(text) => text.as_str() == said,
