@@ -357,7 +357,7 @@ def try_prove(folder: pathlib.Path) -> None:
         return not [name for name in os.listdir(out) if name.startswith("spectre.copies") or name.startswith("spectre.began.")]
 
     done = call(words, env=env)
-    see(f"with no release: {done.returncode} {done.stdout!r}", done.returncode == 0 and b"no release/ to compare" in done.stdout)
+    see(f"with no release: {done.returncode} {done.stderr!r}", done.returncode == 1 and b"there is no release/" in done.stderr.splitlines()[-1])
     lines = [line for line in done.stderr.decode().splitlines() if line.startswith("prove: ")]
     see(f"a line for each crate: {lines}", [line.split()[1] for line in lines] == ["low", "high", "spectre"])
     see("with how far it is", "2 of 3 crates" in lines[1] and "% of the lines" in lines[1] and "gone" in lines[1] and "left" in lines[1])
