@@ -14,9 +14,9 @@ import pathlib
 import sys
 
 sys.dont_write_bytecode = True
-sys.path.append(str(pathlib.Path(__file__).resolve().parent.parent / "tools"))  # for the bytes of blocks
 
-from formats import Cursor, NotThisForm, frame, head, read_block, sha256, spelled, transaction
+import package  # noqa: F401
+from zorimarl.feeds import Cursor, NotThisForm, frame, head, read_block, sha256, spelled, transaction
 
 GRANT = transaction([], [(100, b"alice")])
 PAYMENT = transaction(GRANT.coins, [(100, b"bob")])

@@ -25,10 +25,11 @@ import sys
 
 sys.dont_write_bytecode = True
 
+import package  # noqa: F401
 from drawing.answers import play
 from drawing.graph import graph_of
-from drawing.scenario import Misfit, check_text, lines_of, with_questions
 from drawing.svg import drawing
+from zorimarl.explore.scenario import Misfit, check_text, lines_of, with_questions
 
 PROGRAM = pathlib.Path(__file__).resolve().parent.parent / "bin" / "spectre"
 

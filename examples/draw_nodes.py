@@ -18,10 +18,11 @@ import sys
 
 sys.dont_write_bytecode = True
 
+import package  # noqa: F401
 from drawing.answers import ARRIVAL, COUNT, Answers, answers_to
 from drawing.graph import Block, Graph
-from drawing.scenario import GENESIS, MAKES, Line, Misfit, check_text, lines_of, parents_and_carried
 from drawing.svg import drawing, element
+from zorimarl.explore.scenario import GENESIS, MAKES, Line, Misfit, check_text, lines_of, parents_and_carried
 
 PROGRAM = pathlib.Path(__file__).resolve().parent.parent / "bin" / "spectre"
 GAP = 18

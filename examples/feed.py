@@ -8,13 +8,12 @@ docs/FORMATS.md. examples/README.md has the lines that each feed is answered wit
 """
 
 import itertools
-import pathlib
 import sys
 
 sys.dont_write_bytecode = True
-sys.path.append(str(pathlib.Path(__file__).resolve().parent.parent / "tools"))  # for the bytes of blocks
 
-from formats import Coin, frame, head, lock_of, meets, sha256, spelled, transaction
+import package  # noqa: F401
+from zorimarl.feeds import Coin, frame, head, lock_of, meets, sha256, spelled, transaction
 
 BITS = 8  # the first bits of an id that have to be zero
 

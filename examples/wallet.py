@@ -12,9 +12,9 @@ import pathlib
 import sys
 
 sys.dont_write_bytecode = True
-sys.path.append(str(pathlib.Path(__file__).resolve().parent.parent / "tools"))  # for the bytes of blocks
 
-from formats import frame, head, lock_of, sha256, spelled, transaction
+import package  # noqa: F401
+from zorimarl.feeds import frame, head, lock_of, sha256, spelled, transaction
 
 GRANT = transaction([], [(100, b"alice")])
 G = spelled(0, 0, [], [GRANT.text])

@@ -33,17 +33,18 @@ class Tool:
 
     def __init__(self, folder: pathlib.Path, script: str) -> None:
         self.script, self.notes, self.folder = script, folder / "notes", folder
+        self.command = script.split(" ") if script.startswith("-m ") else [str(ROOT / script)]
         program = folder / "program"
         program.write_text(NOTING)
         program.chmod(0o755)
-        self.env = {**os.environ, "SPECTRE": str(program), "NOTES": str(self.notes), "PYTHONDONTWRITEBYTECODE": "1"}
+        self.env = {**os.environ, "SPECTRE": str(program), "NOTES": str(self.notes), "PYTHONDONTWRITEBYTECODE": "1", "PYTHONPATH": str(ROOT / "python/src")}
         for name, content in (("scenario", SCENARIO), ("script", SCRIPT), ("odd", ODD), ("empty", b"")):
             (folder / name).write_bytes(content)
 
     def run(self, words: list[str], given: bytes = b"") -> tuple[int, bytes, bytes, bool]:
         """The status, what was written to both outputs, and whether the program was started."""
         self.notes.unlink(missing_ok=True)
-        done = call([sys.executable, str(ROOT / self.script), *words], given, cwd=self.folder, env=self.env)
+        done = call([sys.executable, *self.command, *words], given, cwd=self.folder, env=self.env)
         return done.returncode, done.stdout, done.stderr, self.notes.exists()
 
     def refuses(self, words: list[str], given: bytes = b"", status: int = 2, usage: bool = False) -> None:
@@ -65,7 +66,7 @@ def is_readable(path: pathlib.Path) -> bool:
 
 
 def try_explorer(folder: pathlib.Path) -> None:
-    tool = Tool(folder, "tools/explore.py")
+    tool = Tool(folder, "-m zorimarl.explore")
     tool.refuses([], usage=True)
     tool.refuses(["scenario", "--kind", "book"], usage=True)
     tool.refuses(["scenario", "--lines", "many"], usage=True)
@@ -85,7 +86,7 @@ def try_explorer(folder: pathlib.Path) -> None:
 
 
 def try_client(folder: pathlib.Path) -> None:
-    tool = Tool(folder, "tools/client.py")
+    tool = Tool(folder, "-m zorimarl.ledger")
     tool.refuses([], usage=True)
     tool.refuses(["journal", "--bits", "65"], usage=True)
     tool.refuses(["journal", "--profile", "3"], usage=True)
@@ -107,7 +108,7 @@ def try_client(folder: pathlib.Path) -> None:
     for words, status, error in cases:
         ended, written, said, started = tool.run(words, b"report\n")
         told = [json.loads(line) for line in written.splitlines()]
-        name = f"client.py {' '.join(words)}: {ended}, {written.decode()!r}{', started' if started else ''}"
+        name = f"zorimarl-ledger {' '.join(words)}: {ended}, {written.decode()!r}{', started' if started else ''}"
         see(name, ended == status and [each["error"] for each in told] == [error] and said == b"" and not started)
     for words in (["journal", "--genesis", "empty"], ["odd", "--genesis", "empty", "--fresh"], ["empty", "--genesis", "empty", "report"]):
         tool.starts(words)

@@ -18,11 +18,11 @@ import tempfile
 
 from harness import ROOT, call, finish, lacks, see
 
-SKIPPED = {"out", ".git", "__pycache__", ".mypy_cache"}
+SKIPPED = {"out", ".git", "__pycache__", ".mypy_cache", "build"}
 SHELL = re.compile(rb"#!.*\b(sh|dash|bash)\b")
 PYTHON = re.compile(rb"#!.*\bpython3?\b")
 # Where modules of a script's stand beside its own folder.
-BESIDE = {"tests": ["tests"], "examples": ["examples", "tools", "tests"], "tools": ["tools", "examples"]}
+BESIDE = {"tests": ["tests"], "examples": ["examples", "python/src", "tests"], "tools": ["tools", "python/src", "examples"], "python": ["python/src"]}
 # Not yet typed throughout, or standing on modules that aren't.
 UNTYPED = {
     "examples/alike.py",
@@ -31,8 +31,6 @@ UNTYPED = {
     "examples/draw_nodes.py",
     "examples/drawing/answers.py",
     "examples/drawing/graph.py",
-    "examples/drawing/layers.py",
-    "examples/drawing/scenario.py",
     "examples/drawing/svg.py",
     "examples/feed.py",
     "examples/node_crashes.py",
@@ -44,8 +42,10 @@ UNTYPED = {
     "examples/timing/payer.py",
     "examples/timing/runs.py",
     "examples/wallet.py",
-    "tools/page/data.py",
-    "tools/subject.py",
+    "python/src/zorimarl/explore/data.py",
+    "python/src/zorimarl/explore/layers.py",
+    "python/src/zorimarl/explore/scenario.py",
+    "python/src/zorimarl/explore/subject.py",
     "tools/test_client.py",
     "tools/test_page.py",
 }

@@ -22,12 +22,13 @@ import unittest
 
 sys.dont_write_bytecode = True
 HERE = pathlib.Path(__file__).resolve().parent
-sys.path.append(str(HERE.parent / "examples"))
+sys.path[:0] = [str(HERE.parent / "examples"), str(HERE.parent / "python/src")]
+os.environ["PYTHONPATH"] = sys.path[1]
 
-import errors
-from client import EMPTY, Ledger, block, genesis, lock_of, locked, mined, transaction
-from formats import frame, head, meets, sha256, spelled
-from talk import LAUNCHER
+from zorimarl import errors
+from zorimarl.ledger import EMPTY, Ledger, block, genesis, lock_of, locked, mined, transaction
+from zorimarl.feeds import frame, head, meets, sha256, spelled
+from zorimarl.talk import LAUNCHER
 
 BUILT = LAUNCHER.parent.parent / "crates" / "spectre" / "out" / "spectre"
 TX_MOST = 2_210
@@ -209,7 +210,7 @@ class Answers(Case):
         """A graph of 60 blocks: the answers through the ledger are those of `replay`."""
         scenario = subprocess.run([raw(), "make", "60", "7", "4"], capture_output=True, check=True).stdout
         built = subprocess.run([raw(), "build"], input=scenario, capture_output=True, check=True).stdout
-        from formats import Cursor, frames_of, read_head
+        from zorimarl.feeds import Cursor, frames_of, read_head
 
         cursor = Cursor(built)
         first, blocks = read_head(cursor), []
@@ -480,7 +481,7 @@ def coins_of(salt: int) -> list:
 
 class Command(Case):
     def run_on(self, *words: str, given: str = "") -> tuple:
-        done = subprocess.run([sys.executable, str(HERE / "client.py"), self.file, *words], input=given, capture_output=True, text=True, check=False)
+        done = subprocess.run([sys.executable, "-m", "zorimarl.ledger", self.file, *words], input=given, capture_output=True, text=True, check=False)
         return done.returncode, [json.loads(line) for line in done.stdout.splitlines()]
 
     def test_requests(self) -> None:
@@ -498,7 +499,7 @@ class Command(Case):
         lines = "offer 01\nhello\ntx 12\nvote zz zz\noffer zz\nreport\n"
         status, found = self.run_on("--genesis", "empty", given=lines)
         self.assertEqual((status, [each.get("error") for each in found]), (1, ["BlockShort"] + ["NoRequest"] * 4 + [None]))
-        done = subprocess.run([sys.executable, str(HERE / "client.py"), self.file], input=b"\xff\xfe\nbalance of \xff\n", capture_output=True, check=False)
+        done = subprocess.run([sys.executable, "-m", "zorimarl.ledger", self.file], input=b"\xff\xfe\nbalance of \xff\n", capture_output=True, check=False)
         self.assertEqual([json.loads(line).get("error") for line in done.stdout.splitlines()], ["NoRequest", None])
         self.assertEqual(json.loads(done.stdout.splitlines()[1])["lock"], lock_of(b"\xff").hex())
         status, found = self.run_on("--bits", "9", "report")

@@ -28,12 +28,12 @@ from typing import Any, Dict, List, Optional, Sequence, Tuple
 sys.dont_write_bytecode = True
 HERE = pathlib.Path(__file__).resolve().parent
 EXAMPLES = HERE.parent / "examples"
-sys.path.append(str(EXAMPLES))
+sys.path[:0] = [str(EXAMPLES), str(EXAMPLES.parent / "python/src")]
 
 from devtools import NoBrowser, Page
-from explore import main as explore
-from formats import Cursor, block, frame, frames_of, head, read_head, sha256, spelled, transaction
-from talk import program
+from zorimarl.explore.command import main as explore
+from zorimarl.feeds import Cursor, block, frame, frames_of, head, read_head, sha256, spelled, transaction
+from zorimarl.talk import program
 
 MANY = ("drawn-511", "wide-511", "star-511", "parents-511", "payments-511")
 SCENARIOS = ("double_spend.txt", "overturned.txt", "late.txt", "cycle.txt", "payment.txt")

@@ -3,7 +3,7 @@
 import re
 from typing import NamedTuple
 
-from .scenario import Line, Misfit
+from zorimarl.explore.scenario import Line, Misfit
 
 # How many words each line has at least, if it has no fault.
 LEAST = {

@@ -2,7 +2,7 @@
 
 from dataclasses import dataclass, field
 
-from .scenario import GENESIS, MAKES, SENDS, Misfit, parents_and_carried
+from zorimarl.explore.scenario import GENESIS, MAKES, SENDS, Misfit, parents_and_carried
 
 
 @dataclass(eq=False)

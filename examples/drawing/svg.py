@@ -5,7 +5,8 @@ A block's colour never stands alone: its word is written in it.
 
 from html import escape
 
-from .layers import layout_of
+from zorimarl.explore.layers import layout_of
+
 from .style import STYLE
 
 LETTER = 6.8  # the width of a letter of the small text

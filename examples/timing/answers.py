@@ -2,7 +2,7 @@
 
 from collections import Counter
 
-from formats import sha256
+from zorimarl.feeds import sha256
 
 
 class Misfit(Exception):

@@ -2,7 +2,7 @@
 
 from dataclasses import dataclass, field
 
-from formats import block, frame, head, sha256, transaction
+from zorimarl.feeds import block, frame, head, sha256, transaction
 
 from .graphs import in_step, pasts, taken_in
 from .payer import CARRIED, GRANTED, GRANTS, Payer, payee, spending

@@ -1,7 +1,7 @@
 """Payments in the blocks of a graph: each block spends what blocks in its past made, and one coin that a
 block beside it spends, too."""
 
-from formats import transaction
+from zorimarl.feeds import transaction
 
 GRANTS, PER_GRANT, GRANTED = 100, 16, 10**9
 CARRIED = 100  # transactions of a block

@@ -8,13 +8,13 @@ too long, they stand behind every second arrival, every third, and so on: such a
 
 from typing import Dict, List, NamedTuple, Optional, Set, Tuple
 
-import answers
-from answers import pair_lines
-from formats import NotThisForm, ReadBlock, ReadTx, frame, head, read_block, sha256
-from errors import Refused
-from pairs import Pairs
-from talk import Talk
-from subject import Misfit, Subject
+from .. import answers
+from ..answers import pair_lines
+from ..feeds import NotThisForm, ReadBlock, ReadTx, frame, head, read_block, sha256
+from ..errors import Misfit, Refused
+from ..talk import Talk
+from .pairs import Pairs
+from .subject import Subject
 
 MOST_LINES = 5_000_000  # of answers to all questions, where no other number is named
 REPORTED = 4  # as so many lines of pairs counts what a report may have to say of a transaction or an output

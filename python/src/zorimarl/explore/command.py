@@ -1,12 +1,11 @@
-#!/usr/bin/env python3
 """Writes a scenario, a feed or a journal as one HTML file that shows its blocks and what the program says.
 
-    python3 tools/explore.py examples/double_spend.txt > page.html
-    python3 tools/explore.py --open examples/double_spend.txt
-    bin/spectre make 511 1 4 | python3 tools/explore.py - -o page.html
+    zorimarl-explore examples/double_spend.txt > page.html
+    zorimarl-explore --open examples/double_spend.txt
+    bin/spectre make 511 1 4 | zorimarl-explore - -o page.html
 
 The page needs no network and no other file. It shows the graph, the words of each two blocks, the states of
-transactions and the balances behind each arrival; tools/README.md has its keys, and the form of the data that
+transactions and the balances behind each arrival; python/README.md has its keys, and the form of the data that
 stand in it. Each word, state and balance was written by the program, which is asked for them behind each
 arrival (watch.py). Of an input with a fault the page shows the program's line, and what stands before it. Where the answers
 behind all arrivals would have more than five million lines, or as many as `--lines` says, it is asked behind
@@ -27,14 +26,11 @@ import tempfile
 import webbrowser
 from typing import List
 
-sys.dont_write_bytecode = True
-sys.path.append(str(pathlib.Path(__file__).resolve().parent.parent / "examples"))  # for `drawing`
-
-from errors import LedgerError
-from page.data import data_of
-from page.whole import json_of, page_of
-from subject import KINDS, Misfit, subject_of
-from watch import MOST_LINES
+from ..errors import LedgerError, Misfit
+from .asked import MOST_LINES
+from .data import data_of
+from .page import json_of, page_of
+from .subject import KINDS, subject_of
 
 
 def write(text: str, target: str) -> None:
@@ -56,7 +52,7 @@ def show(text: str, target: str) -> None:
 
 
 def main(words: List[str]) -> int:
-    parser = argparse.ArgumentParser(prog="explore.py", description="Writes a page that shows a ledger.")
+    parser = argparse.ArgumentParser(prog="zorimarl-explore", description="Writes a page that shows a ledger.")
     parser.add_argument("input", metavar="FILE", help="a scenario, a feed or a journal; `-` is standard input")
     parser.add_argument("-o", "--output", default="-", metavar="PAGE", help="the page's file, else standard output")
     parser.add_argument("--kind", choices=KINDS, help="what the input is")
@@ -75,10 +71,11 @@ def main(words: List[str]) -> int:
         else:
             (show if given.open else write)(page_of(data), given.output)
     except (LedgerError, OSError) as why:
-        print(f"explore.py: {why}", file=sys.stderr)
+        print(f"zorimarl-explore: {why}", file=sys.stderr)
         return 2
     return 0
 
 
-if __name__ == "__main__":
-    sys.exit(main(sys.argv[1:]))
+def run() -> int:
+    """The console command."""
+    return main(sys.argv[1:])

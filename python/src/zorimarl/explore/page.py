@@ -4,12 +4,10 @@ no text of the data is anything but text."""
 import base64
 import html
 import json
-import pathlib
+from importlib import resources
 from typing import Any, Dict
 
-from formats import sha256
-
-HERE = pathlib.Path(__file__).resolve().parent
+from ..feeds import sha256
 
 
 def json_of(data: Dict[str, Any]) -> str:
@@ -26,7 +24,7 @@ def digest(text: str) -> str:
 
 
 def part(name: str) -> str:
-    return (HERE / name).read_text(encoding="utf-8")
+    return resources.files(__package__).joinpath("static", name).read_text(encoding="utf-8")
 
 
 def page_of(data: Dict[str, Any]) -> str:

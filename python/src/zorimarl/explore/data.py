@@ -1,12 +1,12 @@
-"""The data of a page, as tools/README.md has their form."""
+"""The data of a page, as python/README.md has their form."""
 
 from dataclasses import dataclass
 from typing import Any, Dict, List, Optional, Union
 
-from drawing.layers import quick_layout_of
-from formats import ReadTx
-from subject import Subject
-from watch import MOST_LINES, Arrived, Stop, Watch
+from ..feeds import ReadTx
+from .layers import quick_layout_of
+from .subject import Subject
+from .asked import MOST_LINES, Arrived, Stop, Watch
 
 FORM = 1
 WIDTH = 78  # of a block, in the layout

@@ -7,15 +7,13 @@ be laid beside the lines.
 import re
 from typing import NamedTuple
 
+from ..errors import Misfit
+
 GENESIS = "G"
 MAKES = ("make", "block")
 SENDS = ("block", "send")
 # The bytes with which a scenario's first line may begin.
 TEXT = (9, 10, 13, *range(32, 127))
-
-
-class Misfit(Exception):
-    """Why nothing can be drawn, in words for whoever asked."""
 
 
 class Line(NamedTuple):

@@ -8,9 +8,8 @@ import sys
 import tempfile
 from typing import Dict, List, NamedTuple, Optional, Tuple
 
-from drawing.scenario import GENESIS, TEXT, lines_of, parents_and_carried, pieces_of
-from errors import LedgerError, ended
-from formats import (
+from ..errors import Misfit, ended
+from ..feeds import (
     Cursor,
     Frame,
     Head,
@@ -22,7 +21,8 @@ from formats import (
     records_of,
     sha256,
 )
-from talk import Path, hold, program, ready
+from ..talk import Path, hold, program, ready
+from .scenario import GENESIS, TEXT, lines_of, parents_and_carried, pieces_of
 
 KINDS = ("scenario", "feed", "journal")
 # The statuses of inputs that are at fault, of which a page can tell.
@@ -30,10 +30,6 @@ TELLING = (0, 2, 3, 7, 10, 11)
 ARRIVALS = (b"kept ", b"known ", b"refused ", b"full")
 # In the lines of a scenario, the frame that each one's question has.
 FRAME_OF = {"block": b"B", "send": b"B", "vote": b"V", "state": b"T", "balance": b"U", "pairs": b"P", "report": b"R"}
-
-
-class Misfit(LedgerError):
-    """The program's answers don't fit the input, or there is nothing to show."""
 
 
 class Names(NamedTuple):

@@ -4,7 +4,7 @@ import bisect
 import re
 from typing import Dict, Iterator, List
 
-from errors import LedgerError
+from ..errors import LedgerError
 
 LETTERS = {b"before": ord("b"), b"after": ord("a"), b"tie": ord("t")}
 TURNED = {b"before": ord("a"), b"after": ord("b"), b"tie": ord("t")}

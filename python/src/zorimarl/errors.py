@@ -1,4 +1,4 @@
-"""The errors of tools/client.py: one for each refusal, each fault line and each exit code.
+"""The errors of a ledger: one for each refusal, each fault line and each exit code.
 
 All are a `LedgerError`. A `Refused` says that a block wasn't kept; the ledger goes on. An `Ended` says that
 the program has ended; the ledger is closed then, and what it acknowledged stands in the journal.
@@ -17,6 +17,10 @@ class NoGenesis(LedgerError):
 
 class Closed(LedgerError):
     """The ledger was closed, or its program has ended before."""
+
+
+class Misfit(LedgerError):
+    """An input can't be shown, or the program's answers don't fit it."""
 
 
 class NoAnswer(LedgerError):

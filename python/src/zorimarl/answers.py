@@ -3,9 +3,9 @@
 import re
 from typing import Dict, List, NamedTuple, Tuple
 
-from errors import REFUSALS, Full
-from formats import frame, sha256
-from talk import Talk
+from .errors import REFUSALS, Full
+from .feeds import frame, sha256
+from .talk import Talk
 
 ID = "[0-9a-f]{64}"
 ARRIVAL = re.compile(f"(kept|known) ({ID})(?: (present) ([1-9][0-9]*)| (waiting))?")

@@ -10,12 +10,12 @@ import tempfile
 import time
 from typing import Deque, List, Optional, Sequence, Union
 
-from errors import Closed, InUse, NoAnswer, Unexpected, ended
-from formats import frame
+from .errors import Closed, InUse, NoAnswer, Unexpected, ended
+from .feeds import frame
 
 Path = Union[str, "os.PathLike[str]"]
 
-LAUNCHER = pathlib.Path(__file__).resolve().parent.parent / "bin" / "spectre"
+LAUNCHER = pathlib.Path(__file__).resolve().parents[3] / "bin" / "spectre"
 PIECE = 1 << 18
 MOST_SAID = 10_000  # bytes of standard error that an error tells
 TO_END = 60.0  # seconds that a program has to end once its output has ended

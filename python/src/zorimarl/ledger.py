@@ -1,7 +1,6 @@
-#!/usr/bin/env python3
 """A ledger of `spectre node FILE` for programs in Python, and as a command.
 
-    from client import Ledger, genesis, transaction
+    from zorimarl.ledger import Ledger, genesis, transaction
     with Ledger("payments.journal", genesis([transaction([], [(100, b"alice")])]), bits=8) as ledger:
         ledger.offer(ledger.mine([ledger.genesis_id]))
         print(ledger.report())
@@ -15,7 +14,7 @@ bytes. The bytes of transactions and blocks are made by formats.py.
 As a command it answers with one line of JSON for each request, which stands behind FILE or, where none
 does, in the lines of standard input:
 
-    python3 tools/client.py FILE [--genesis HEX] [--bits N] [--profile N] [--fresh] [--timeout S] [REQUEST ..]
+    zorimarl-ledger FILE [--genesis HEX] [--bits N] [--profile N] [--fresh] [--timeout S] [REQUEST ..]
 
     offer HEX      a block's bytes, in hexadecimal digits
     mine HEX ..    makes and offers a block without transactions on these blocks
@@ -36,12 +35,10 @@ import secrets
 import sys
 from typing import Any, Callable, Iterable, List, Optional, Type
 
-sys.dont_write_bytecode = True
-
-import answers
-from answers import Arrival, Balance, Report, State, Vote
-from errors import Closed, Ended, LedgerError, NoAnswer, NoGenesis, Unexpected, ended
-from formats import (
+from . import answers
+from .answers import Arrival, Balance, Report, State, Vote
+from .errors import Closed, Ended, LedgerError, NoAnswer, NoGenesis, Unexpected, ended
+from .feeds import (
     OPEN_GATE,
     PROFILES,
     Cursor,
@@ -59,7 +56,7 @@ from formats import (
     spelled,
     transaction,
 )
-from talk import Path, Talk, hold, is_launcher, name_of, ready
+from .talk import Path, Talk, hold, is_launcher, name_of, ready
 
 __all__ = ["Ledger", "genesis", "block", "mined", "transaction", "locked", "lock_of"]
 
@@ -324,7 +321,7 @@ def look(file: Path, fresh: bool) -> None:
 
 
 def main(words: List[str]) -> int:
-    parser = argparse.ArgumentParser(prog="client.py", description="Asks a ledger, and sends it blocks.")
+    parser = argparse.ArgumentParser(prog="zorimarl-ledger", description="Asks a ledger, and sends it blocks.")
     parser.add_argument("file", metavar="FILE", help="the journal")
     parser.add_argument("--genesis", metavar="HEX", help="the genesis block's bytes, or `empty`")
     parser.add_argument("--bits", type=int, choices=range(65), metavar="N", help="the bits of work, 0 to 64")
@@ -349,5 +346,10 @@ def main(words: List[str]) -> int:
         return show_error(error)
 
 
+def run() -> int:
+    """The console command."""
+    return main(sys.argv[1:])
+
+
 if __name__ == "__main__":
-    sys.exit(main(sys.argv[1:]))
+    sys.exit(run())
