@@ -86,7 +86,7 @@ def try_explorer(folder: pathlib.Path) -> None:
 
 
 def try_client(folder: pathlib.Path) -> None:
-    tool = Tool(folder, "-m zorimarl.ledger")
+    tool = Tool(folder, "-m zorimarl.command")
     tool.refuses([], usage=True)
     tool.refuses(["journal", "--bits", "65"], usage=True)
     tool.refuses(["journal", "--profile", "3"], usage=True)

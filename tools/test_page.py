@@ -33,7 +33,7 @@ sys.path[:0] = [str(EXAMPLES), str(EXAMPLES.parent / "python/src")]
 from devtools import NoBrowser, Page
 from zorimarl.explore.command import main as explore
 from zorimarl.feeds import Cursor, block, frame, frames_of, head, read_head, sha256, spelled, transaction
-from zorimarl.talk import program
+from zorimarl.program import find
 
 MANY = ("drawn-511", "wide-511", "star-511", "parents-511", "payments-511")
 SCENARIOS = ("double_spend.txt", "overturned.txt", "late.txt", "cycle.txt", "payment.txt")
@@ -64,7 +64,7 @@ def see(name: str, found: Any, expected: Any = True) -> None:
 
 
 def run(*words: str, given: bytes = b"") -> bytes:
-    return subprocess.run([program(), *words], input=given, capture_output=True, check=False).stdout
+    return subprocess.run([find().path, *words], input=given, capture_output=True, check=False).stdout
 
 
 class Truth:

@@ -1,18 +1,21 @@
 """The answers to the frames of a feed, as values. Each is read off the lines that the program wrote."""
 
-import re
-from typing import Dict, List, NamedTuple, Tuple
+from __future__ import annotations
 
-from .errors import REFUSALS, Full
-from .feeds import frame, sha256
+import re
+from typing import Dict, List, NamedTuple, Optional, Tuple, Union
+
+from . import feeds
+from .errors import REFUSALS, Full, Refused
+from .feeds import LONGEST_BLOCK, frame, sha256
 from .talk import Talk
 
 ID = "[0-9a-f]{64}"
-ARRIVAL = re.compile(f"(kept|known) ({ID})(?: (present) ([1-9][0-9]*)| (waiting))?")
+NUMBER = "(0|[1-9][0-9]{0,19})"
+ARRIVAL = re.compile(f"(kept|known) ({ID})(?: (present) {NUMBER}| (waiting))?")
 VOTE = re.compile(f"vote ({ID}) ({ID}) (before|after|tie|same|absent)")
 STATE = re.compile(f"tx ({ID}) (accepted|rejected|absent)")
-BALANCE = re.compile(f"balance ({ID}) (0|[1-9][0-9]*)")
-COUNT = "(0|[1-9][0-9]*)"
+BALANCE = re.compile(f"balance ({ID}) {NUMBER}")
 
 
 class Arrival(NamedTuple):
@@ -60,26 +63,54 @@ class Report(NamedTuple):
     balances: Dict[bytes, int]
 
 
-def offer(talk: Talk, block: bytes) -> Arrival:
+# Blocks
+
+Answered = Union[Arrival, Refused]
+
+
+def cut(block: bytes) -> bytes:
+    """What is sent of a block. A frame has no room for a longer one; so many bytes are refused for the same
+    reason."""
+    return block[: LONGEST_BLOCK + 1]
+
+
+def offer(talk: Talk, block: bytes, timeout: Optional[float] = None) -> Arrival:
     """Sends a block. Where it isn't kept, that is its refusal's error."""
-    if len(block) > 65_537:  # a frame has no room for it; so many bytes are refused for the same reason
-        block = block[:65_537]
-    talk.send(frame(b"B", block))
-    line = talk.line()
+    block = cut(block)
+    block_id = sha256(block)
+    talk.ask("the offer of block", block_id, timeout=timeout)
+    talk.send(frame(feeds.BLOCK, block))
+    found = read_arrival(talk, talk.line(), block_id)
+    if isinstance(found, Refused):
+        raise found
+    return found
+
+
+def read_arrival(talk: Talk, line: str, block_id: bytes) -> Answered:
+    """The answer to a block, or its refusal."""
     if line == "full":
-        raise Full("there is no room for the block")
+        return refusal(talk, Full(line, block_id))
     if line.startswith("refused "):
         why = line[len("refused ") :]
         if why in REFUSALS:
-            raise REFUSALS[why](line)
+            return refusal(talk, REFUSALS[why](line, block_id))
     found = ARRIVAL.fullmatch(line)
-    if not found or bytes.fromhex(found[2]) != sha256(block) or (found[1] == "known") != (found.end(2) == len(line)):
+    if not found or bytes.fromhex(found[2]) != block_id or (found[1] == "known") != (found.end(2) == len(line)):
         raise talk.unexpected(line, "a block")
-    return Arrival(sha256(block), found[3] or found[5] or found[1], int(found[4] or 0), line)
+    return Arrival(block_id, found[3] or found[5] or found[1], int(found[4] or 0), line)
 
 
-def vote(talk: Talk, x: bytes, y: bytes) -> Vote:
-    talk.send(frame(b"V", x + y))
+def refusal(talk: Talk, made: Refused) -> Refused:
+    made.file, made.request = talk.file, f"the offer of block {made.block.hex()}"
+    return made
+
+
+# Questions
+
+
+def vote(talk: Talk, x: bytes, y: bytes, timeout: Optional[float] = None) -> Vote:
+    talk.ask("the vote on", x, y, timeout=timeout)
+    talk.send(frame(feeds.VOTE, x + y))
     return read_vote(talk, talk.line(), x, y)
 
 
@@ -90,9 +121,10 @@ def read_vote(talk: Talk, line: str, x: bytes, y: bytes) -> Vote:
     return Vote(x, y, found[3], line)
 
 
-def tx_states(talk: Talk, ids: List[bytes]) -> List[State]:
+def tx_states(talk: Talk, ids: List[bytes], timeout: Optional[float] = None) -> List[State]:
     """The states of transactions."""
-    talk.send(b"".join(frame(b"T", each) for each in ids))
+    talk.ask("the states of", *ids[:2], timeout=timeout)
+    talk.send(b"".join(frame(feeds.TX, each) for each in ids))
     return [read_state(talk, talk.line(), each) for each in ids]
 
 
@@ -103,9 +135,10 @@ def read_state(talk: Talk, line: str, tx: bytes) -> State:
     return State(tx, found[2], line)
 
 
-def balances(talk: Talk, locks: List[bytes]) -> List[Balance]:
+def balances(talk: Talk, locks: List[bytes], timeout: Optional[float] = None) -> List[Balance]:
     """What is left under locks."""
-    talk.send(b"".join(frame(b"U", each) for each in locks))
+    talk.ask("the balances of", *locks[:2], timeout=timeout)
+    talk.send(b"".join(frame(feeds.BALANCE, each) for each in locks))
     return [read_balance(talk, talk.line(), each) for each in locks]
 
 
@@ -116,25 +149,29 @@ def read_balance(talk: Talk, line: str, lock: bytes) -> Balance:
     return Balance(lock, int(found[2]), line)
 
 
+# Pairs and reports
+
+
 def counts(talk: Talk, *words: str) -> List[int]:
     """The numbers of a line that has these words, each with a number behind it."""
     line = talk.line()
-    found = re.fullmatch(" ".join(f"{word} {COUNT}" for word in words), line)
+    found = re.fullmatch(" ".join(f"{word} {NUMBER}" for word in words), line)
     if not found:
         raise talk.unexpected(line, f"a question that `{words[0]}` answers")
     return [int(number) for number in found.groups()]
 
 
-def pair_lines(talk: Talk) -> List[bytes]:
+def pair_lines(talk: Talk, timeout: Optional[float] = None) -> List[bytes]:
     """The lines of all pairs, as they were written."""
-    talk.send(frame(b"P"))
+    talk.ask("all pairs", timeout=timeout)
+    talk.send(frame(feeds.PAIRS))
     (count,) = counts(talk, "pairs")
     return talk.take(count)
 
 
-def pairs(talk: Talk) -> List[Vote]:
+def pairs(talk: Talk, timeout: Optional[float] = None) -> List[Vote]:
     found = []
-    for line in map(bytes.decode, pair_lines(talk)):
+    for line in (each.decode("ascii", "replace") for each in pair_lines(talk, timeout)):
         words = VOTE.fullmatch(line)
         if not words:
             raise talk.unexpected(line, "a question on all pairs")
@@ -142,16 +179,19 @@ def pairs(talk: Talk) -> List[Vote]:
     return found
 
 
-def report(talk: Talk) -> Report:
-    talk.send(frame(b"R"))
+def report(talk: Talk, timeout: Optional[float] = None) -> Report:
+    talk.ask("the report", timeout=timeout)
+    talk.send(frame(feeds.REPORT))
     present, waiting = counts(talk, "blocks", "waiting")
     (count,) = counts(talk, "accepted")
-    accepted = [STATE.fullmatch(line.decode()) or line for line in talk.take(count)]
+    accepted = [STATE.fullmatch(line.decode("ascii", "replace")) or line for line in talk.take(count)]
     (count,) = counts(talk, "balances")
-    left = [BALANCE.fullmatch(line.decode()) or line for line in talk.take(count)]
+    left = [BALANCE.fullmatch(line.decode("ascii", "replace")) or line for line in talk.take(count)]
     for each in accepted + left:
-        if isinstance(each, bytes) or each[2] in ("0", "rejected", "absent"):
-            raise talk.unexpected(str(each), "a report")
+        if isinstance(each, bytes):
+            raise talk.unexpected(each.decode("ascii", "replace"), "a report")
+        if each[2] in ("0", "rejected", "absent"):
+            raise talk.unexpected(each[0], "a report")
     return Report(
         present,
         waiting,

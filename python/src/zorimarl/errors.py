@@ -1,18 +1,61 @@
-"""The errors of a ledger: one for each refusal, each fault line and each exit code.
+"""The errors of this package: one tree, with a class for each refusal, each fault line and each exit code.
 
 All are a `LedgerError`. A `Refused` says that a block wasn't kept; the ledger goes on. An `Ended` says that
-the program has ended; the ledger is closed then, and what it acknowledged stands in the journal.
+the program has ended; the ledger is closed then, what it acknowledged stands in the journal, and `reopen` goes
+on from there. What comes from outside, be it bytes, words, files or the program's lines, is never the cause of
+another error than these.
 """
 
-from typing import Dict, Optional, Type
+from __future__ import annotations
+
+from typing import Dict, List, Optional, Type, TypeVar
+
+Error = TypeVar("Error", bound="LedgerError")
 
 
 class LedgerError(Exception):
-    """Any of the errors below."""
+    """Any of the errors below.
+
+    `what` says what happened; `file` is the journal's name as it was given, `request` what was asked, and
+    `answer` the program's line, each "" where there is none. The text has what, file and request.
+    """
+
+    def __init__(self, what: str = "", file: str = "", request: str = "", answer: str = "") -> None:
+        super().__init__(what, file, request, answer)
+        self.what, self.file, self.request, self.answer = what, file, request, answer
+
+    def at(self: Error, file: str, request: str) -> Error:
+        """The same error, with the file and the request where it has none."""
+        self.file, self.request = self.file or file, self.request or request
+        return self
+
+    def __str__(self) -> str:
+        return ": ".join(part for part in (self.file, self.request, self.what) if part)
 
 
 class NoGenesis(LedgerError):
-    """A new ledger needs a genesis block, and none was given."""
+    """A new ledger needs a genesis block, and none was given, or what was given is none."""
+
+
+class NoProgram(LedgerError):
+    """There is no program `spectre` where it was looked for, which the text lists."""
+
+
+class NoRequest(LedgerError):
+    """What was asked for can't be: an id or a lock that isn't 32 bytes, a number that is out of its range, words
+    that are no request. Nothing was sent."""
+
+
+class NoBlock(LedgerError):
+    """No kept block has this id."""
+
+
+class NotReached(LedgerError):
+    """The blocks that were to come have ended, and the state that was waited for wasn't reached."""
+
+
+class FileFault(LedgerError):
+    """This package couldn't read or write a file. The ledger goes on."""
 
 
 class Closed(LedgerError):
@@ -31,13 +74,67 @@ class Unexpected(LedgerError):
     """A line that isn't the answer to what was asked. The program was killed."""
 
 
+# Bytes
+
+
+class NotThisForm(LedgerError):
+    """Bytes don't spell what was looked for. `place` is that of the first field that doesn't, counted in bytes
+    from 0."""
+
+    def __init__(self, what: str = "", place: int = 0) -> None:
+        super().__init__(what)
+        self.place = place
+        self.args = (what, place)
+
+    def __str__(self) -> str:
+        return ": ".join(part for part in (self.file, self.request, f"{self.what}, at place {self.place}") if part)
+
+
+class EndsEarly(NotThisForm):
+    """The bytes end within a field, or before one."""
+
+
+class OtherName(NotThisForm):
+    """The first bytes are those of no feed, journal or certificate of a known profile."""
+
+
+class OtherVersion(NotThisForm):
+    """A block's version isn't 1."""
+
+
+class OtherFrame(NotThisForm):
+    """The kind of a frame is unknown, or not the one that has to stand here, or its length isn't one of its kind's."""
+
+
+class OutOfRange(NotThisForm):
+    """A number is beyond what its field may have."""
+
+
+class GateClosed(NotThisForm):
+    """The first gate of a journal isn't open."""
+
+
+class Surplus(NotThisForm):
+    """Something follows what was read."""
+
+
 # Refusals
 
 
+def first_sentence(named: type) -> str:
+    """What the text of a class says first."""
+    return (named.__doc__ or "").split(". ")[0].split(".\n")[0].strip(" .\n")
+
+
 class Refused(LedgerError):
-    """A block wasn't kept."""
+    """A block wasn't kept. `answer` is the program's line, `block` the bytes' id."""
 
     why = ""
+
+    def __init__(self, answer: str = "", block: bytes = b"") -> None:
+        super().__init__(": ".join(filter(None, [f"`{answer}`", first_sentence(type(self))])), answer=answer)
+        self.block = block
+        self.args = (answer, block)
 
 
 class Full(Refused):
@@ -59,6 +156,8 @@ class BlockShort(Refused):
 
 
 class BadVersion(Refused):
+    """Its version isn't 1."""
+
     why = "version"
 
 
@@ -87,10 +186,14 @@ class TxShort(Refused):
 
 
 class BadInputCount(Refused):
+    """A transaction has more than 16 inputs."""
+
     why = "tx-input-count"
 
 
 class BadInputOrder(Refused):
+    """A transaction's outpoints don't ascend."""
+
     why = "tx-input-order"
 
 
@@ -101,6 +204,8 @@ class BadPreimage(Refused):
 
 
 class BadOutputCount(Refused):
+    """A transaction has no outputs, or more than 16."""
+
     why = "tx-output-count"
 
 
@@ -155,16 +260,21 @@ REFUSALS: Dict[str, Type[Refused]] = {each.why: each for each in Refused.__subcl
 class Ended(LedgerError):
     """The program has ended, and not because it was asked to.
 
-    `code` is what it ended with (below 0 a signal), `line` its fault line or "", `numbers` and `ids` what
-    that line says, `cut` what was written of a line that isn't whole, `said` what stood on standard error.
+    `code` is what it ended with (below 0 a signal), `answer` (and `line`) its fault line or "", `numbers` and
+    `ids` what that line says, `cut` what was written of a line that isn't whole, `said` what stood on standard
+    error.
     """
 
-    def __init__(self, code: int, line: str = "", cut: bytes = b"", said: str = "") -> None:
+    def __init__(self, code: int = 0, line: str = "", cut: bytes = b"", said: str = "") -> None:
         self.code, self.line, self.cut, self.said = code, line, cut, said
         words = line.split(" ")[2:]
-        self.numbers = [int(word) for word in words if len(word) < 64]
-        self.ids = [bytes.fromhex(word) for word in words if len(word) == 64]
-        super().__init__(": ".join(filter(None, [f"the program ended with {code}", line, said.strip()])))
+        self.numbers: List[int] = [int(word) for word in words if word.isascii() and word.isdigit() and len(word) < 64]
+        self.ids: List[bytes] = [bytes.fromhex(word) for word in words if len(word) == 64 and is_hexadecimal(word)]
+        ended = f"signal {-code}" if code < 0 else f"exit code {code}"
+        told = f"the last line is cut: {cut[:80]!r}" if cut else ""
+        parts = [f"the program ended with {ended}", f"`{line}`" if line else "", told, said.strip()]
+        super().__init__("; ".join(filter(None, parts)), answer=line)
+        self.args = (code, line, cut, said)
 
     @property
     def place(self) -> Optional[int]:
@@ -172,12 +282,24 @@ class Ended(LedgerError):
         return self.numbers[0] if self.numbers else None
 
 
+def is_hexadecimal(word: str) -> bool:
+    return all(digit in "0123456789abcdefABCDEF" for digit in word)
+
+
 class Usage(Ended):
     """The words are no command."""
 
 
 class Malformed(Ended):
-    """What was sent is no feed. `place` says where."""
+    """What was sent is no feed or no certificate. `place` says where."""
+
+
+class BadLine(Malformed):
+    """A line of a scenario has a fault. `place` is its number, `reason` the fault's word."""
+
+    @property
+    def reason(self) -> str:
+        return self.line.split(" ")[-1]
 
 
 class Truncated(Ended):
@@ -217,6 +339,27 @@ class TooLong(Ended):
     """More bytes were sent than a feed may have: `place` is their number."""
 
 
+class NoPair(Ended):
+    """There is no vote on these two: they are one block, or one of them isn't present."""
+
+
+class Refuted(Ended):
+    """A certificate doesn't hold. `reason` is `parent`, `pair`, `world`, `vote` or `sum`, and `numbers` its
+    numbers."""
+
+    @property
+    def reason(self) -> str:
+        return (self.line.split(" ") + ["", "", ""])[2]
+
+
+class Poor(Ended):
+    """What may be spent doesn't reach the amount: it comes to `place`."""
+
+
+class Large(Ended):
+    """What would be spent comes to `place`, which is 2^63 or more."""
+
+
 class InUse(Ended):
     """Another call uses the file. Nothing was read or written."""
 
@@ -249,6 +392,10 @@ CODES: Dict[int, Type[Ended]] = {
     9: Memory,
     10: Damaged,
     11: TooLong,
+    12: NoPair,
+    13: Refuted,
+    14: Poor,
+    15: Large,
     124: InUse,
     125: NotStarted,
     126: NotStarted,
@@ -258,7 +405,14 @@ CODES: Dict[int, Type[Ended]] = {
 
 def ended(code: int, line: str = "", cut: bytes = b"", said: str = "") -> Ended:
     """The error of an end."""
-    named = CODES.get(code)
+    named: Optional[Type[Ended]] = BadLine if line.startswith("fault line ") and code == 2 else CODES.get(code)
     if named is None:
         named = CutLine if cut else Killed if code < 0 else EndedEarly
     return named(code, line, cut, said)
+
+
+def fault_of(error: OSError, file: str = "", request: str = "") -> FileFault:
+    """A call of the system that failed, as an error of this package."""
+    name = error.filename if isinstance(error.filename, str) else ""
+    what = error.strerror or str(error)
+    return FileFault(f"{name}: {what}" if name and name != file else what, file, request)

@@ -1,83 +1,70 @@
-"""The bytes of transactions, blocks, feeds and journals, as docs/FORMATS.md has them: made and read.
+"""The bytes of feeds, journals and certificates, made and read; and those of transactions and blocks.
 
-What reads here judges nothing: the program says what is a block, and these functions only take apart what
-it took. Bytes that are none of the form have the one error `NotThisForm`.
+The forms are those of docs/FORMATS.md. What reads here judges nothing beyond the fields themselves: whether a
+block holds to the rules, and whether a certificate's votes are right, the program says. Bytes that are none of
+the form are a `NotThisForm`, of the class that says what hinders, with the place of the field at fault.
+
+    feed = head(genesis([grant]), bits=8) + frame(BLOCK, data) + frame(REPORT) + END
+    first, frames = read_feed(feed)
+    journal = read_journal(path.read_bytes())
 """
 
-import hashlib
-import itertools
-import struct
-from typing import Iterable, Iterator, List, NamedTuple, Optional, Sequence, Tuple
+from __future__ import annotations
 
-# The first eight bytes of a feed and of a journal, for each profile.
+import struct
+from typing import Iterable, Iterator, List, NamedTuple, Tuple
+
+from .blocks import (
+    EMPTY,
+    ID,
+    LONGEST_BLOCK,
+    MOST_BLOCKS,
+    Coin,
+    Cursor,
+    Input,
+    Output,
+    ReadBlock,
+    ReadTx,
+    Tx,
+    block,
+    bytes_of,
+    genesis,
+    id_of,
+    lock_of,
+    locked,
+    meets,
+    mined,
+    number_of,
+    read_block,
+    read_tx,
+    sha256,
+    spelled,
+    transaction,
+)
+from .errors import GateClosed, NoRequest, NotThisForm, OtherFrame, OtherName, OutOfRange
+
+__all__ = [
+    "BALANCE", "BLOCK", "EMPTY", "END", "ID", "LONGEST_BLOCK", "MOST_BLOCKS", "PAIRS", "REPORT", "TX", "VOTE",
+    "Certificate", "Coin", "Cursor", "Frame", "Head", "Input", "Journal", "NotThisForm", "Output", "ReadBlock", "ReadTx", "Tx",
+    "block", "feed", "frame", "frames_of", "genesis", "head", "id_of", "lock_of", "locked", "meets", "mined", "read_block",
+    "read_certificate", "read_feed", "read_frame", "read_head", "read_journal", "read_journal_head", "read_tx", "records_of",
+    "sha256", "spelled", "transaction",
+]  # fmt: skip
+
+# The first eight bytes of a feed and of a journal, for each profile, and of a certificate.
 PROFILES = {1: (b"SPCTRF01", b"SPCTRJ01"), 2: (b"SPCTRF02", b"SPCTRJ02")}
 FEED, JOURNAL = 0, 1
+CERTIFICATE = b"SPCTRC01"
 
+# The kinds of frames: a block; the questions on two blocks, a transaction and a balance; those for all pairs
+# and for a report; the end.
+BLOCK, VOTE, TX, BALANCE, PAIRS, REPORT = b"B", b"V", b"T", b"U", b"P", b"R"
 # The lengths that the payload of a frame may have.
-FRAMES = {b"B": range(65_538), b"V": [64], b"T": [32], b"U": [32], b"P": [0], b"R": [0], b"E": [0]}
+FRAMES = {BLOCK: range(LONGEST_BLOCK + 2), VOTE: [2 * ID], TX: [ID], BALANCE: [ID], PAIRS: [0], REPORT: [0], b"E": [0]}
 
 OPEN_GATE = 0xA5
-LONGEST_BLOCK = 65_536
-
-
-class NotThisForm(ValueError):
-    """Bytes that don't spell what was looked for."""
-
-
-def sha256(data: bytes) -> bytes:
-    return hashlib.sha256(data).digest()
-
-
-def lock_of(word: bytes) -> bytes:
-    """The lock that a word of 1 to 64 bytes opens."""
-    return sha256(word)
-
-
-class Coin(NamedTuple):
-    """An output: its transaction's id, its place, its amount and the word that opens its lock."""
-
-    tx: bytes
-    place: int
-    amount: int
-    word: bytes
-
-
-class Tx(NamedTuple):
-    """A transaction: its id, its bytes, the outpoints that it spends, and its outputs as coins."""
-
-    id: bytes
-    text: bytes
-    spent: List[Tuple[bytes, int]]
-    coins: List[Coin]
-
-
-class Input(NamedTuple):
-    tx: bytes
-    place: int
-    preimage: bytes
-
-
-class Output(NamedTuple):
-    amount: int
-    lock: bytes
-
-
-class ReadTx(NamedTuple):
-    """A transaction as it was read off a block."""
-
-    id: bytes
-    inputs: List[Input]
-    outputs: List[Output]
-
-
-class ReadBlock(NamedTuple):
-    """A block as it was read off its bytes."""
-
-    id: bytes
-    salt: int
-    nonce: int
-    parents: List[bytes]
-    txs: List[ReadTx]
+LONGEST_HEAD = 14 + LONGEST_BLOCK  # of a journal
+MOST_BITS = 64
 
 
 class Head(NamedTuple):
@@ -94,125 +81,95 @@ class Frame(NamedTuple):
     place: int
 
 
+class Journal(NamedTuple):
+    """A journal's head and the bytes of the blocks in its records."""
+
+    head: Head
+    blocks: List[bytes]
+
+
+class Certificate(NamedTuple):
+    """What a certificate says of two blocks, and the bytes of the blocks that it stands on. `word` is `before`,
+    `after` or `tie`. Whether its votes are right the program says: `zorimarl.proofs.check`."""
+
+    profile: int
+    blocks: List[bytes]
+    x: bytes
+    y: bytes
+    word: str
+
+
 # Making
-
-
-def transaction(spends: Iterable[Coin], pays: Iterable[Tuple[int, bytes]]) -> Tx:
-    """One that spends these coins and pays each (amount, word)."""
-    pays = list(pays)
-    return locked(spends, [(amount, sha256(word)) for amount, word in pays], [word for _, word in pays])
-
-
-def locked(spends: Iterable[Coin], outputs: Sequence[Tuple[int, bytes]], words: Sequence[bytes] = ()) -> Tx:
-    """One that spends these coins and has these outputs, each (amount, lock). Where the words that open
-    the locks aren't given, neither do the coins have them."""
-    spends = sorted(spends)
-    inputs = [coin.tx + bytes([coin.place, len(coin.word)]) + coin.word for coin in spends]
-    paid = [struct.pack("<Q", amount) + lock for amount, lock in outputs]
-    text = bytes([len(inputs)]) + b"".join(inputs) + bytes([len(paid)]) + b"".join(paid)
-    made = sha256(text)
-    named = itertools.zip_longest(outputs, words, fillvalue=b"")
-    coins = [Coin(made, place, amount, word) for place, ((amount, _), word) in enumerate(named)]
-    return Tx(made, text, [(coin.tx, coin.place) for coin in spends], coins)
-
-
-def spelled(salt: int, nonce: int, parents: Sequence[bytes], txs: Sequence[bytes] = ()) -> bytes:
-    """The bytes of a block with the bytes of these transactions, its parents in the order given."""
-    head = b"\x01" + struct.pack("<QQ", salt, nonce) + bytes([len(parents)]) + b"".join(parents)
-    return head + struct.pack("<H", len(txs)) + b"".join(txs)
-
-
-def block(salt: int, parents: Iterable[bytes], txs: Iterable[Tx] = (), nonce: int = 0) -> bytes:
-    """A block with this nonce, its parents in ascending order."""
-    return spelled(salt, nonce, sorted(parents), [tx.text for tx in txs])
-
-
-def meets(block_id: bytes, bits: int) -> bool:
-    """Whether the first `bits` bits of an id are zero."""
-    return int.from_bytes(block_id, "big") >> (256 - bits) == 0
-
-
-def mined(text: bytes, bits: int, tries: Optional[int] = None) -> Optional[bytes]:
-    """A block with the least nonce that meets the work, or None where none of so many does."""
-    for nonce in itertools.count() if tries is None else range(tries):
-        made = text[:9] + struct.pack("<Q", nonce) + text[17:]
-        if meets(sha256(made), bits):
-            return made
-    return None
 
 
 def frame(kind: bytes, payload: bytes = b"") -> bytes:
     return kind + struct.pack("<I", len(payload)) + payload
 
 
+END = frame(b"E")
+
+
 def head(genesis: bytes, bits: int = 0, profile: int = 1) -> bytes:
     """The head of a feed."""
-    return PROFILES[profile][FEED] + bytes([bits]) + frame(b"B", genesis)
+    if profile not in PROFILES:
+        raise NoRequest(f"a profile is {' or '.join(map(str, PROFILES))}, and `{profile!r:.80}` was given")
+    bits = number_of(bits, MOST_BITS, "the bits of work")
+    return PROFILES[profile][FEED] + bytes([bits]) + frame(BLOCK, bytes_of(genesis, "a genesis block"))
 
 
-# Reading
+def feed(first: Head, blocks: Iterable[bytes]) -> bytes:
+    """A whole feed: its head, these blocks, and the end."""
+    return head(first.genesis, first.bits, first.profile) + b"".join(frame(BLOCK, each) for each in blocks) + END
 
 
-class Cursor:
-    """Bytes that are taken one field after another."""
-
-    def __init__(self, data: bytes) -> None:
-        self.data, self.at = data, 0
-
-    def take(self, count: int) -> bytes:
-        if self.at + count > len(self.data):
-            raise NotThisForm(f"the bytes end at {len(self.data)}, and {self.at + count} are needed")
-        self.at += count
-        return self.data[self.at - count : self.at]
-
-    def number(self, count: int) -> int:
-        return int.from_bytes(self.take(count), "little")
+# Reading feeds
 
 
-def read_tx(cursor: Cursor) -> ReadTx:
-    start = cursor.at
-    inputs = [
-        Input(cursor.take(32), cursor.number(1), cursor.take(cursor.number(1))) for _ in range(cursor.number(1))
-    ]
-    outputs = [Output(cursor.number(8), cursor.take(32)) for _ in range(cursor.number(1))]
-    return ReadTx(sha256(cursor.data[start : cursor.at]), inputs, outputs)
-
-
-def read_block(data: bytes) -> ReadBlock:
-    cursor = Cursor(data)
-    if cursor.number(1) != 1:
-        raise NotThisForm("the version isn't 1")
-    salt, nonce = cursor.number(8), cursor.number(8)
-    parents = [cursor.take(32) for _ in range(cursor.number(1))]
-    txs = [read_tx(cursor) for _ in range(cursor.number(2))]
-    if cursor.at != len(data):
-        raise NotThisForm("something follows the block")
-    return ReadBlock(sha256(data), salt, nonce, parents, txs)
-
-
-def profile_of(first: bytes, kind: int) -> int:
-    """The profile that the first eight bytes of a feed or a journal name."""
+def profile_of(cursor: Cursor, kind: int) -> int:
+    """The profile that the next eight bytes name, those of a feed or of a journal."""
+    place, first = cursor.at, cursor.take(8)
     for profile, names in PROFILES.items():
         if names[kind] == first:
             return profile
-    raise NotThisForm("the first eight bytes are those of no profile")
+    raise OtherName("the first eight bytes are those of no profile", place)
+
+
+def read_bits(cursor: Cursor) -> int:
+    place, bits = cursor.at, cursor.number(1)
+    if bits > MOST_BITS:
+        raise OutOfRange(f"the bits of work are {bits}, and {MOST_BITS} at most", place)
+    return bits
 
 
 def read_frame(cursor: Cursor) -> Frame:
     place = cursor.at
-    kind, length = cursor.take(1), cursor.number(4)
-    if length not in FRAMES.get(kind, ()):
-        raise NotThisForm(f"no frame stands at {place}")
+    kind = cursor.take(1)
+    if kind not in FRAMES:
+        raise OtherFrame(f"no frame has the kind {kind!r}", place)
+    length = cursor.number(4)
+    if length not in FRAMES[kind]:
+        raise OtherFrame(f"no frame of the kind {kind.decode()} has {length} bytes", place + 1)
     return Frame(kind, cursor.take(length), place)
 
 
 def read_head(cursor: Cursor) -> Head:
     """The head of a feed."""
-    profile, bits = profile_of(cursor.take(8), FEED), cursor.number(1)
-    first = read_frame(cursor)
-    if first.kind != b"B":
-        raise NotThisForm("a head has its genesis block in a frame B")
-    return Head(profile, bits, first.payload)
+    profile, bits = profile_of(cursor, FEED), read_bits(cursor)
+    place = cursor.at
+    if cursor.data[place : place + 1] not in (BLOCK, b""):
+        raise OtherFrame("a head has its genesis block in a frame B", place)
+    return Head(profile, bits, read_frame(cursor).payload)
+
+
+def read_feed(data: bytes) -> Tuple[Head, List[Frame]]:
+    """The head of a whole feed, and its frames but the last. What follows the frame E isn't looked at."""
+    cursor = Cursor(data)
+    first, frames = read_head(cursor), list[Frame]()
+    while True:
+        found = read_frame(cursor)
+        if found.kind == b"E":
+            return first, frames
+        frames.append(found)
 
 
 def frames_of(cursor: Cursor) -> Iterator[Frame]:
@@ -227,17 +184,56 @@ def frames_of(cursor: Cursor) -> Iterator[Frame]:
         yield found
 
 
+# Reading journals and certificates
+
+
 def read_journal_head(cursor: Cursor) -> Head:
     """The head of a journal."""
+    place = cursor.at
     if cursor.number(1) != OPEN_GATE:
-        raise NotThisForm("the first gate is closed")
-    profile, bits, length = profile_of(cursor.take(8), JOURNAL), cursor.number(1), cursor.number(4)
+        raise GateClosed("the first gate is closed, so there is no journal", place)
+    profile, bits = profile_of(cursor, JOURNAL), read_bits(cursor)
+    return Head(profile, bits, read_block_bytes(cursor, "the genesis block"))
+
+
+def read_block_bytes(cursor: Cursor, what: str) -> bytes:
+    """A length of four bytes, and the bytes of a block."""
+    place, length = cursor.at, cursor.number(4)
     if length > LONGEST_BLOCK:
-        raise NotThisForm("the genesis block is too long")
-    return Head(profile, bits, cursor.take(length))
+        raise OutOfRange(f"{what} has {length} bytes, and {LONGEST_BLOCK} at most", place)
+    return cursor.take(length)
 
 
 def records_of(cursor: Cursor) -> Iterator[bytes]:
     """The blocks of the records behind a journal's head, up to the closed gate."""
+    count = 1  # genesis
     while cursor.number(1) == OPEN_GATE:
-        yield cursor.take(cursor.number(4))
+        count += 1
+        if count > MOST_BLOCKS:
+            raise OutOfRange(f"more than {MOST_BLOCKS - 1} records stand there", cursor.at - 1)
+        yield read_block_bytes(cursor, "a record's block")
+
+
+def read_journal(data: bytes) -> Journal:
+    """A journal up to its first closed gate. What follows that has no meaning."""
+    cursor = Cursor(data)
+    return Journal(read_journal_head(cursor), list(records_of(cursor)))
+
+
+def read_certificate(data: bytes) -> Certificate:
+    """The fields of a certificate up to its sign. The votes behind it aren't looked at."""
+    cursor = Cursor(data)
+    if cursor.take(8) != CERTIFICATE:
+        raise OtherName("the first eight bytes are those of no certificate", 0)
+    profile = one_of(cursor, 1, PROFILES, "a certificate's profile")
+    count = one_of(cursor, 2, range(1, MOST_BLOCKS + 1), "the number of blocks")
+    blocks = [read_block_bytes(cursor, "a block") for _ in range(count)]
+    x, y = cursor.take(ID), cursor.take(ID)
+    return Certificate(profile, blocks, x, y, ("before", "tie", "after")[one_of(cursor, 1, range(3), "a sign")])
+
+
+def one_of(cursor: Cursor, size: int, allowed: Iterable[int], what: str) -> int:
+    place, number = cursor.at, cursor.number(size)
+    if number not in allowed:
+        raise OutOfRange(f"{number} is no number of {what}", place)
+    return number

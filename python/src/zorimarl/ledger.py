@@ -1,355 +1,221 @@
-"""A ledger of `spectre node FILE` for programs in Python, and as a command.
+"""A node and its journal, for programs in Python.
 
     from zorimarl.ledger import Ledger, genesis, transaction
     with Ledger("payments.journal", genesis([transaction([], [(100, b"alice")])]), bits=8) as ledger:
         ledger.offer(ledger.mine([ledger.genesis_id]))
         print(ledger.report())
 
-`Ledger` keeps the program as a co-process over pipes. Each answer is one that the program wrote; this module
-works out none. A block for which `offer` answers was acknowledged: it stands in FILE, and the next start
-finds it, however the program or the machine ends. What is refused, each fault line and each exit code has
-an error of its own (errors.py). The answers are values with named fields (answers.py); ids and locks are 32
-bytes. The bytes of transactions and blocks are made by formats.py.
+`Ledger` keeps `spectre node FILE` as a co-process over pipes. A block for which `offer` answers was acknowledged:
+it stands in FILE, and the next start finds it, however the program or the machine ends. What is refused, each
+fault line and each exit code has an error of its own (`zorimarl.errors`). Votes, states, balances and reports are
+lines of the program (`zorimarl.answers`); `tips`, `children`, `coins` and `history` are worked out here of the
+program's report and of the kept blocks (`zorimarl.kept`), and so is which of these are present. Ids and locks are
+32 bytes, amounts whole numbers, times seconds.
 
-As a command it answers with one line of JSON for each request, which stands behind FILE or, where none
-does, in the lines of standard input:
-
-    zorimarl-ledger FILE [--genesis HEX] [--bits N] [--profile N] [--fresh] [--timeout S] [REQUEST ..]
-
-    offer HEX      a block's bytes, in hexadecimal digits
-    mine HEX ..    makes and offers a block without transactions on these blocks
-    vote ID ID     tx ID     balance LOCK     balance of WORD     pairs     report
-
-A request that fails is answered by `{"error": NAME, "what": TEXT}`. The status is 0 where all are answered, 1
-where a request was refused or was none, and 2 where the program has ended. `--genesis` is needed where FILE
-is new; `--genesis empty` is the smallest one. bin/spectre is what runs, or the program that the environment
-names as SPECTRE.
-
-This module is outside of what is proved: see docs/USE.md.
+This module is outside of what is proved: see docs/USE.md of the repository.
 """
 
-import argparse
-import json
+from __future__ import annotations
+
 import os
 import secrets
-import sys
-from typing import Any, Callable, Iterable, List, Optional, Type
+import tempfile
+import time
+from typing import Iterable, Iterator, List, Optional
 
-from . import answers
-from .answers import Arrival, Balance, Report, State, Vote
-from .errors import Closed, Ended, LedgerError, NoAnswer, NoGenesis, Unexpected, ended
-from .feeds import (
-    OPEN_GATE,
-    PROFILES,
-    Cursor,
-    Head,
-    NotThisForm,
-    Tx,
-    block,
-    head,
-    lock_of,
-    locked,
-    mined,
-    read_block,
-    read_journal_head,
-    sha256,
-    spelled,
-    transaction,
-)
-from .talk import Path, Talk, hold, is_launcher, name_of, ready
+from . import answers, files, runs
+from .answers import Answered, Arrival, Balance, Report, State, Vote
+from .blocks import MOST_BLOCKS, Coin, Tx, block, genesis, id_of, lock_of, locked, mined, transaction
+from .errors import Full, Misfit, NoRequest, NotReached, Refused
+from .feeds import PROFILES
+from .kept import Block, Entry, Kept
+from .program import Path
+from .session import Session
 
 __all__ = ["Ledger", "genesis", "block", "mined", "transaction", "locked", "lock_of"]
 
-EMPTY = spelled(0, 0, [])  # the smallest genesis block
-LONGEST_HEAD = 14 + 65_536
+STATES = ("accepted", "rejected", "absent")
+NONCES = 1 << 13  # that are tried between two looks at the time
+PAUSE = 0.02  # seconds, where no block has come
 
 
-def genesis(grants: Iterable[Tx] = ()) -> bytes:
-    """A genesis block with these transactions, which spend nothing."""
-    return block(0, [], grants)
-
-
-def found_head(file: Path) -> Optional[Head]:
-    """The head of the journal in a file, or None where the file is empty or isn't there. Where it holds
-    something else, the smallest head: the program then says what is wrong."""
-    try:
-        if not os.path.isfile(file):
-            return None
-        with open(file, "rb") as opened:
-            first = opened.read(LONGEST_HEAD)
-    except OSError:
-        return None
-    if not first:
-        return None
-    try:
-        return read_journal_head(Cursor(first))
-    except NotThisForm:
-        return Head(1, 0, EMPTY)
-
-
-def is_file(file: Path) -> bool:
-    """Whether a name is that of a file, or of none yet: what bin/spectre locks."""
-    name = os.fspath(file)
-    return bool(name) and not name.startswith("-") and (os.path.isfile(name) or not os.path.exists(name))
-
-
-class Ledger:
+class Ledger(Session):
     """A journal with the program that keeps it.
 
     `genesis` is the genesis block's bytes, and `bits` the bits of work; where FILE holds a journal already
     they may be left out, and where they are given they have to be the journal's. `fresh` makes a new journal
-    over other bytes, never over a journal. `timeout` is how many seconds an answer may take. While a
-    ledger is open no other call uses its file, be it one of bin/spectre or of this module: that is `InUse`.
-    It is for one thread at a time.
+    over other bytes, never over a journal. `timeout` is how many seconds a call may take, and each call takes
+    a `timeout` of its own; where it passes, the program is killed, and the call is a `NoAnswer`. `program` is
+    the program or its launcher, where it isn't to be looked for.
+
+    While a ledger is open no other call uses its file, be it one of a launcher or of this class: that is
+    `InUse`. It is for one thread at a time; `zorimarl.aio` has the form for asyncio. A call that is interrupted
+    (by Ctrl-C) ends the program, and `reopen` goes on.
     """
 
-    def __init__(
-        self,
-        file: Path,
-        genesis: Optional[bytes] = None,
-        bits: Optional[int] = None,
-        profile: Optional[int] = None,
-        fresh: bool = False,
-        timeout: Optional[float] = None,
-    ) -> None:
-        self.head = self._head(file, genesis, bits, profile, fresh)
-        self.genesis_id = sha256(self.head.genesis)
-        name, held = ready(), []
-        if not is_launcher(name) and is_file(file):
-            try:
-                held = [hold(file)]
-            except OSError:  # a file that can't be opened: the program says so
-                pass
-        try:
-            words = ["node", *(["--fresh"] if fresh else []), name_of(file, held)]
-            self.talk = Talk(words, timeout, held, name)
-        finally:
-            for each in held:  # the program has it now
-                os.close(each)
-        self.talk.send(head(self.head.genesis, self.head.bits, self.head.profile))
-        self.vote(self.genesis_id, self.genesis_id)  # the start is over once this is answered
-
-    @staticmethod
-    def _head(
-        file: Path, genesis: Optional[bytes], bits: Optional[int], profile: Optional[int], fresh: bool
-    ) -> Head:
-        found = found_head(file)
-        if genesis is None and (found is None or fresh and found.genesis == EMPTY):
-            raise NoGenesis(f"{os.fspath(file)} holds no journal, so a genesis block has to be named")
-        found = found or Head(1, 0, EMPTY)
-        return Head(
-            found.profile if profile is None else profile,
-            found.bits if bits is None else bits,
-            found.genesis if genesis is None else genesis,
-        )
+    @property
+    def left(self) -> int:
+        """How many more blocks can be kept. The program's report says how many are."""
+        found = self.report()
+        return MOST_BLOCKS - found.present - found.waiting
 
     @property
-    def bits(self) -> int:
-        """The bits of work that a block's id has to meet."""
-        return self.head.bits
+    def full(self) -> bool:
+        """Whether no other block can be kept."""
+        return self.left == 0
 
-    @property
-    def profile(self) -> int:
-        return self.head.profile
+    # Blocks
 
-    @property
-    def is_open(self) -> bool:
-        return not self.talk.is_over
-
-    def offer(self, data: bytes) -> Arrival:
+    def offer(self, data: bytes, timeout: Optional[float] = None) -> Arrival:
         """Sends a block's bytes. Once this answers, the block is in the journal. A block that isn't kept is a
         `Refused`, each reason a class of its own."""
-        return answers.offer(self.talk, data)
+        found = self._pipe.one(data, timeout)
+        if isinstance(found, Refused):
+            raise found
+        return found
 
-    def vote(self, x: bytes, y: bytes) -> Vote:
-        """What is said of the order of two blocks."""
-        return answers.vote(self.talk, known(x), known(y))
+    def offer_all(self, blocks: Iterable[bytes], timeout: Optional[float] = None) -> Iterator[Answered]:
+        """Sends blocks one behind the other, and hands on each one's answer, in their order: an `Arrival`, or the
+        `Refused` that `offer` would raise. Blocks are taken ahead of the answers, some thousands or a megabyte
+        of them; where the next block isn't there at once, the answers come first. The ledger can be asked
+        in between. `timeout` is for each answer."""
+        return self._pipe.all(blocks, timeout)
 
-    def tx(self, tx_id: bytes) -> State:
-        """The state of a transaction."""
-        return answers.tx_states(self.talk, [known(tx_id)])[0]
-
-    def balance(self, lock: bytes) -> Balance:
-        """What is left under a lock (`lock_of(word)` is that of a word)."""
-        return answers.balances(self.talk, [known(lock)])[0]
-
-    def pairs(self) -> List[Vote]:
-        """All pairs of different present blocks."""
-        return answers.pairs(self.talk)
-
-    def report(self) -> Report:
-        """How many blocks are present and wait, what is accepted, and what is left."""
-        return answers.report(self.talk)
-
-    def mine(self, parents: Iterable[bytes], txs: Iterable[Tx] = (), salt: Optional[int] = None) -> bytes:
+    def mine(
+        self, parents: Iterable[bytes], txs: Iterable[Tx] = (), salt: Optional[int] = None, timeout: Optional[float] = None
+    ) -> bytes:
         """The bytes of a block on these ones that meets the work, with a random salt where none is given. It
-        isn't sent. Each bit doubles the time; 16 take some tenths of a second."""
+        isn't sent. Each bit doubles the time; 16 take some tenths of a second. `NotReached` where the time passes."""
         made = block(secrets.randbits(64) if salt is None else salt, parents, txs)
-        done = mined(made, self.bits)
-        assert done is not None
-        return done
+        until, first = self.talk.deadline(timeout), 0
+        while True:
+            done = mined(made, self.bits, NONCES, first)
+            if done is not None:
+                return done
+            first += NONCES
+            if until is not None and time.monotonic() > until:
+                raise NotReached(f"none of {first} nonces meets {self.bits} bits of work, and the time has passed", self.file, "a block's work")
 
-    def close(self) -> None:
-        """Ends the program. Where it doesn't end well, that is the error. A ledger that is closed already
-        stays so."""
-        if self.is_open:
-            left = self.talk.finish()
-            if left:
-                raise self.talk.unexpected(left[0], "the end")
+    def wait(
+        self, tx_id: bytes, word: str = "accepted", offers: Iterable[Optional[bytes]] = (), timeout: Optional[float] = None
+    ) -> State:
+        """Offers the blocks that come, one by one, until a transaction is `accepted`, `rejected` or `absent`, as
+        `word` says, and answers its state. A source that has no block just now gives None. Blocks that are
+        refused are passed over; `Full` is an error, since nothing changes then. `NotReached` where the blocks
+        end first, or the time passes, which is looked at between two blocks."""
+        if word not in STATES:
+            raise NoRequest(f"a state is one of {', '.join(STATES)}, and `{word!r:.80}` was given", self.file, "a wait")
+        until, source, count = self.talk.deadline(timeout), iter(offers), 0
+        found = self.tx(tx_id)
+        while found.state != word:
+            is_over = object()
+            data = next(source, is_over)
+            if data is is_over or until is not None and time.monotonic() > until:
+                why = "no other block comes" if data is is_over else "the time has passed"
+                raise NotReached(f"it is {found.state} behind {count} blocks, and {why}", self.file, f"waiting for {word} of {found.tx.hex()}")
+            if data is None:
+                time.sleep(PAUSE)
+            elif self._brings(data):  # type: ignore[arg-type]
+                found = self.tx(tx_id)
+            count += data is not None
+        return found
 
-    def __enter__(self) -> "Ledger":
-        return self
-
-    def __exit__(self, kind: Optional[Type[BaseException]], *_: Any) -> None:
-        if kind is None:
-            self.close()
-        elif self.is_open:
-            try:
-                self.close()
-            except LedgerError:  # the error that is under way says more
-                pass
-
-
-def known(name: bytes) -> bytes:
-    """An id or a lock, which is 32 bytes."""
-    if not isinstance(name, (bytes, bytearray)) or len(name) != 32:
-        raise ValueError("an id or a lock is 32 bytes")
-    return bytes(name)
-
-
-# The command
-
-
-class NoRequest(LedgerError):
-    """Words that are no request."""
-
-
-def hexadecimal(text: str) -> bytes:
-    try:
-        return bytes.fromhex(text)
-    except ValueError:
-        raise NoRequest(f"`{text[:80]}` isn't hexadecimal") from None
-
-
-def identity(text: str) -> bytes:
-    data = hexadecimal(text)
-    if len(data) != 32:
-        raise NoRequest(f"`{text[:80]}` doesn't have 64 digits")
-    return data
-
-
-def request_of(words: List[str]) -> Callable[[Ledger], Any]:
-    """What a request asks of a ledger."""
-    kind, rest = words[0], words[1:]
-    if kind == "offer" and len(rest) == 1:
-        data = hexadecimal(rest[0])
-        return lambda ledger: ledger.offer(data)
-    if kind == "mine" and rest:
-        parents = [identity(each) for each in rest]
-        return lambda ledger: ledger.offer(ledger.mine(parents))
-    if kind == "vote" and len(rest) == 2:
-        x, y = map(identity, rest)
-        return lambda ledger: ledger.vote(x, y)
-    if kind == "tx" and len(rest) == 1:
-        tx = identity(rest[0])
-        return lambda ledger: ledger.tx(tx)
-    if kind == "balance" and (len(rest) == 1 or len(rest) == 2 and rest[0] == "of"):
-        lock = identity(rest[0]) if len(rest) == 1 else lock_of(os.fsencode(rest[1]))
-        return lambda ledger: ledger.balance(lock)
-    if kind == "pairs" and not rest:
-        return Ledger.pairs
-    if kind == "report" and not rest:
-        return Ledger.report
-    raise NoRequest(f"`{' '.join(words)[:80]}` is no request")
-
-
-def plain(value: Any) -> Any:
-    """A value as JSON has it: ids in hexadecimal digits, balances by lock."""
-    if isinstance(value, bytes):
-        return value.hex()
-    if isinstance(value, dict):
-        return {plain(key): plain(each) for key, each in value.items()}
-    if hasattr(value, "_asdict"):
-        return {key: plain(each) for key, each in value._asdict().items()}
-    return [plain(each) for each in value] if isinstance(value, (list, tuple)) else value
-
-
-def show(value: Any) -> None:
-    print(json.dumps(plain(value)), flush=True)
-
-
-def show_error(error: LedgerError) -> int:
-    show({"error": type(error).__name__, "what": str(error)})
-    return 2 if isinstance(error, (Ended, Closed, Unexpected, NoAnswer)) else 1
-
-
-def requests(words: List[str]) -> Iterable[List[str]]:
-    if words:
-        yield words
-        return
-    for line in sys.stdin:
-        if line.split():
-            yield line.split()
-
-
-def serve(ledger: Ledger, words: List[str]) -> int:
-    status = 0
-    for request in requests(words):
+    def _brings(self, data: bytes) -> bool:
+        """Offers a block, and says whether any became present with it."""
         try:
-            show(request_of(request)(ledger))
-        except LedgerError as error:
-            status = max(status, show_error(error))
-            if not ledger.is_open:
-                break
-    return status
+            return self.offer(data).became > 0
+        except Full:
+            raise
+        except Refused:
+            return False
 
+    # Questions
 
-def look(file: Path, fresh: bool) -> None:
-    """Tells before the program is started, which may have to be built first, what it would tell of a file that
-    can't be opened, or that begins as no journal does."""
-    try:
-        with open(file, "rb") as opened:
-            first = opened.read(1)
-    except FileNotFoundError:
-        if not os.path.isdir(os.path.dirname(file) or "."):
-            raise ended(6, said=f"{os.fspath(file)}: there is no such folder") from None
-        return
-    except OSError as why:
-        raise ended(6, said=str(why)) from None
-    if first and first[0] != OPEN_GATE and not fresh:
-        raise ended(7, said=f"{os.fspath(file)} begins as no journal does")
+    def vote(self, x: bytes, y: bytes, timeout: Optional[float] = None) -> Vote:
+        """What is said of the order of two blocks."""
+        return answers.vote(self._settled(), id_of(x), id_of(y), timeout)
 
+    def tx(self, tx_id: bytes, timeout: Optional[float] = None) -> State:
+        """The state of a transaction."""
+        return answers.tx_states(self._settled(), [id_of(tx_id)], timeout)[0]
 
-def main(words: List[str]) -> int:
-    parser = argparse.ArgumentParser(prog="zorimarl-ledger", description="Asks a ledger, and sends it blocks.")
-    parser.add_argument("file", metavar="FILE", help="the journal")
-    parser.add_argument("--genesis", metavar="HEX", help="the genesis block's bytes, or `empty`")
-    parser.add_argument("--bits", type=int, choices=range(65), metavar="N", help="the bits of work, 0 to 64")
-    parser.add_argument("--profile", type=int, choices=sorted(PROFILES), help="the rule on ties")
-    parser.add_argument("--fresh", action="store_true", help="make a new journal over other bytes")
-    parser.add_argument("--timeout", type=float, metavar="S", help="how many seconds an answer may take")
-    parser.add_argument("request", nargs="*", metavar="REQUEST")
-    given = parser.parse_intermixed_args(words)
-    sys.stdin.reconfigure(errors="surrogateescape")  # type: ignore[attr-defined]
-    try:
-        first = EMPTY if given.genesis == "empty" else given.genesis and hexadecimal(given.genesis)
-        if first:
-            read_block(first)
-        if given.request:
-            request_of(given.request)
-        look(given.file, given.fresh)
-        with Ledger(given.file, first, given.bits, given.profile, given.fresh, given.timeout) as ledger:
-            return serve(ledger, given.request)
-    except NotThisForm as why:
-        return show_error(NoGenesis(f"no genesis block: {why}"))
-    except LedgerError as error:
-        return show_error(error)
+    def balance(self, lock: bytes, timeout: Optional[float] = None) -> Balance:
+        """What is left under a lock (`lock_of(word)` is that of a word)."""
+        return answers.balances(self._settled(), [id_of(lock)], timeout)[0]
 
+    def pairs(self, timeout: Optional[float] = None) -> List[Vote]:
+        """All pairs of different present blocks."""
+        return answers.pairs(self._settled(), timeout)
 
-def run() -> int:
-    """The console command."""
-    return main(sys.argv[1:])
+    def report(self, timeout: Optional[float] = None) -> Report:
+        """How many blocks are present and wait, what is accepted, and what is left."""
+        return answers.report(self._settled(), timeout)
 
+    # What is kept
 
-if __name__ == "__main__":
-    sys.exit(run())
+    def blocks(self) -> List[Block]:
+        """The kept blocks in the order in which they were kept, genesis first: those of the journal, and those
+        offered since. Which of them are present is worked out here."""
+        return self._blocks().blocks()
+
+    def block(self, block_id: bytes) -> Block:
+        """A kept block. `NoBlock` where none has this id."""
+        return self._blocks().block(id_of(block_id))
+
+    def tips(self) -> List[Block]:
+        """The present blocks on which no present one stands, as worked out here of the kept blocks."""
+        return self._blocks().tips()
+
+    def children(self, block_id: bytes) -> List[Block]:
+        """The kept blocks that have this one among their parents, as worked out here. The block itself needn't be kept."""
+        return self._blocks().children(id_of(block_id))
+
+    def coins(self, lock: bytes, timeout: Optional[float] = None) -> List[Coin]:
+        """The unspent outputs under a lock, by their outpoints. It is worked out here: the outputs of the
+        transactions that the program's report accepts, without those that one of them spends. Together they
+        come to the program's balance. `coin.opened_by(word)` is one that can be spent."""
+        lock = id_of(lock)
+        return self._reported(found := self.report(timeout)).coins(lock, found.accepted)
+
+    def history(self, lock: bytes, timeout: Optional[float] = None) -> List[Entry]:
+        """The transactions of present blocks that pay to a lock or spend from it, in the order in which these
+        blocks became present. What each receives and spends is worked out here; its state is the program's."""
+        lock = id_of(lock)
+        return self._reported(found := self.report(timeout)).history(lock, found.accepted)
+
+    def _blocks(self) -> Kept:
+        self._settled()
+        if not self.is_open:
+            self.talk.send(b"")  # tells that it is closed
+        if self._pipe.kept is None:
+            journal = files.journal_in(self.path)
+            self._pipe.kept = Kept(journal.head.genesis, journal.blocks)
+        return self._pipe.kept
+
+    def _reported(self, report: Report) -> Kept:
+        """The kept blocks, which have to be as many as the program reports."""
+        kept = self._blocks()
+        here = len(kept.present), len(kept) - len(kept.present)
+        if here != (report.present, report.waiting):
+            told = f"{report.present} blocks are present and {report.waiting} wait by the report, and by the journal {here[0]} and {here[1]}"
+            raise Misfit(told, self.file, "the report")
+        return kept
+
+    # Copies
+
+    def snapshot(self, target: Path) -> None:
+        """Copies the journal while the ledger is open, as `spectre snapshot FILE COPY` does: the copy is a
+        journal with each block whose offer was answered. It takes the place of no other file."""
+        self._settled()
+        files.copy(self.path, target)
+
+    def export(self, profile: Optional[int] = None, timeout: Optional[float] = None) -> bytes:
+        """The feed of the kept blocks, in this profile or in the ledger's own, as `spectre export` writes it
+        for a copy of the journal."""
+        profile = self.profile if profile is None else profile
+        if profile not in PROFILES:
+            raise NoRequest(f"a profile is {' or '.join(map(str, PROFILES))}, and `{profile!r:.80}` was given", self.file, "the export")
+        with tempfile.TemporaryDirectory(prefix="zorimarl.") as folder:
+            copy = os.path.join(folder, "journal")
+            self.snapshot(copy)
+            return runs.run(["export", copy, str(profile)], b"", "the export", timeout, self.program)

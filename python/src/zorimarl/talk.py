@@ -1,99 +1,79 @@
 """One run of the program that is kept as a co-process and answers a feed over pipes, frame by frame."""
 
+from __future__ import annotations
+
 import collections
-import fcntl
 import os
-import pathlib
 import select
 import subprocess
 import tempfile
 import time
-from typing import Deque, List, Optional, Sequence, Union
+import weakref
+from typing import IO, Deque, List, Optional, Sequence, Tuple
 
-from .errors import Closed, InUse, NoAnswer, Unexpected, ended
-from .feeds import frame
+from .errors import Closed, LedgerError, NoAnswer, NotStarted, Unexpected, ended
+from .feeds import END
+from .program import Path, Program, find
 
-Path = Union[str, "os.PathLike[str]"]
-
-LAUNCHER = pathlib.Path(__file__).resolve().parents[3] / "bin" / "spectre"
 PIECE = 1 << 18
 MOST_SAID = 10_000  # bytes of standard error that an error tells
 TO_END = 60.0  # seconds that a program has to end once its output has ended
-
-
-def program() -> str:
-    """The program: bin/spectre, or the one that the environment names as SPECTRE."""
-    return os.environ.get("SPECTRE") or str(LAUNCHER)
-
-
-def is_launcher(name: str) -> bool:
-    """Whether it is bin/spectre, which holds a lock itself."""
-    return os.path.exists(name) and os.path.samefile(name, LAUNCHER)
-
-
-def ready() -> str:
-    """The program, once it is built: where that is bin/spectre's to do, it says on standard error how far it
-    is."""
-    name = program()
-    if is_launcher(name):
-        code = subprocess.run([name, "make", "0", "0", "1"], stdin=subprocess.DEVNULL, stdout=subprocess.DEVNULL).returncode
-        if code:
-            raise ended(code)
-    return name
-
-
-def hold(file: Path, alone: bool = True) -> int:
-    """Opens a file and takes the lock that bin/spectre takes: alone as for `node`, or with others as for
-    `show`. Answers the open file; the lock lasts until it and all that inherit it are closed."""
-    flags = os.O_RDWR | os.O_CREAT | os.O_APPEND if alone else os.O_RDONLY
-    opened = os.open(file, flags | os.O_CLOEXEC, 0o666)
-    try:
-        fcntl.flock(opened, (fcntl.LOCK_EX if alone else fcntl.LOCK_SH) | fcntl.LOCK_NB)
-    except BlockingIOError:
-        os.close(opened)
-        raise InUse(124, said=f"{os.fspath(file)} is in use by another call") from None
-    except OSError:  # a file system that knows no locks, as bin/spectre goes on there, too
-        pass
-    return opened
-
-
-def name_of(file: Path, held: Sequence[int]) -> str:
-    """A name of the very file that is held, where one is: a link of the other name may lead elsewhere by now."""
-    own = f"/dev/fd/{held[0]}" if held else ""
-    return own if own and os.path.exists(own) else os.fspath(file)
+TIMEOUT = 600.0  # seconds that a call may take where no other number is named
 
 
 class Talk:
     """A run of `spectre` with these words. What is sent is written while answers are waited for, so that
-    neither side waits for the other for ever. It is for one thread at a time."""
+    neither side waits for the other for ever. It is for one thread at a time. However it is left, by an error,
+    an interrupt or without a word, the program is ended with it."""
 
     def __init__(
         self,
         words: Sequence[str],
-        timeout: Optional[float] = None,
+        timeout: Optional[float] = TIMEOUT,
         inherit: Sequence[int] = (),
-        name: Optional[str] = None,
+        program: Optional[Program] = None,
+        file: Path = "",
     ) -> None:
-        self.timeout = timeout
+        self.timeout, self.file = timeout, os.fspath(file)
+        self.asked: Tuple[str, Tuple[bytes, ...]] = ("the start", ())
+        self.until = self.deadline(None)
         self.lines: Deque[bytes] = collections.deque()
-        self.rest, self.unsent, self.is_over = b"", b"", False
+        self.rest, self.unsent, self.is_over = b"", bytearray(), False
+        found = program or find()
         self.said = tempfile.TemporaryFile()
-        self.process = subprocess.Popen(
-            [name or program(), *words],
-            stdin=subprocess.PIPE,
-            stdout=subprocess.PIPE,
-            stderr=self.said,
-            bufsize=0,
-            pass_fds=tuple(inherit),
-        )
+        try:
+            self.process = start([found.path, *words], self.said, inherit, self.file if inherit else "")
+        except BaseException as why:
+            self.said.close()
+            if isinstance(why, OSError):
+                raise NotStarted(127, said=f"{found.path}: {why.strerror}").at(self.file, self.request) from None
+            raise
         assert self.process.stdin and self.process.stdout
         self.to, self.out = self.process.stdin, self.process.stdout
+        self.last = weakref.finalize(self, end, self.process, self.said)
         os.set_blocking(self.to.fileno(), False)
+
+    # Asking
+
+    def ask(self, what: str, *names: bytes, timeout: Optional[float] = None) -> None:
+        """A call begins: what errors say of it, and how many seconds it may take."""
+        self.asked = what, names
+        self.until = self.deadline(timeout)
+
+    def deadline(self, timeout: Optional[float]) -> Optional[float]:
+        seconds = self.timeout if timeout is None else timeout
+        return None if seconds is None else time.monotonic() + seconds
+
+    @property
+    def request(self) -> str:
+        """What was asked last."""
+        what, names = self.asked
+        return " ".join([what, *(name.hex() for name in names)])
 
     def send(self, data: bytes) -> None:
         """Sends bytes, the answers to which are taken by `line` or `take`."""
         if self.is_over:
-            raise Closed("the program has ended")
+            raise self.error(Closed("the ledger is closed, or its program has ended"))
         self.unsent += data
 
     def line(self) -> str:
@@ -111,24 +91,27 @@ class Talk:
         return taken
 
     def wait_for(self, count: int) -> None:
-        until = None if self.timeout is None else time.monotonic() + self.timeout
-        while True:
-            if self.lines and self.lines[0].startswith(b"fault "):
-                self.fail()
-            if len(self.lines) >= count:
-                return
-            if self.is_over:
-                raise Closed("the program has ended")
-            if not self.pump(until):
-                self.fail()
+        try:
+            while True:
+                if self.lines and self.lines[0].startswith(b"fault "):
+                    self.fail()
+                if len(self.lines) >= count:
+                    return
+                if self.is_over:
+                    raise self.error(Closed("the ledger is closed, or its program has ended"))
+                if not self.pump(self.until):
+                    self.fail()
+        except LedgerError:
+            raise
+        except BaseException:  # an interrupt: the answer to what was asked may come to another question
+            self.kill()
+            raise
+
+    # The pipes
 
     def pump(self, until: Optional[float]) -> bool:
-        """Writes and reads what can be. False where the output has ended."""
-        left = None if until is None else max(0.0, until - time.monotonic())
-        readable, writable, _ = select.select([self.out], [self.to] if self.unsent else [], [], left)
-        if not readable and not writable:
-            self.kill()
-            raise NoAnswer(f"no answer within {self.timeout} seconds")
+        """Writes and reads what can be, and waits until something can. False where the output has ended."""
+        readable, writable = self.wait_for_pipes(until)
         if writable:
             self.push()
         if readable:
@@ -139,72 +122,132 @@ class Talk:
             return bool(piece)
         return True
 
+    def flow(self) -> None:
+        """Writes what can be written at once."""
+        if not self.is_over:
+            self.push()
+
+    def wait_for_pipes(self, until: Optional[float]) -> Tuple[bool, bool]:
+        waiting = select.poll()
+        waiting.register(self.out, select.POLLIN)
+        if self.unsent:
+            waiting.register(self.to, select.POLLOUT)
+        left = None if until is None else max(0.0, until - time.monotonic())
+        ready = {number for number, _ in waiting.poll(None if left is None else left * 1000)}
+        if not ready:
+            self.kill()
+            raise self.error(NoAnswer("the program answered nothing in time, and was killed"))
+        return self.out.fileno() in ready, bool(self.unsent) and self.to.fileno() in ready
+
     def push(self) -> None:
         try:
-            self.unsent = self.unsent[os.write(self.to.fileno(), self.unsent[:PIECE]) :]
+            del self.unsent[: os.write(self.to.fileno(), memoryview(self.unsent)[:PIECE].tobytes())]
         except BlockingIOError:
             pass
         except BrokenPipeError:  # it has ended, and its output says why
-            self.unsent = b""
+            self.unsent.clear()
+
+    # The end
+
+    def error(self, made: LedgerError) -> LedgerError:
+        return made.at(self.file, self.request)
 
     def fail(self) -> None:
         """The program ends, or has ended: says how."""
-        while self.pump(None):
-            pass
+        self.drain()
         code = self.wait()
         line = self.lines[-1].decode("ascii", "replace") if self.lines else ""
         cut, self.rest = self.rest, b""
+        said = self.told()
         self.release()
-        raise ended(code, line if line.startswith("fault ") else "", cut, self.told())
+        raise self.error(ended(code, line if line.startswith("fault ") else "", cut, said))
+
+    def drain(self) -> None:
+        """Reads to the end of the output."""
+        until = time.monotonic() + TO_END
+        while self.pump(until if self.until is None else max(until, self.until)):
+            pass
 
     def told(self) -> str:
         """What the program said on standard error."""
         self.said.seek(0)
-        text = self.said.read(MOST_SAID).decode("utf-8", "replace")
-        self.said.close()
-        return text
+        return self.said.read(MOST_SAID).decode("utf-8", "replace")
 
-    def finish(self) -> List[str]:
+    def finish(self, timeout: Optional[float] = None) -> List[str]:
         """Sends the frame E, and answers the lines that are left. Where the program doesn't end well, that
         is the error."""
-        self.send(frame(b"E"))
-        while self.pump(None if self.timeout is None else time.monotonic() + self.timeout):
-            pass
-        lines = [line.decode("ascii", "replace") for line in self.lines]
-        code, cut = self.wait(), self.rest
-        self.release()
+        self.ask("the end", timeout=timeout)
+        try:
+            self.send(END)
+            while self.pump(self.until):
+                pass
+            lines = [line.decode("ascii", "replace") for line in self.lines]
+            code, cut = self.wait(), self.rest
+        except LedgerError:
+            raise
+        except BaseException:
+            self.kill()
+            raise
         said = self.told()
+        self.release()
         if code or cut:
             fault = lines[-1] if lines and lines[-1].startswith("fault ") else ""
-            raise ended(code, fault, cut, said)
+            raise self.error(ended(code, fault, cut, said))
         return lines
 
     def wait(self) -> int:
         """The code with which the program ends, now that its output has ended."""
-        self.to.close()
+        close(self.to)
         try:
             return self.process.wait(TO_END)
         except subprocess.TimeoutExpired:
             self.kill()
-            raise NoAnswer(f"the program's output has ended, and it didn't end within {TO_END} seconds") from None
+            raise self.error(NoAnswer("the program's output has ended, and the program didn't; it was killed")) from None
 
     def unexpected(self, line: str, asked: str) -> Unexpected:
         """The error of a line that doesn't answer. The program is killed, since nothing fits any more."""
         self.kill()
-        return Unexpected(f"`{line[:200]}` is no answer to {asked}")
+        made = Unexpected(f"`{line[:200]}` is no answer to {asked}", answer=line)
+        self.error(made)
+        return made
 
     def kill(self) -> None:
-        self.process.kill()
-        self.process.wait()
+        """Ends the program at once, and lets go of all that was open for it."""
         self.release()
-        self.said.close()
 
     def release(self) -> None:
         self.is_over = True
-        self.unsent = b""
+        self.unsent.clear()
         self.lines.clear()
-        for end in (self.to, self.out):
-            try:
-                end.close()
-            except OSError:
-                pass
+        self.rest = b""
+        self.last()
+
+
+def start(words: Sequence[str], said: IO[bytes], inherit: Sequence[int], file: str) -> subprocess.Popen[bytes]:
+    """A run over pipes. The program says what it has to say of a file that it was handed open by this name."""
+    return subprocess.Popen(
+        words,
+        stdin=subprocess.PIPE,
+        stdout=subprocess.PIPE,
+        stderr=said,
+        bufsize=0,
+        pass_fds=tuple(inherit),
+        env={**os.environ, "SPECTRE_FILE": file} if file else None,
+    )
+
+
+def close(opened: Optional[IO[bytes]]) -> None:
+    if opened is not None:
+        try:
+            opened.close()
+        except OSError:
+            pass
+
+
+def end(process: subprocess.Popen[bytes], said: IO[bytes]) -> None:
+    """Kills a program that hasn't ended, and closes what was open for it."""
+    if process.poll() is None:
+        process.kill()
+        process.wait()
+    for opened in (process.stdin, process.stdout, said):
+        close(opened)

@@ -113,7 +113,7 @@ class Watch:
             found = answers.offer(talk, data)
             line, is_kept, became = found.line, found.standing != "known", found.became
         except Refused as why:
-            line, is_kept, became = str(why) if why.why != "full" else "full", False, 0
+            line, is_kept, became = why.answer, False, 0
         told = self.subject.lines
         if told is not None and (number > len(told) or told[number - 1] != line.encode()):
             raise Misfit(f"block {number} of the feed: `{line}` is the answer to it, and another one was before")

@@ -21,7 +21,7 @@ from ..feeds import (
     records_of,
     sha256,
 )
-from ..talk import Path, hold, program, ready
+from ..program import Path, find, hold, ready
 from .scenario import GENESIS, TEXT, lines_of, parents_and_carried, pieces_of
 
 KINDS = ("scenario", "feed", "journal")
@@ -67,7 +67,7 @@ def kind_of(data: bytes) -> str:
 
 def run(words: List[str], data: bytes = b"") -> Tuple[int, bytes]:
     """The status of a run of the program, and what it wrote."""
-    done = subprocess.run([program(), *words], input=data, capture_output=True, check=False)
+    done = subprocess.run([find().path, *words], input=data, capture_output=True, check=False)
     if done.returncode not in TELLING:
         raise ended(done.returncode, said=done.stderr.decode("utf-8", "replace"))
     return done.returncode, done.stdout
@@ -78,7 +78,7 @@ def told(data: bytes) -> Tuple[int, List[bytes], str]:
     with tempfile.TemporaryFile() as given, tempfile.TemporaryFile() as said:
         given.write(data)
         given.seek(0)
-        process = subprocess.Popen([program(), "replay"], stdin=given, stdout=subprocess.PIPE, stderr=said)
+        process = subprocess.Popen([find().path, "replay"], stdin=given, stdout=subprocess.PIPE, stderr=said)
         assert process.stdout
         lines: List[bytes] = []
         last, same = b"", {}  # type: bytes, Dict[bytes, bytes]
