@@ -13,7 +13,7 @@ from typing import Optional
 from .blocks import EMPTY, Cursor
 from .errors import FileFault, NotThisForm, fault_of
 from .feeds import LONGEST_HEAD, Head, Journal, read_journal, read_journal_head
-from .program import Path
+from .program import Path, file_name
 
 PIECE = 1 << 16
 
@@ -26,7 +26,7 @@ def found_head(file: Path) -> Optional[Head]:
             return None
         with open(file, "rb") as opened:
             first = opened.read(LONGEST_HEAD)
-    except (OSError, ValueError):  # a name with a byte 0 in it, too
+    except OSError:
         return None
     if not first:
         return None
@@ -56,7 +56,8 @@ def journal_in(file: Path) -> Journal:
 def copy(file: Path, target: Path) -> None:
     """Copies a journal, also that of a node at work, as `spectre snapshot FILE COPY` does: it gets its name once
     it is whole and synced, and takes the place of no other file."""
-    name, request = os.fspath(target), f"the snapshot {os.fspath(target)}"
+    name = file_name(target)
+    request = f"the snapshot {name}"
     if os.path.lexists(name):
         raise FileFault(f"{name} is there already, and nothing is copied over it", os.fspath(file), request)
     try:

@@ -14,7 +14,7 @@ import shutil
 import subprocess
 from typing import List, NamedTuple, Optional, Sequence, Set, Union
 
-from .errors import InUse, NoProgram, ended
+from .errors import InUse, NoProgram, NoRequest, ended
 
 Path = Union[str, "os.PathLike[str]"]
 
@@ -36,7 +36,7 @@ def find(named: Optional[Path] = None) -> Program:
     """The program that runs. `NoProgram` where there is none, with each place that was looked at."""
     for name, origin in ((named, "the call"), (os.environ.get("SPECTRE"), "the variable SPECTRE")):
         if name:
-            path = shutil.which(os.fspath(name))
+            path = shutil.which(file_name(name))
             if path is None:
                 raise NoProgram(f"{origin} names {os.fspath(name)}, which is no program that can be started")
             return Program(path, is_launcher(path))
@@ -96,6 +96,14 @@ def hold(file: Path, alone: bool = True) -> int:
     except OSError:  # a file system that knows no locks, as the launcher goes on there, too
         pass
     return opened
+
+
+def file_name(file: Path) -> str:
+    """A file's name as text, which has no byte 0."""
+    name = os.fspath(file) if isinstance(file, (str, os.PathLike)) else file
+    if not isinstance(name, str) or "\0" in name:
+        raise NoRequest(f"a file's name is text without a byte 0, and `{file!r:.80}` was given")
+    return name
 
 
 def is_file(file: Path) -> bool:

@@ -16,7 +16,7 @@ from .blocks import EMPTY, number_of, read_block, sha256
 from .errors import FileFault, InUse, LedgerError, NoGenesis, NoRequest, NotThisForm
 from .feeds import MOST_BITS, Head, head
 from .pipe import Pipe
-from .program import Path, Program, held, is_file, name_of, ready
+from .program import Path, Program, file_name, held, is_file, name_of, ready
 from .talk import TIMEOUT, Talk
 
 Opened = TypeVar("Opened", bound="Session")
@@ -35,7 +35,7 @@ class Session:
         timeout: Optional[float] = TIMEOUT,
         program: Optional[Path] = None,
     ) -> None:
-        self.file = os.fspath(file)
+        self.file = file_name(file)
         self.path = os.path.abspath(self.file) if is_file(self.file) else self.file
         self.timeout, self.program, self.fresh = timeout, program, fresh
         self.head = self._head(genesis, bits, profile)
