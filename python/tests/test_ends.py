@@ -169,7 +169,7 @@ def test_reopened(opened: Opener, monkeypatch: pytest.MonkeyPatch) -> None:
     ledger = opened()
     ledger.offer(A)
     os.kill(ledger.talk.process.pid, signal.SIGSTOP)
-    for each in (B, C, A, b"no block"):
+    for each in (B, C, A, b""):
         ledger._pipe.send(each, [])  # type: ignore[arg-type]
     os.kill(ledger.talk.process.pid, signal.SIGKILL)
     with pytest.raises(errors.Killed):

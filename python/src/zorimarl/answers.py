@@ -3,7 +3,7 @@
 from __future__ import annotations
 
 import re
-from typing import Dict, List, NamedTuple, Optional, Tuple, Union
+from typing import Dict, List, Match, NamedTuple, Optional, Pattern, Sequence, Tuple, Union
 
 from . import feeds
 from .errors import REFUSALS, Full, Refused
@@ -183,18 +183,19 @@ def report(talk: Talk, timeout: Optional[float] = None) -> Report:
     talk.ask("the report", timeout=timeout)
     talk.send(frame(feeds.REPORT))
     present, waiting = counts(talk, "blocks", "waiting")
-    (count,) = counts(talk, "accepted")
-    accepted = [STATE.fullmatch(line.decode("ascii", "replace")) or line for line in talk.take(count)]
-    (count,) = counts(talk, "balances")
-    left = [BALANCE.fullmatch(line.decode("ascii", "replace")) or line for line in talk.take(count)]
-    for each in accepted + left:
-        if isinstance(each, bytes):
-            raise talk.unexpected(each.decode("ascii", "replace"), "a report")
-        if each[2] in ("0", "rejected", "absent"):
-            raise talk.unexpected(each[0], "a report")
-    return Report(
-        present,
-        waiting,
-        tuple(bytes.fromhex(str(each[1])) for each in accepted),
-        {bytes.fromhex(str(each[1])): int(each[2]) for each in left},
-    )
+    accepted = listed(talk, "accepted", STATE, ("rejected", "absent"))
+    left = listed(talk, "balances", BALANCE, ("0",))
+    ids = tuple(bytes.fromhex(found[1]) for found in accepted)
+    return Report(present, waiting, ids, {bytes.fromhex(found[1]): int(found[2]) for found in left})
+
+
+def listed(talk: Talk, word: str, form: Pattern[str], never: Sequence[str]) -> List[Match[str]]:
+    """The lines behind that one that says how many there are, none of which ends with these words."""
+    (count,) = counts(talk, word)
+    found = []
+    for line in (each.decode("ascii", "replace") for each in talk.take(count)):
+        read = form.fullmatch(line)
+        if read is None or read[2] in never:
+            raise talk.unexpected(line, "a report")
+        found.append(read)
+    return found
