@@ -1,0 +1,108 @@
+"""A headless Chromium by Selenium and Debian's chromium-driver, for the tests of pages."""
+
+from __future__ import annotations
+
+import json
+import os
+import pathlib
+import shutil
+import time
+from typing import Any, List
+
+import pytest
+
+CHROMES = ("chromium", "chromium-browser", "google-chrome", "google-chrome-stable", "chrome")
+FLAGS = ["--headless=new", "--no-sandbox", "--disable-gpu", "--disable-dev-shm-usage", "--no-first-run", "--disable-extensions", "--hide-scrollbars"]
+
+
+class Browser:
+    """A browser of its own, with one page."""
+
+    def __init__(self, width: int = 1280, height: int = 800) -> None:
+        try:
+            from selenium import webdriver
+            from selenium.webdriver.chrome.service import Service
+        except ImportError:
+            pytest.skip("tests of the page, since there is no selenium: `apt-get install python3-selenium`")
+        chrome = next((found for name in (os.environ.get("CHROMIUM", ""), *CHROMES) if name and (found := shutil.which(name))), None)
+        driver = shutil.which(os.environ.get("CHROMEDRIVER", "chromedriver"))
+        if chrome is None or driver is None:
+            pytest.skip("tests of the page, since there is no Chromium with its driver: `apt-get install chromium chromium-driver`")
+        options = webdriver.ChromeOptions()
+        options.binary_location = chrome
+        for flag in [*FLAGS, f"--window-size={width},{height}"]:
+            options.add_argument(flag)
+        options.set_capability("goog:loggingPrefs", {"browser": "ALL", "performance": "ALL"})
+        self.driver = webdriver.Chrome(service=Service(driver), options=options)
+        self.driver.set_script_timeout(120)
+        self.driver.set_page_load_timeout(120)
+        self.resize(width, height)
+
+    def resize(self, width: int, height: int) -> None:
+        """The page's width and height, whatever the window's frame takes."""
+        metrics = {"width": width, "height": height, "deviceScaleFactor": 1, "mobile": False}
+        self.driver.execute_cdp_cmd("Emulation.setDeviceMetricsOverride", metrics)
+
+    def media(self, scheme: str) -> None:
+        """Light or dark."""
+        self.driver.execute_cdp_cmd("Emulation.setEmulatedMedia", {"features": [{"name": "prefers-color-scheme", "value": scheme}]})
+
+    def open(self, path: str) -> float:
+        """Opens a file, and answers how many seconds that took."""
+        begun = time.monotonic()
+        self.driver.get(pathlib.Path(path).resolve().as_uri())
+        return time.monotonic() - begun
+
+    def js(self, text: str) -> Any:
+        """The value of an expression; that of a promise once it is kept."""
+        return self.driver.execute_script(f"return ({text})")
+
+    def click(self, selector: str, shift: bool = False) -> None:
+        """Presses the mouse in the middle of an element, once that is in sight."""
+        from selenium.webdriver.common.action_chains import ActionChains
+        from selenium.webdriver.common.keys import Keys
+
+        self.js(f"document.querySelector({json.dumps(selector)}).scrollIntoView({{block: 'center', inline: 'center'}})")
+        element = self.driver.find_element("css selector", selector)
+        chain = ActionChains(self.driver, duration=0)
+        if shift:
+            chain.key_down(Keys.SHIFT)
+        chain.move_to_element(element).click()
+        if shift:
+            chain.key_up(Keys.SHIFT)
+        chain.perform()
+
+    def key(self, name: str) -> None:
+        from selenium.webdriver.common.action_chains import ActionChains
+        from selenium.webdriver.common.keys import Keys
+
+        names = {"ArrowLeft": Keys.ARROW_LEFT, "ArrowUp": Keys.ARROW_UP, "ArrowRight": Keys.ARROW_RIGHT, "ArrowDown": Keys.ARROW_DOWN}
+        names.update(Home=Keys.HOME, End=Keys.END, Escape=Keys.ESCAPE, Enter=Keys.ENTER)
+        ActionChains(self.driver, duration=0).send_keys(names.get(name, name)).perform()
+
+    write = key
+
+    def picture(self, path: str) -> None:
+        self.driver.save_screenshot(path)
+
+    def is_in_dialog(self) -> bool:
+        from selenium.common.exceptions import NoAlertPresentException
+
+        try:
+            self.driver.switch_to.alert.dismiss()
+        except NoAlertPresentException:
+            return False
+        return True
+
+    def troubles(self) -> List[str]:
+        """What the page has complained of, and what it has fetched, since it was last asked."""
+        self.js("0")
+        told = [each["message"] for each in self.driver.get_log("browser") if each["level"] in ("SEVERE", "WARNING")]
+        for each in self.driver.get_log("performance"):
+            event = json.loads(each["message"])["message"]
+            if event["method"] == "Network.requestWillBeSent" and not event["params"]["request"]["url"].startswith(("file:", "data:,")):
+                told.append("a request: " + event["params"]["request"]["url"][:100])
+        return told
+
+    def close(self) -> None:
+        self.driver.quit()
