@@ -252,7 +252,7 @@ def many(name: str) -> Tuple[bytes, str]:
     """One of the inputs of 511 blocks, and its kind."""
     if str(EXAMPLES) not in sys.path:
         sys.path.append(str(EXAMPLES))
-    from timing import feeds, graphs
+    from timing import feeds, graphs  # type: ignore[import]
 
     if name == "drawn-511":
         return ran("make", "511", "1", "4"), "scenario"

@@ -5,7 +5,17 @@ one row takes several. Where an arrow passes a row, all arrows to the same paren
 that they join there and part no more.
 """
 
+from __future__ import annotations
+
 from dataclasses import dataclass, field
+from typing import Any, Dict, Hashable, List, Mapping, Sequence, Tuple
+
+# A block has the names of its parents; anything else about it is the caller's.
+Blocks = Mapping[Any, Any]
+Widths = Mapping[Any, float]
+Row = List["Item"]
+Rows = List[Row]
+Edges = List[Tuple["Item", "Item"]]
 
 GAP = 22  # between two neighbours of a row
 WAY_WIDTH = 8  # what an arrow that passes a row takes
@@ -17,39 +27,42 @@ SWEEPS = 12
 class Item:
     """A block in its row, or an arrow's place in a row that it passes (then `block` is None)."""
 
-    block: object
+    block: Any
     width: float
     row: int
-    above: list = field(default_factory=list)
-    below: list = field(default_factory=list)
+    above: Row = field(default_factory=list)
+    below: Row = field(default_factory=list)
     x: float = 0.0  # its middle
     place: int = 0  # in its row, from the left
 
 
 @dataclass
 class Layout:
-    rows: list  # of items, from the left
-    depths: list  # the depth of each row
-    edges: list  # (lower item, upper item)
+    rows: Rows  # of items, from the left
+    depths: List[int]  # the depth of each row
+    edges: Edges  # (lower item, upper item)
 
 
-def depths_of(blocks):
-    depths = {}
+def depths_of(blocks: Blocks) -> Dict[Hashable, int]:
+    depths: Dict[Hashable, int] = {}
     for name, block in blocks.items():
         depths[name] = 1 + max((depths[parent] for parent in block.parents), default=-1)
     return depths
 
 
-def rows_of(blocks, widths):
+def rows_of(blocks: Blocks, widths: Widths) -> Tuple[List[List[Any]], List[int]]:
     """The names in each row and the depth of each row, the layers in order of depth."""
-    depths, rows, row_depths = depths_of(blocks), [], []
+    depths = depths_of(blocks)
+    rows: List[List[Any]] = []
+    row_depths: List[int] = []
     for depth in range(1 + max(depths.values())):
-        row, taken = [], 0
+        row: List[Any] = []
+        taken = 0.0
         for name in (name for name in blocks if depths[name] == depth):
             if row and taken + widths[name] > WIDEST:
                 rows.append(row)
                 row_depths.append(depth)
-                row, taken = [], 0
+                row, taken = [], 0.0
             row.append(name)
             taken += widths[name] + GAP
         rows.append(row)
@@ -57,16 +70,17 @@ def rows_of(blocks, widths):
     return rows, row_depths
 
 
-def link(lower, upper, edges):
+def link(lower: Item, upper: Item, edges: Edges) -> None:
     if upper not in lower.above:
         lower.above.append(upper)
         upper.below.append(lower)
         edges.append((lower, upper))
 
 
-def with_ways(items, rows, blocks):
+def with_ways(items: Mapping[Any, Item], rows: Rows, blocks: Blocks) -> Edges:
     """Joins each block with its parents, through a place in each row between."""
-    ways, edges = {}, []
+    ways: Dict[Tuple[Any, int], Item] = {}
+    edges: Edges = []
     for name, block in blocks.items():
         for parent in block.parents:
             lower = items[name]
@@ -80,7 +94,7 @@ def with_ways(items, rows, blocks):
     return edges
 
 
-def layout_of(blocks, widths):
+def layout_of(blocks: Blocks, widths: Widths) -> Layout:
     """Where blocks stand that have these widths. The time is that of sorting each row a few times."""
     names, depths = rows_of(blocks, widths)
     items = {
@@ -93,7 +107,7 @@ def layout_of(blocks, widths):
     return layout
 
 
-def quick_layout_of(blocks, widths):
+def quick_layout_of(blocks: Blocks, widths: Widths) -> Layout:
     """The same for hundreds of blocks with thousands of arrows, which have no places of their own in the rows
     that they pass. Crossings aren't counted, and the last order of the rows is kept."""
     names, depths = rows_of(blocks, widths)
@@ -111,40 +125,40 @@ def quick_layout_of(blocks, widths):
     return layout
 
 
-def number_places(rows):
+def number_places(rows: Rows) -> None:
     for row in rows:
         for place, item in enumerate(row):
             item.place = place
 
 
-def off_centre(item, row):
+def off_centre(item: Item, row: Row) -> float:
     """How far an item stands from the middle of its row, in places."""
     return item.place - (len(row) - 1) / 2
 
 
-def wanted_place(item, neighbours, rows):
+def wanted_place(item: Item, neighbours: Row, rows: Rows) -> float:
     """How far from the middle its neighbours stand in the mean; without any it stays."""
     around = neighbours or [item]
     return sum(off_centre(other, rows[other.row]) for other in around) / len(around)
 
 
-def sort_row(row, side, rows):
+def sort_row(row: Row, side: str, rows: Rows) -> None:
     """Puts each item where its neighbours on this side stand in the mean."""
     wanted = {id(item): wanted_place(item, getattr(item, side), rows) for item in row}
     row.sort(key=lambda item: wanted[id(item)])
     number_places([row])
 
 
-def sort_rows(rows, sweep):
+def sort_rows(rows: Rows, sweep: int) -> None:
     """Sorts each row by its neighbours on one side, downwards and upwards in turn."""
     downwards = sweep % 2 == 0
     for row in rows if downwards else reversed(rows):
         sort_row(row, "above" if downwards else "below", rows)
 
 
-def crossings(layout):
+def crossings(layout: Layout) -> int:
     """How many pairs of arrows cross between neighbouring rows."""
-    between = {}
+    between: Dict[int, List[Tuple[int, int]]] = {}
     for lower, upper in layout.edges:
         between.setdefault(lower.row, []).append((lower.place, upper.place))
     return sum(
@@ -155,7 +169,7 @@ def crossings(layout):
     )
 
 
-def cost(layout):
+def cost(layout: Layout) -> Tuple[int, float]:
     """What makes an order of the rows bad: crossings, and then arrows that go far aside."""
     rows = layout.rows
     aside = sum(
@@ -165,7 +179,7 @@ def cost(layout):
     return crossings(layout), aside
 
 
-def order_rows(layout):
+def order_rows(layout: Layout) -> None:
     """Sorts the rows by their neighbours, downwards and upwards in turn, and keeps the best order."""
     rows = layout.rows
     number_places(rows)
@@ -180,9 +194,9 @@ def order_rows(layout):
     number_places(rows)
 
 
-def pool(wanted):
+def pool(wanted: Sequence[float]) -> List[float]:
     """The ascending numbers that are nearest to the wanted ones, by pooling neighbours out of order."""
-    pools = []  # (sum, count)
+    pools: List[Tuple[float, int]] = []  # (sum, count)
     for one in wanted:
         total, count = one, 1
         while pools and pools[-1][0] / pools[-1][1] > total / count:
@@ -192,28 +206,28 @@ def pool(wanted):
     return [total / count for total, count in pools for _ in range(count)]
 
 
-def offsets(row):
+def offsets(row: Row) -> List[float]:
     """The least distance of each item's middle from the first one's."""
-    found, at = [], 0.0
-    for before, item in zip([None] + row, row):
-        at += (before.width + item.width) / 2 + GAP if before else 0.0
+    found, at = [0.0] * bool(row), 0.0
+    for before, item in zip(row, row[1:]):
+        at += (before.width + item.width) / 2 + GAP
         found.append(at)
     return found
 
 
-def place_row(row, wanted):
+def place_row(row: Row, wanted: Sequence[float]) -> None:
     """Puts the items as near to the wanted middles as their order and widths let them."""
     least = offsets(row)
     for item, offset, base in zip(row, least, pool([x - offset for x, offset in zip(wanted, least)])):
         item.x = base + offset
 
 
-def mean_x(item):
+def mean_x(item: Item) -> float:
     around = item.above + item.below
     return sum(other.x for other in around) / len(around) if around else item.x
 
 
-def space_rows(layout):
+def space_rows(layout: Layout) -> None:
     """Moves the items of each row towards the middle of their neighbours, a few times over."""
     for row in layout.rows:
         half = offsets(row)[-1] / 2
