@@ -88,7 +88,8 @@ def try_mypy(scripts: list[str], cache: str) -> None:
     for top, beside in BESIDE.items():
         names = [name for name in scripts if pathlib.PurePath(name).parts[0] == top]
         env = {**os.environ, "MYPYPATH": ":".join(beside)}
-        words = ["mypy", "--strict", "--follow-imports=silent", "--config-file=", f"--cache-dir={cache}/{top}", "--scripts-are-modules", "--hide-error-context", "--no-error-summary", *names]
+        words = ["mypy", "--strict", "--config-file=", "--follow-imports=silent", f"--cache-dir={cache}/{top}"]
+        words += ["--scripts-are-modules", "--hide-error-context", "--no-error-summary", *names]
         done = call(words, seconds=300, cwd=ROOT, env=env)
         said = done.stdout.decode().splitlines()
         for name in names:

@@ -51,7 +51,8 @@ def test_what_is_kept(file: str, tmp_path: object) -> None:
 
 def test_errors(file: str) -> None:
     assert run_on(file, "report") == (1, [{"error": "NoGenesis", "what": f"{file}: the start: it holds no journal, so a genesis block has to be named"}])
-    lines = "offer 01\nhello\ntx 12\nvote zz zz\noffer zz\nreport\nexport 3\nblock\ncoins of\nreport more\nbalance of a b\nmine\n" + f"block {ID_A.hex()}\nsnapshot {file}\n"
+    lines = "offer 01\nhello\ntx 12\nvote zz zz\noffer zz\nreport\nexport 3\nblock\ncoins of\nreport more\nbalance of a b\nmine\n"
+    lines += f"block {ID_A.hex()}\nsnapshot {file}\n"
     status, found = run_on(file, "--genesis", "empty", given=lines)
     told = [each.get("error") for each in found]
     assert (status, told) == (1, ["BlockShort"] + ["NoRequest"] * 4 + [None] + ["NoRequest"] * 6 + ["NoBlock", "FileFault"])

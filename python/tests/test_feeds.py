@@ -107,7 +107,11 @@ def test_feeds_read_as_made(first: Head, blocks: List[bytes]) -> None:
     assert all(made[each.place : each.place + 1] == b"B" for each in frames)
 
 
-@given(st.sampled_from([read_block, read_feed, read_journal, read_certificate]), st.binary(max_size=300), st.sampled_from([b"", A, head(START), JOURNAL[:40], b"SPCTRC01\x01\x01\0"]))
+READERS = [read_block, read_feed, read_journal, read_certificate]
+BEGINNINGS = [b"", A, head(START), JOURNAL[:40], b"SPCTRC01\x01\x01\0"]
+
+
+@given(st.sampled_from(READERS), st.binary(max_size=300), st.sampled_from(BEGINNINGS))
 def test_any_bytes(read: Callable[[bytes], object], data: bytes, before: bytes) -> None:
     """No bytes are the cause of another error, and the place lies within them."""
     try:

@@ -48,7 +48,8 @@ def test_none(tmp_path: pathlib.Path) -> None:
     """Each place stands in what is said."""
     shutil.copytree(ROOT / "python/src/zorimarl", tmp_path / "zorimarl")
     said = found_by(tmp_path, PATH="/nowhere:/neither")
-    assert said == "there is no program spectre: the variable SPECTRE isn't set; this package stands in no checkout of the repository; no folder of the PATH has spectre: /nowhere:/neither"
+    places = "the variable SPECTRE isn't set; this package stands in no checkout of the repository; no folder of the PATH has spectre"
+    assert said == f"there is no program spectre: {places}: /nowhere:/neither"
     assert found_by(tmp_path, SPECTRE="/no/such") == "the variable SPECTRE names /no/such, which is no program that can be started"
     (tmp_path / "plain").write_text("")
     for name in (tmp_path / "plain", tmp_path):

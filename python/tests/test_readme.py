@@ -17,7 +17,8 @@ from zorimarl.feeds import block, genesis, sha256, transaction
 from zorimarl.ledger import Ledger
 
 README = (ROOT / "python" / "README.md").read_text(encoding="utf-8")
-CODE = re.findall(r"^```python\n(.*?)^```", README, re.MULTILINE | re.DOTALL)
+USE = (ROOT / "docs" / "USE.md").read_text(encoding="utf-8")
+CODE = re.findall(r"^```python\n(.*?)^```", README + USE, re.MULTILINE | re.DOTALL)
 BOB = sha256(b"bob's").hex()
 # What each of them prints, by its own remarks.
 PRINTED: List[List[str]] = [
@@ -25,15 +26,17 @@ PRINTED: List[List[str]] = [
     ["5", "accepted 105 0", "accepted 0 100"],
     [r".*many\.journal: .*the offer of block [0-9a-f]{64}: the program ended with signal 9", r"101 \[.*refused version.*\]", "101 411"],
     ["accepted"],
-    ["before", "True", f"balance {BOB} from 0 to 100", f"balance {BOB} from 100 to 0", "vote .* from absent to tie", f"balance {BOB} from 0 to 100", "vote .* from tie to before", "held balance .*", "held vote .*"],
+    ["before", "True", f"balance {BOB} from 0 to 100", f"balance {BOB} from 100 to 0", "vote .* from absent to tie"]
+    + [f"balance {BOB} from 0 to 100", "vote .* from tie to before", "held balance .*", "held vote .*"],
+    ["accepted"],  # that of docs/USE.md
 ]
 
 
-def test_there_are_five() -> None:
-    assert len(CODE) == len(PRINTED) == 5
+def test_there_are_six() -> None:
+    assert len(CODE) == len(PRINTED) == 6
 
 
-@pytest.mark.parametrize("number", range(5))
+@pytest.mark.parametrize("number", range(6))
 def test_examples(number: int, tmp_path: pathlib.Path) -> None:
     done = subprocess.run([sys.executable, "-c", CODE[number]], cwd=tmp_path, capture_output=True, text=True, check=False)
     assert done.returncode == 0 and done.stderr == "", done.stderr
