@@ -11,6 +11,7 @@ import pytest
 
 from samples import A, G, GRANT, ID_A, START, TO_BOB
 from zorimarl.blocks import lock_of
+from zorimarl.command import REQUESTS
 from zorimarl.feeds import Head, feed, read_feed
 from zorimarl.ledger import Ledger
 
@@ -61,6 +62,11 @@ def test_errors(file: str) -> None:
     assert json.loads(done.stdout.splitlines()[1])["lock"] == lock_of(b"\xff").hex()
     status, found = run_on(file, "--bits", "9", "report")
     assert (status, found[0]["error"]) == (2, "OtherChain")
+
+
+def test_help_lists_each_request() -> None:
+    done = subprocess.run([*COMMAND, "--help"], capture_output=True, text=True, check=False)
+    assert done.returncode == 0 and all(f" {name} " in done.stdout or f"{name}\n" in done.stdout for name in REQUESTS)
 
 
 def test_no_program(file: str, monkeypatch: pytest.MonkeyPatch) -> None:

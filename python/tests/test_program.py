@@ -12,7 +12,7 @@ import pytest
 
 from samples import LAUNCHER, ROOT
 from zorimarl import errors
-from zorimarl.program import Program, beside, find, is_launcher, ready
+from zorimarl.program import Program, find, is_launcher, ready
 
 
 def script(path: pathlib.Path, text: str = "exit 0") -> str:
@@ -60,7 +60,7 @@ def test_none(tmp_path: pathlib.Path) -> None:
 
 
 def test_launchers(tmp_path: pathlib.Path) -> None:
-    assert is_launcher(str(LAUNCHER)) and beside() == str(LAUNCHER)
+    assert is_launcher(str(LAUNCHER))
     (tmp_path / "link").symlink_to(LAUNCHER)
     assert is_launcher(str(tmp_path / "link"))
     assert not is_launcher(script(tmp_path / "script")) and not is_launcher(sys.executable) and not is_launcher("/no/such")

@@ -169,7 +169,8 @@ def look(file: Path, fresh: bool) -> None:
 
 
 def main(words: List[str]) -> int:
-    parser = argparse.ArgumentParser(prog="zorimarl-ledger", description="Asks a ledger, and sends it blocks.")
+    form = argparse.RawDescriptionHelpFormatter
+    parser = argparse.ArgumentParser(prog="zorimarl-ledger", description="Asks a ledger, and sends it blocks.", epilog=__doc__, formatter_class=form)
     parser.add_argument("file", metavar="FILE", help="the journal")
     parser.add_argument("--genesis", metavar="HEX", help="the genesis block's bytes, or `empty`")
     parser.add_argument("--bits", type=int, choices=range(65), metavar="N", help="the bits of work, 0 to 64")
