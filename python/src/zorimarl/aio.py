@@ -144,8 +144,10 @@ class Ledger:
                 data = await source.__anext__()
             except StopAsyncIteration:
                 return await self._call(self._ledger.wait, tx_id, word)
+            offered = asyncio.ensure_future(self.offer(data))
+            offered.add_done_callback(take)
             try:
-                await self.offer(data)
+                await asyncio.shield(offered)  # a block that was taken is offered, also where the time passes meanwhile
             except Full:
                 raise
             except Refused:
@@ -223,6 +225,12 @@ class Ledger:
             await asyncio.shield(self.close())
         except LedgerError:  # the error that is under way says more
             pass
+
+
+def take(offered: "asyncio.Future[Arrival]") -> None:
+    """Takes an answer that nobody may wait for any more."""
+    if not offered.cancelled():
+        offered.exception()
 
 
 def end(made: "concurrent.futures.Future[plain.Ledger]") -> None:

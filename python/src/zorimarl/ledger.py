@@ -105,19 +105,25 @@ class Ledger(Session):
         end first, or the time passes, which is looked at between two blocks."""
         if word not in STATES:
             raise NoRequest(f"a state is one of {', '.join(STATES)}, and `{word!r:.80}` was given", self.file, "a wait")
-        until, source, count = self.talk.deadline(timeout), iter(offers), 0
-        found = self.tx(tx_id)
+        until, count, found = self.talk.deadline(timeout), 0, self.tx(tx_id)
+        source, why = iter(offers), ""
         while found.state != word:
-            is_over = object()
-            data = next(source, is_over)
-            if data is is_over or until is not None and time.monotonic() > until:
-                why = "no other block comes" if data is is_over else "the time has passed"
+            data = None
+            if until is not None and time.monotonic() > until:
+                why = "the time has passed"
+            else:
+                try:
+                    data = next(source)
+                except StopIteration:
+                    why = "no other block comes"
+            if why:
                 raise NotReached(f"it is {found.state} behind {count} blocks, and {why}", self.file, f"waiting for {word} of {found.tx.hex()}")
             if data is None:
                 time.sleep(PAUSE)
-            elif self._brings(data):  # type: ignore[arg-type]
+                continue
+            count += 1
+            if self._brings(data):
                 found = self.tx(tx_id)
-            count += data is not None
         return found
 
     def _brings(self, data: bytes) -> bool:
