@@ -15,7 +15,7 @@ import sys
 from typing import AsyncIterator, Dict, List, Tuple
 
 from zorimarl.aio import Ledger
-from zorimarl.errors import Ended, LedgerError, Refused
+from zorimarl.errors import LedgerError, Refused
 from zorimarl.feeds import lock_of
 
 DEEP = 2  # so many blocks stand on the one that pays before it counts
@@ -55,9 +55,11 @@ async def serve(journal: str, folder: pathlib.Path, price: int, orders: List[str
                 await ledger.offer(path.read_bytes())
             except Refused as why:
                 print(f"refused {path.stem}: {why.answer}", flush=True)
-            except Ended as why:  # go on from the journal, where the block may stand already
+            except LedgerError as why:
+                if ledger.is_open:
+                    raise
                 print(f"again, since {why}", file=sys.stderr)
-                await ledger.reopen()
+                await ledger.reopen()  # from the journal; it sends again what wasn't answered
             path.unlink()
             for order, (lock, was) in locks.items():
                 now = await is_paid(ledger, lock, price)
