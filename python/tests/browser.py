@@ -2,6 +2,7 @@
 
 from __future__ import annotations
 
+import importlib
 import json
 import os
 import pathlib
@@ -15,13 +16,17 @@ CHROMES = ("chromium", "chromium-browser", "google-chrome", "google-chrome-stabl
 FLAGS = ["--headless=new", "--no-sandbox", "--disable-gpu", "--disable-dev-shm-usage", "--no-first-run", "--disable-extensions", "--hide-scrollbars"]
 
 
+def module(name: str) -> Any:
+    """A module of Selenium's, which has no types."""
+    return importlib.import_module(name)
+
+
 class Browser:
     """A browser of its own, with one page."""
 
     def __init__(self, width: int = 1280, height: int = 800) -> None:
         try:
-            from selenium import webdriver
-            from selenium.webdriver.chrome.service import Service
+            webdriver = module("selenium.webdriver")
         except ImportError:
             pytest.skip("tests of the page, since there is no selenium: `apt-get install python3-selenium`")
         chrome = next((found for name in (os.environ.get("CHROMIUM", ""), *CHROMES) if name and (found := shutil.which(name))), None)
@@ -33,7 +38,7 @@ class Browser:
         for flag in [*FLAGS, f"--window-size={width},{height}"]:
             options.add_argument(flag)
         options.set_capability("goog:loggingPrefs", {"browser": "ALL", "performance": "ALL"})
-        self.driver = webdriver.Chrome(service=Service(driver), options=options)
+        self.driver = webdriver.Chrome(service=module("selenium.webdriver.chrome.service").Service(driver), options=options)
         self.driver.set_script_timeout(120)
         self.driver.set_page_load_timeout(120)
         self.resize(width, height)
@@ -57,28 +62,27 @@ class Browser:
         """The value of an expression; that of a promise once it is kept."""
         return self.driver.execute_script(f"return ({text})")
 
+    def actions(self) -> Any:
+        """Of the mouse and the keys, with no time between."""
+        return module("selenium.webdriver.common.action_chains").ActionChains(self.driver, duration=0)
+
     def click(self, selector: str, shift: bool = False) -> None:
         """Presses the mouse in the middle of an element, once that is in sight."""
-        from selenium.webdriver.common.action_chains import ActionChains
-        from selenium.webdriver.common.keys import Keys
-
         self.js(f"document.querySelector({json.dumps(selector)}).scrollIntoView({{block: 'center', inline: 'center'}})")
         element = self.driver.find_element("css selector", selector)
-        chain = ActionChains(self.driver, duration=0)
+        chain, keys = self.actions(), module("selenium.webdriver.common.keys").Keys
         if shift:
-            chain.key_down(Keys.SHIFT)
+            chain.key_down(keys.SHIFT)
         chain.move_to_element(element).click()
         if shift:
-            chain.key_up(Keys.SHIFT)
+            chain.key_up(keys.SHIFT)
         chain.perform()
 
     def key(self, name: str) -> None:
-        from selenium.webdriver.common.action_chains import ActionChains
-        from selenium.webdriver.common.keys import Keys
-
-        names = {"ArrowLeft": Keys.ARROW_LEFT, "ArrowUp": Keys.ARROW_UP, "ArrowRight": Keys.ARROW_RIGHT, "ArrowDown": Keys.ARROW_DOWN}
-        names.update(Home=Keys.HOME, End=Keys.END, Escape=Keys.ESCAPE, Enter=Keys.ENTER)
-        ActionChains(self.driver, duration=0).send_keys(names.get(name, name)).perform()
+        keys = module("selenium.webdriver.common.keys").Keys
+        names = {"ArrowLeft": keys.ARROW_LEFT, "ArrowUp": keys.ARROW_UP, "ArrowRight": keys.ARROW_RIGHT, "ArrowDown": keys.ARROW_DOWN}
+        names.update(Home=keys.HOME, End=keys.END, Escape=keys.ESCAPE, Enter=keys.ENTER)
+        self.actions().send_keys(names.get(name, name)).perform()
 
     write = key
 
@@ -86,11 +90,9 @@ class Browser:
         self.driver.save_screenshot(path)
 
     def is_in_dialog(self) -> bool:
-        from selenium.common.exceptions import NoAlertPresentException
-
         try:
             self.driver.switch_to.alert.dismiss()
-        except NoAlertPresentException:
+        except module("selenium.common.exceptions").NoAlertPresentException:
             return False
         return True
 

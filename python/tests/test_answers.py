@@ -4,7 +4,7 @@ from __future__ import annotations
 
 import copy
 import pickle
-from typing import Type
+from typing import Callable, List, Type
 
 import pytest
 
@@ -87,7 +87,8 @@ def test_votes(opened: Opener) -> None:
 def test_no_ids(opened: Opener, name: bytes) -> None:
     """What isn't 32 bytes is never sent, and is an error of the package."""
     with opened() as ledger:
-        for ask in (ledger.tx, ledger.balance, ledger.block, ledger.children, ledger.coins, ledger.history):
+        asks: List[Callable[[bytes], object]] = [ledger.tx, ledger.balance, ledger.block, ledger.children, ledger.coins, ledger.history]
+        for ask in asks:
             with pytest.raises(errors.NoRequest):
                 ask(name)
         with pytest.raises(errors.NoRequest):

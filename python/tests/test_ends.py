@@ -4,6 +4,7 @@ from __future__ import annotations
 
 import os
 import signal
+from typing import Callable, List
 
 import pytest
 
@@ -136,7 +137,8 @@ def answering(lines: str) -> str:
 )
 def test_other_answers(opened: Opener, lines: str) -> None:
     with instead(answering(lines)):
-        for ask in (Ledger.report, Ledger.pairs, lambda ledger: ledger.balance(G)):
+        asks: List[Callable[[Ledger], object]] = [Ledger.report, Ledger.pairs, lambda ledger: ledger.balance(G)]
+        for ask in asks:
             with pytest.raises(errors.Unexpected):
                 ask(opened())
 

@@ -25,8 +25,8 @@ def made_without_network(folder: pathlib.Path) -> Dict[str, str]:
     source = folder / "source"
     shutil.copytree(ROOT / "python", source, ignore=shutil.ignore_patterns("build", "*.egg-info", "__pycache__"))
     base = os.path.realpath(sys.executable)
-    subprocess.run([base, "-m", "venv", "--system-site-packages", "--without-pip", folder / "venv"], env=env, check=True)
-    words = [f"{folder}/venv/bin/python", "-m", "pip", "install", "--no-build-isolation", "--no-index", "--quiet", source]
+    subprocess.run([base, "-m", "venv", "--system-site-packages", "--without-pip", f"{folder}/venv"], env=env, check=True)
+    words = [f"{folder}/venv/bin/python", "-m", "pip", "install", "--no-build-isolation", "--no-index", "--quiet", str(source)]
     done = subprocess.run(words, env=env, capture_output=True, text=True, check=False)
     assert done.returncode == 0, done.stderr
     for name in ("bin", "lib/spectre"):

@@ -14,7 +14,7 @@ import pathlib
 import subprocess
 import sys
 import time
-from typing import Dict, Iterator, List, Tuple
+from typing import Dict, Iterator, List, Sequence, Tuple
 
 import pytest
 
@@ -236,7 +236,7 @@ def test_511(page: Shown, name: str, capsys: pytest.CaptureFixture[str]) -> None
     with capsys.disabled():
         print(f"\n{name}: a page of {os.path.getsize(page.path):,} bytes in {made:.1f} s, open after {first:.2f} s; the slowest step takes {slowest:.2f} s")
     see(f"{name}: each step within {QUICK} s", slowest < QUICK)
-    asked = {at: [frame(b"V", bytes.fromhex(chosen + each)) for each in shown] for at, (_, chosen, shown, _) in looked.items()}
+    asked: Dict[int, Sequence[bytes]] = {at: [frame(b"V", bytes.fromhex(chosen + each)) for each in shown] for at, (_, chosen, shown, _) in looked.items()}
     for at, (words, counts) in truth.at_stops(asked).items():
         number, _, shown, counted = looked[at]
         compare_words(name, at, number, shown, words)
