@@ -66,6 +66,7 @@ class Report(NamedTuple):
 # Blocks
 
 Answered = Union[Arrival, Refused]
+OFFER = "the offer of block"
 
 
 def cut(block: bytes) -> bytes:
@@ -78,7 +79,7 @@ def offer(talk: Talk, block: bytes, timeout: Optional[float] = None) -> Arrival:
     """Sends a block. Where it isn't kept, that is its refusal's error."""
     block = cut(block)
     block_id = sha256(block)
-    talk.ask("the offer of block", block_id, timeout=timeout)
+    talk.ask(OFFER, block_id, timeout=timeout)
     talk.send(frame(feeds.BLOCK, block))
     found = read_arrival(talk, talk.line(), block_id)
     if isinstance(found, Refused):
@@ -88,6 +89,8 @@ def offer(talk: Talk, block: bytes, timeout: Optional[float] = None) -> Arrival:
 
 def read_arrival(talk: Talk, line: str, block_id: bytes) -> Answered:
     """The answer to a block, or its refusal."""
+    if line == f"known {block_id.hex()}":  # what many offers are answered by
+        return Arrival(block_id, "known", 0, line)
     if line == "full":
         return refusal(talk, Full(line, block_id))
     if line.startswith("refused "):
@@ -101,7 +104,7 @@ def read_arrival(talk: Talk, line: str, block_id: bytes) -> Answered:
 
 
 def refusal(talk: Talk, made: Refused) -> Refused:
-    made.file, made.request = talk.file, f"the offer of block {made.block.hex()}"
+    made.file, made.request = talk.file, f"{OFFER} {made.block.hex()}"
     return made
 
 

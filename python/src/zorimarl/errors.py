@@ -8,6 +8,7 @@ another error than these.
 
 from __future__ import annotations
 
+import functools
 from typing import Dict, List, Optional, Type, TypeVar
 
 Error = TypeVar("Error", bound="LedgerError")
@@ -121,6 +122,7 @@ class Surplus(NotThisForm):
 # Refusals
 
 
+@functools.lru_cache(maxsize=None)
 def first_sentence(named: type) -> str:
     """What the text of a class says first."""
     return (named.__doc__ or "").split(". ")[0].split(".\n")[0].strip(" .\n")

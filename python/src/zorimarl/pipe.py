@@ -7,7 +7,7 @@ import collections
 import time
 from typing import Deque, Iterable, Iterator, List, NamedTuple, Optional
 
-from .answers import Answered, cut, read_arrival
+from .answers import OFFER, Answered, cut, read_arrival
 from .blocks import bytes_of, sha256
 from .errors import Refused
 from .feeds import BLOCK, frame
@@ -53,20 +53,27 @@ class Pipe:
         self.kept: Optional[Kept] = None
         self.sent: Deque[Sent] = collections.deque()
         self.size = 0  # bytes of these
+        self.tried = 0  # bytes that couldn't be written yet when that was tried last
 
     def send(self, data: bytes, answers: Deque[Answered]) -> None:
         block = cut(bytes_of(data, "a block"))
         self.talk.send(frame(BLOCK, block))
         self.sent.append(Sent(sha256(block), block, answers))
         self.size += len(block)
-        if len(self.talk.unsent) > WORTH_WRITING:
+        waiting = len(self.talk.unsent)
+        self.tried = min(self.tried, waiting)
+        if waiting - self.tried > WORTH_WRITING:
             self.talk.flow()
+            self.tried = len(self.talk.unsent)
 
     def answer(self, timeout: Optional[float] = None) -> None:
         """Takes the answer to the first block that isn't answered."""
-        sent = self.sent[0]
-        self.talk.ask("the offer of block", sent.id, timeout=timeout)
-        found = read_arrival(self.talk, self.talk.line(), sent.id)
+        sent, talk = self.sent[0], self.talk
+        if talk.lines:  # there already, and what is asked of the clock takes longer than to take it
+            talk.asked = OFFER, (sent.id,)
+        else:
+            talk.ask(OFFER, sent.id, timeout=timeout)
+        found = read_arrival(talk, talk.line(), sent.id)
         self.sent.popleft()
         self.size -= len(sent.data)
         if self.kept is not None and not isinstance(found, Refused) and found.standing != "known":
