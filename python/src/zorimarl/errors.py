@@ -123,9 +123,9 @@ class Surplus(NotThisForm):
 
 
 @functools.lru_cache(maxsize=None)
-def first_sentence(named: type) -> str:
+def first_sentence(text: str) -> str:
     """What the text of a class says first."""
-    return (named.__doc__ or "").split(". ")[0].split(".\n")[0].strip(" .\n")
+    return text.split(". ")[0].split(".\n")[0].strip(" .\n")
 
 
 class Refused(LedgerError):
@@ -134,7 +134,7 @@ class Refused(LedgerError):
     why = ""
 
     def __init__(self, answer: str = "", block: bytes = b"") -> None:
-        super().__init__(": ".join(filter(None, [f"`{answer}`", first_sentence(type(self))])), answer=answer)
+        super().__init__(": ".join(filter(None, [f"`{answer}`", first_sentence(type(self).__doc__ or "")])), answer=answer)
         self.block = block
         self.args = (answer, block)
 
