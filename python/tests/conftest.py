@@ -6,11 +6,16 @@ import pathlib
 from typing import Callable, Iterator, List
 
 import pytest
+from hypothesis import HealthCheck, settings
 
 from samples import START
 from zorimarl.ledger import Ledger
 
 Opener = Callable[..., Ledger]
+
+# A machine may be busy: no test hangs on how quickly another draw is made.
+settings.register_profile("busy", deadline=None, suppress_health_check=list(HealthCheck))
+settings.load_profile("busy")
 
 
 @pytest.fixture

@@ -133,7 +133,7 @@ def test_waiting(file: str) -> None:
                 await ledger.wait(TO_BOB.id, "accepted", timeout=5)
             with pytest.raises(errors.NotReached):
                 await ledger.wait(TO_BOB.id, "accepted", blocks_of(B, pause=3), timeout=0.1)
-            found = await ledger.wait(TO_BOB.id, "rejected", blocks_of(A, b"", B, C), timeout=30)
+            found = await ledger.wait(TO_BOB.id, "rejected", blocks_of(A, b"", B, C), timeout=300)
             assert found.state == "rejected" and (await ledger.report()).present == 3
             assert (await ledger.wait(TO_BOB.id, "accepted", blocks_of(C))).state == "accepted"
             with pytest.raises(errors.NoRequest):

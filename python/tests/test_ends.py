@@ -53,11 +53,16 @@ def test_killed(opened: Opener, file: str) -> None:
 
 
 def test_stopped(opened: Opener) -> None:
-    ledger = opened(timeout=0.3)
+    ledger = opened()
+    os.kill(ledger.talk.process.pid, signal.SIGSTOP)
+    with pytest.raises(errors.NoAnswer):
+        ledger.report(timeout=0.3)
+    assert ledger.reopen() == [] and ledger.report().present == 1
+    ledger.talk.timeout = 0.1
     os.kill(ledger.talk.process.pid, signal.SIGSTOP)
     with pytest.raises(errors.NoAnswer):
         ledger.report()
-    assert ledger.reopen() == [] and ledger.report(timeout=60).present == 1
+    ledger.reopen()
     os.kill(ledger.talk.process.pid, signal.SIGSTOP)
     with pytest.raises(errors.NoAnswer):
         ledger.close(timeout=0.1)
@@ -73,8 +78,8 @@ def test_interrupted(opened: Opener) -> None:
     before = signal.signal(signal.SIGALRM, interrupt)
     try:
         os.kill(ledger.talk.process.pid, signal.SIGSTOP)
-        signal.setitimer(signal.ITIMER_REAL, 0.2)
         with pytest.raises(KeyboardInterrupt):
+            signal.setitimer(signal.ITIMER_REAL, 0.5)
             ledger.offer(A)
     finally:
         signal.signal(signal.SIGALRM, before)
