@@ -213,7 +213,7 @@ def test_a_journal_that_went(opened: Opener, file: str) -> None:
 
 
 def test_killed_in_the_midst(opened: Opener) -> None:
-    """Of 200 blocks that are on their way each comes to be kept, once, wherever the program is killed."""
+    """Of 60 blocks that are on their way each comes to be kept, once, wherever the program is killed."""
     blocks = [block(salt, [G]) for salt in range(60)]
     ledger, answered = opened(), 0
     source = iter(ledger.offer_all(blocks))
@@ -225,6 +225,7 @@ def test_killed_in_the_midst(opened: Opener) -> None:
     with pytest.raises(errors.Killed):
         for each in source:
             answered += 1
+        ledger.report()  # where all was answered by then
     assert answered >= 7
     again = ledger.reopen()
     assert answered + len(again) == len(blocks)
