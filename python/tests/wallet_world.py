@@ -3,7 +3,7 @@
 from pathlib import Path
 from typing import List, Optional, Sequence, Tuple
 
-from zorimarl.feeds import Coin, Cursor, Tx, lock_of, locked, read_tx, sha256, spelled
+from zorimarl.feeds import Coin, Cursor, Tx, frame, head, lock_of, locked, read_tx, sha256, spelled
 from zorimarl.ledger import Ledger
 
 BOB = lock_of(b"bob")  # a lock of somebody else's
@@ -19,12 +19,14 @@ class World:
         genesis = spelled(0, 0, [], [each.text for each in self.grants])
         self.ledger = Ledger(folder / "journal", genesis, bits=0, timeout=60)
         self.genesis = self.ledger.genesis_id
+        self.feed = head(genesis)  # all that was sent
 
     def put(self, *txs: Tx, on: Optional[Sequence[bytes]] = None) -> bytes:
         """Sends a block with these transactions, on all tips where no parents are named; its id."""
         self.salt += 1
         block = self.ledger.mine(self.tips() if on is None else on, txs, self.salt)
         self.ledger.offer(block)
+        self.feed += frame(b"B", block)
         return sha256(block)
 
     def tips(self) -> List[bytes]:
