@@ -12,7 +12,7 @@ import pytest
 
 from zorimarl.errors import LedgerError
 from zorimarl.feeds import Coin, Cursor, ReadBlock, Tx, frame, head, lock_of, read_block, read_tx, sha256, spelled, transaction
-from zorimarl.payment import Large, NoPayment, Poor, Unspent, spend
+from zorimarl.payment import NoPayment, NotEnough, TooLarge, Unspent, spend
 
 PROGRAM = os.environ.get("SPECTRE", "spectre")
 MOST = 2**63 - 1
@@ -61,7 +61,7 @@ def test_of_equal_coins_the_lower_outpoint_is_taken() -> None:
 
 
 def test_coins_of_other_words_are_passed_over() -> None:
-    with pytest.raises(Poor) as told:
+    with pytest.raises(NotEnough) as told:
         spend([b"a"], [coin(1, 0, 100, b"b"), coin(2, 0, 3, b"a")], 4, lock_of(b"c"))
     assert (told.value.amount, told.value.reach) == (4, 3)
 
@@ -70,7 +70,7 @@ def test_sixteen_inputs_and_no_more() -> None:
     """As fifteen threes and a nine come to 54, and to no more, with sixteen inputs."""
     coins = [coin(1, place, 3, b"w") for place in range(16)] + [coin(2, 0, 9, b"w"), coin(2, 1, 1, b"w")]
     assert len(spend([b"w"], coins, 54, lock_of(b"c")).spent) == 16
-    with pytest.raises(Poor) as told:
+    with pytest.raises(NotEnough) as told:
         spend([b"w"], coins, 55, lock_of(b"c"))
     assert told.value.reach == 54
 
@@ -79,7 +79,7 @@ def test_the_edges_of_amounts() -> None:
     coins = [coin(1, 0, MOST - 1, b"a"), coin(2, 0, 1, b"a")]
     assert amounts(spend([b"a"], coins, MOST, lock_of(b"b"))) == [MOST]
     assert amounts(spend([b"a"], coins, MOST - 1, lock_of(b"b"))) == [MOST - 1]
-    with pytest.raises(Large) as told:
+    with pytest.raises(TooLarge) as told:
         spend([b"a"], [coins[0], coin(2, 0, 2, b"a")], MOST, lock_of(b"b"))
     assert (told.value.amount, told.value.total) == (MOST, 2**63)
 
@@ -220,9 +220,9 @@ def told_by_the_program(drawn: Drawn, wish: Wish) -> Answer:
 def made_here(unspent: Sequence[Unspent], wish: Wish) -> Answer:
     try:
         return spend(wish.words, unspent, wish.amount, lock_of(wish.to)).text
-    except Poor as why:
+    except NotEnough as why:
         return "poor", why.reach
-    except Large as why:
+    except TooLarge as why:
         return "large", why.total
 
 

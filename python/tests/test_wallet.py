@@ -8,7 +8,7 @@ import pytest
 from wallet_world import BOB, THIEF, World
 
 from zorimarl.feeds import Cursor, Tx, lock_of, locked, read_tx
-from zorimarl.payment import Large, NoPayment, Poor
+from zorimarl.payment import NoPayment, NotEnough, TooLarge
 from zorimarl.wallet import Payment, Wallet
 from zorimarl.wallet_errors import BurntLock, MayPayTwice, NameTaken, NoSuchPayment, NotTurned
 
@@ -85,7 +85,7 @@ def test_the_next_payment_takes_other_coins(made: Made) -> None:
     world, wallet = made(100, 50)
     first, second = wallet.pay(world.ledger, BOB, 40), wallet.pay(world.ledger, BOB, 40)
     assert set(first.tx.spent).isdisjoint(second.tx.spent)
-    with pytest.raises(Poor) as told:
+    with pytest.raises(NotEnough) as told:
         wallet.pay(world.ledger, BOB, 1)
     assert (told.value.amount, told.value.reach) == (1, 0)
     assert len(wallet.payments()) == 2
@@ -93,7 +93,7 @@ def test_the_next_payment_takes_other_coins(made: Made) -> None:
 
 def test_poor_and_large_change_nothing(made: Made) -> None:
     world, wallet = made(2**63 - 2, 2)
-    with pytest.raises(Large) as large:
+    with pytest.raises(TooLarge) as large:
         wallet.pay(world.ledger, BOB, 2**63 - 1)
     assert large.value.total == 2**63
     for amount in (0, -1, 2**63, True):
@@ -102,7 +102,7 @@ def test_poor_and_large_change_nothing(made: Made) -> None:
     with pytest.raises(NoPayment):
         wallet.pay(world.ledger, b"bob", 1)
     paid = wallet.pay(world.ledger, BOB, 3)
-    with pytest.raises(Poor) as poor:
+    with pytest.raises(NotEnough) as poor:
         wallet.pay(world.ledger, BOB, 3)
     assert poor.value.reach == 2
     assert wallet.payments() == [paid]
@@ -193,7 +193,7 @@ def test_late_money_is_told_apart(made: Made) -> None:
     wallet.payments(world.ledger)
     assert money(wallet, world) == (30, 0, 70)
     assert [each.standing for each in wallet.coins(world.ledger) if each.lock == lock] == ["exposed"]
-    with pytest.raises(Poor):
+    with pytest.raises(NotEnough):
         wallet.pay(world.ledger, BOB, 31)
     swept = wallet.sweep(world.ledger)
     assert swept is not None and spent(world, swept.tx) == [70]

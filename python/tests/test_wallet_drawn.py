@@ -13,7 +13,7 @@ import pytest
 from wallet_world import World
 
 from zorimarl.feeds import Cursor, Input, Tx, lock_of, locked, read_tx
-from zorimarl.payment import Large, PaymentError, Poor
+from zorimarl.payment import NotEnough, PaymentError, TooLarge
 from zorimarl.wallet import Payment, Wallet
 from zorimarl.wallet_errors import BurntLock, MayPayTwice, NotTurned
 
@@ -93,9 +93,9 @@ class Play:
         try:
             told = self.wallet.pay(ledger, lock_of(b"bob"), amount)
             self.waiting.append(told.tx)
-        except Poor as why:
+        except NotEnough as why:
             told = "poor", why.reach
-        except Large as why:
+        except TooLarge as why:
             told = "large", why.total
         self.compare(amount, told, {each.lock for each in before if not each.burnt})
 
@@ -136,7 +136,7 @@ class Play:
             try:
                 self.waiting.append(self.wallet.again(self.world.ledger, each).tx)
                 self.kinds["again"] += 1
-            except (NotTurned, MayPayTwice, Poor, BurntLock) as why:
+            except (NotTurned, MayPayTwice, NotEnough, BurntLock) as why:
                 self.kinds[type(why).__name__] += 1
             except PaymentError:
                 assert each.kind == "sweep"

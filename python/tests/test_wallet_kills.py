@@ -1,5 +1,6 @@
 """Killed at any moment, a wallet has each lock and each payment that it has answered, and goes on."""
 
+import functools
 import importlib.util
 import os
 import random
@@ -95,13 +96,14 @@ def test_the_example_is_killed_anywhere(tmp_path: Path) -> None:
     """It goes on each time, until it ends as it does when nobody kills it; then another one is begun."""
     draw, module = random.Random(1), example()
     kills, stories, usual, at = 0, 0, 0.0, Counter[int]()
+    said: List[str]
     while kills < KILLS or usual == 0.0:
         folder = tmp_path / str(stories)
         folder.mkdir()
         alice, bob, said, done = Memory(), Memory(), [], False
         while not done:
             limit = draw.uniform(0.0, 1.2 * usual) if stories and kills < KILLS else 600.0
-            ran = run(lambda: module.main(folder), limit)
+            ran = run(functools.partial(module.main, folder), limit)
             done, kills = not ran.killed, kills + ran.killed
             usual = ran.seconds if done and not said else usual
             at[len(ran.lines)] += ran.killed
@@ -140,7 +142,7 @@ def test_a_busy_wallet_is_killed(tmp_path: Path) -> None:
         world.ledger.close()
     counts: List[Tuple[int, int]] = []
     for _ in range(BUSY_KILLS):
-        ran = run(lambda: busy(tmp_path), draw.uniform(0.0, usual))
+        ran = run(functools.partial(busy, tmp_path), draw.uniform(0.0, usual))
         assert ran.killed
         usual = min(10.0, usual * 1.3) if not ran.lines else max(0.1, usual * 0.98)
         memory.look(tmp_path / "wallet")

@@ -30,9 +30,7 @@ class World:
         return sha256(block)
 
     def tips(self) -> List[bytes]:
-        blocks = self.ledger.blocks()
-        parents = {parent for each in blocks for parent in each.parents}
-        return [each.id for each in blocks if each.id not in parents]
+        return [each.id for each in self.ledger.tips()]
 
     def heavier(self, block: bytes, by: int = 3) -> bytes:
         """A chain of so many empty blocks on a block; the last one."""

@@ -13,10 +13,12 @@ the program over drawn ledgers. Which outputs are unspent it is told, and can't 
 Amounts are whole units, 1 to 2^63 - 1. Locks and ids are 32 bytes, words 1 to 64.
 """
 
+from __future__ import annotations
+
 from typing import Iterable, List, NamedTuple, Sequence, Tuple
 
-from .errors import LedgerError
-from .feeds import Coin, Tx, lock_of, locked
+from .blocks import Coin, Tx, lock_of, locked
+from .errors import LedgerError, NoRequest
 
 MOST_INPUTS = 16
 AMOUNT_LIMIT = 1 << 63  # what the outputs of a transaction stay below together
@@ -29,21 +31,21 @@ class PaymentError(LedgerError):
     """A payment that isn't made."""
 
 
-class NoPayment(PaymentError):
+class NoPayment(PaymentError, NoRequest):
     """What is asked for is no payment: an amount, a lock or a word is out of its range."""
 
 
-class Poor(PaymentError):
-    """No 16 or fewer of the unspent outputs reach the amount, as the program's `fault poor`. `amount` was asked
-    for, and `reach` is what the 16 largest come to, or all where there are fewer; in units."""
+class NotEnough(PaymentError):
+    """No 16 or fewer of the unspent outputs reach the amount: the `fault poor` of `spend`. `amount` was asked for,
+    and `reach` is what the 16 largest come to, or all where there are fewer; in units."""
 
     def __init__(self, amount: int, reach: int) -> None:
         self.amount, self.reach = amount, reach
         super().__init__(f"{amount} can't be paid: {MOST_INPUTS} or fewer of what may be spent come to {reach} at most")
 
 
-class Large(PaymentError):
-    """What is chosen comes to 2^63 or more, which no transaction's outputs do, as the program's `fault large`.
+class TooLarge(PaymentError):
+    """What is chosen comes to 2^63 or more, which no transaction's outputs do: the `fault large` of `spend`.
     `amount` was asked for, and `total` is what is chosen; in units."""
 
     def __init__(self, amount: int, total: int) -> None:
@@ -94,16 +96,16 @@ def choose(unspent: Iterable[Unspent], amount: int, first: Sequence[Unspent] = (
     """As few of these outputs as reach an amount, the largest first; and before them those that are named as
     `first`, whatever they come to.
 
-    Errors: `Poor`, `Large`."""
+    Errors: `NotEnough`, `TooLarge`."""
     coins = [*first, *largest_first(unspent)][:MOST_INPUTS]
     total = 0
     for count, coin in enumerate(coins, 1):
         total += coin.amount
         if amount <= total and len(first) <= count:
             if AMOUNT_LIMIT <= total:
-                raise Large(amount, total)
+                raise TooLarge(amount, total)
             return coins[:count]
-    raise Poor(amount, total)
+    raise NotEnough(amount, total)
 
 
 def pay(words: Sequence[bytes], chosen: Iterable[Unspent], amount: int, to: bytes) -> Tx:
@@ -121,7 +123,7 @@ def spend(words: Sequence[bytes], unspent: Iterable[Unspent], amount: int, to: b
     """The transaction that the program's `spend` makes of these words and outputs. `words` may be more than the 16
     that the program takes; outputs that none of them opens are passed over.
 
-    It is computed here. Errors: `NoPayment`, `Poor`, `Large`."""
+    It is computed here. Errors: `NoPayment`, `NotEnough`, `TooLarge`."""
     if not words or any(not 0 < len(word) <= LONGEST_WORD for word in words):
         raise NoPayment(f"a payment needs words, and each has 1 to {LONGEST_WORD} bytes")
     check_amount(amount)

@@ -1,11 +1,13 @@
 """What a ledger says of a wallet's coins, and which of them a payment takes."""
 
+from __future__ import annotations
+
 from typing import Collection, Dict, Iterable, List, NamedTuple, Protocol, Sequence, Set, Tuple
 
 from .answers import Report, State
-from .feeds import ReadTx, Tx, lock_of
+from .blocks import ReadTx, Tx, lock_of
+from .errors import Misfit
 from .payment import AMOUNT_LIMIT, MOST_INPUTS, Outpoint, Unspent, largest_first, worth
-from .wallet_errors import Unfit
 
 
 class Carrier(Protocol):
@@ -39,7 +41,7 @@ def look(node: Node, locks: Collection[bytes]) -> Look:
     which transactions the report calls accepted, in a pass over all kept blocks; and what it comes to under each
     lock has to be what the report says.
 
-    Errors: `Unfit`, and those of the ledger."""
+    Errors: `Misfit`, and those of the ledger."""
     report = node.report()
     accepted = set(report.accepted)
     shown: Set[bytes] = set()
@@ -59,7 +61,8 @@ def look(node: Node, locks: Collection[bytes]) -> Look:
         left[coin.lock] = left.get(coin.lock, 0) + coin.amount
     told = {lock: amount for lock, amount in report.balances.items() if lock in locks}
     if left != told:
-        raise Unfit(f"what is unspent by the blocks comes to {sum(left.values())}, and the report says {sum(told.values())}")
+        here, there = sum(left.values()), sum(told.values())
+        raise Misfit(f"what the wallet has comes to {here} by the blocks, and to {there} by the report, or under other locks")
     return Look(unspent, shown)
 
 

@@ -1,5 +1,7 @@
 """The errors of a wallet's file and of its payments, each a `LedgerError`. Those of amounts stand in payment.py."""
 
+from __future__ import annotations
+
 from .errors import LedgerError
 from .payment import PaymentError
 
@@ -7,7 +9,7 @@ from .payment import PaymentError
 
 
 class WalletError(LedgerError):
-    """Something about a wallet's file. The message says which file."""
+    """Something about a wallet's file, which `file` names."""
 
 
 class NoWallet(WalletError):
@@ -39,10 +41,6 @@ class WalletClosed(WalletError):
 
 
 # Payments
-
-
-class Unfit(LedgerError):
-    """The blocks of a ledger and its report don't fit each other, so nothing was paid by them."""
 
 
 class BurntLock(PaymentError):

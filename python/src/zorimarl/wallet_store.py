@@ -6,6 +6,8 @@ journal that takes the commit back. (With DELETE it could, as the folder isn't s
 words last committed stood in a second file, which a copy of the first one lacks.)
 """
 
+from __future__ import annotations
+
 import contextlib
 import os
 import secrets
@@ -13,14 +15,14 @@ import sqlite3
 import stat
 import threading
 import urllib.parse
-from typing import Iterable, Iterator, List, NamedTuple, Optional, Union
+from typing import Iterable, Iterator, List, NamedTuple, Optional
 
+from .blocks import lock_of
 from .errors import LedgerError
-from .feeds import lock_of
+from .program import Path
 from .wallet_errors import NotPrivate, NoWallet, WalletBusy, WalletClosed, WalletDamaged, WalletExists, WalletFault
 
-Path = Union[str, "os.PathLike[str]"]
-
+MAKING, OPENING, READING, CHANGING = "making a wallet", "opening a wallet", "reading the wallet", "changing the wallet"
 APPLICATION = 0x5A4F5257  # "ZORW", in the database's head
 FORM = 1
 WORD_BYTES = 32
@@ -108,9 +110,9 @@ def make(path: Path) -> None:
             os.unlink(new)
         sync_folder(folder)
     except FileExistsError:
-        raise WalletExists(f"{name} is there already") from None
+        raise WalletExists("there is something of that name", name, MAKING) from None
     except (OSError, sqlite3.Error) as why:
-        raise WalletFault(f"{name} can't be made: {why}") from None
+        raise WalletFault(str(why), name, MAKING) from None
 
 
 def sync_folder(folder: str) -> None:
@@ -130,11 +132,11 @@ class Store:
         self.guard = threading.RLock()
         self.database: Optional[sqlite3.Connection] = None
         look_at(self.path)
-        with self.told("opened"):
+        with self.told(OPENING):
             name = f"file:{urllib.parse.quote(os.fsencode(self.path))}?mode=rw"
             self.database = sqlite3.connect(name, timeout, uri=True, isolation_level=None, check_same_thread=False)
         try:
-            with self.told("read"):
+            with self.told(OPENING):
                 self.set_up(self.database)
         except BaseException:
             self.close()
@@ -147,20 +149,20 @@ class Store:
         (application,) = database.execute("PRAGMA application_id").fetchone()
         (form,) = database.execute("PRAGMA user_version").fetchone()
         if (application, form) != (APPLICATION, FORM):
-            raise NoWallet(f"{self.path} holds no wallet of this form")
+            raise NoWallet("it holds no wallet of this form", self.path, OPENING)
         (mode,) = database.execute("PRAGMA journal_mode = TRUNCATE").fetchone()
         database.execute("PRAGMA synchronous = FULL")
         if mode != "truncate":
-            raise WalletFault(f"{self.path} can't have the journal that it needs, but `{mode}`")
+            raise WalletFault(f"it can't have the journal that it needs, but `{mode}`", self.path, OPENING)
         (said,) = database.execute("PRAGMA quick_check(1)").fetchone()
         if said != "ok":
-            raise WalletDamaged(f"{self.path} is damaged: {said}")
+            raise WalletDamaged(said, self.path, OPENING)
         for each in self.words():
             if lock_of(each.word) != each.lock:
-                raise WalletDamaged(f"{self.path} is damaged: the word of the lock {each.lock.hex()} doesn't open it")
+                raise WalletDamaged(f"the word of the lock {each.lock.hex()} doesn't open it", self.path, OPENING)
 
     @contextlib.contextmanager
-    def told(self, what: str) -> Iterator[None]:
+    def told(self, request: str) -> Iterator[None]:
         """Tells a fault of the database as a wallet's error."""
         try:
             yield
@@ -168,22 +170,22 @@ class Store:
             raise
         except sqlite3.OperationalError as why:
             kind = WalletBusy if "locked" in str(why) else WalletFault
-            raise kind(f"{self.path} can't be {what}: {why}") from None
+            raise kind(str(why), self.path, request) from None
         except (sqlite3.DatabaseError, ValueError) as why:
-            raise WalletDamaged(f"{self.path} can't be {what}: {why}") from None
+            raise WalletDamaged(str(why), self.path, request) from None
 
     def opened(self) -> sqlite3.Connection:
         if self.database is None:
-            raise WalletClosed(f"{self.path} was closed")
+            raise WalletClosed("it was closed", self.path)
         if os.getpid() != self.process:
-            raise WalletClosed(f"{self.path} was opened by another process: open it in this one")
+            raise WalletClosed("another process opened it: open it in this one", self.path)
         return self.database
 
     @contextlib.contextmanager
     def change(self) -> Iterator[None]:
         """What is done within is done whole and synced once this is left, or not at all. No other process changes
         the file meanwhile."""
-        with self.guard, self.told("changed"):
+        with self.guard, self.told(CHANGING):
             database = self.opened()
             database.execute("BEGIN IMMEDIATE")
             try:
@@ -195,7 +197,7 @@ class Store:
                 raise
 
     def rows(self, question: str, *values: object) -> List[sqlite3.Row]:
-        with self.guard, self.told("read"):
+        with self.guard, self.told(READING):
             return self.opened().execute(question, values).fetchall()
 
     def close(self) -> None:
@@ -258,11 +260,11 @@ def look_at(path: str) -> None:
     try:
         found = os.stat(path)
     except FileNotFoundError:
-        raise NoWallet(f"{path} isn't there") from None
+        raise NoWallet("it isn't there", path, OPENING) from None
     except OSError as why:
-        raise WalletFault(f"{path} can't be opened: {why}") from None
+        raise WalletFault(str(why), path, OPENING) from None
     if not stat.S_ISREG(found.st_mode) or not found.st_size:
-        raise NoWallet(f"{path} holds no wallet")
+        raise NoWallet("it holds no wallet", path, OPENING)
     if found.st_mode & 0o077:
         mode = f"{found.st_mode & 0o777:o}"
-        raise NotPrivate(f"{path} has the mode {mode}, so others may use its words: `chmod 600` makes it its owner's alone")
+        raise NotPrivate(f"its mode is {mode}, so others may use its words: `chmod 600` makes it its owner's alone", path, OPENING)

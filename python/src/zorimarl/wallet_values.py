@@ -1,9 +1,11 @@
 """What a wallet answers, as values."""
 
+from __future__ import annotations
+
 from typing import Iterable, Literal, NamedTuple, Optional, Tuple
 
-from .feeds import Coin as Spent
-from .feeds import Cursor, Tx, read_tx
+from .blocks import Coin as Output
+from .blocks import Cursor, Tx, read_tx
 from .wallet_store import PaymentRow, TxRow
 
 PaymentState = Literal["accepted", "rejected", "pending", "turned back"]
@@ -94,7 +96,7 @@ class Payment(NamedTuple):
 def tx_of(text: bytes) -> Tx:
     """A transaction by its bytes. Of its outputs no word is known."""
     read = read_tx(Cursor(text))
-    coins = [Spent(read.id, place, output.amount, b"") for place, output in enumerate(read.outputs)]
+    coins = [Output(read.id, place, output.amount) for place, output in enumerate(read.outputs)]
     return Tx(read.id, text, [(each.tx, each.place) for each in read.inputs], coins)
 
 
