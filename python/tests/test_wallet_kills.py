@@ -9,7 +9,7 @@ import time
 from collections import Counter
 from pathlib import Path
 from types import ModuleType
-from typing import Callable, Dict, List, NamedTuple, Tuple
+from typing import Callable, Dict, List, NamedTuple
 
 from wallet_world import BOB, World
 
@@ -21,21 +21,34 @@ from zorimarl.wallet import Wallet
 EXAMPLE = Path(__file__).resolve().parent.parent / "examples" / "wallets.py"
 KILLS = 200  # of the example
 BUSY_KILLS = 60  # of a wallet that does nothing but receive and pay
-COINS = 300
+LINES = 10  # that the example writes
+COINS = 250  # for that one
 END = "paid 1 alice 20 0 0 shop 70 0 0"
 
 
 class Run(NamedTuple):
-    """What a process wrote in whole lines, how long it ran, and whether it was killed before its end."""
+    """What a process wrote in whole lines, and whether it was killed before its end."""
 
     lines: List[str]
-    seconds: float
     killed: bool
 
 
-def run(work: Callable[[], None], seconds: float) -> Run:
-    """Does this in a process of its own, which is killed after so many seconds."""
-    begun = time.monotonic()
+class Moment(NamedTuple):
+    """When to kill: so many seconds after so many lines."""
+
+    line: int
+    seconds: float
+
+    @staticmethod
+    def drawn(draw: random.Random, most: int) -> "Moment":
+        return Moment(draw.randrange(most), draw.uniform(0.0, draw.choice([0.0, 0.002, 0.01, 0.05])))
+
+
+NEVER = Moment(1_000_000, 0.0)
+
+
+def run(work: Callable[[], None], moment: Moment) -> Run:
+    """Does this in a process of its own, which is killed at a moment."""
     reader, writer = os.pipe()
     child = os.fork()
     if not child:
@@ -47,17 +60,17 @@ def run(work: Callable[[], None], seconds: float) -> Run:
             os.write(2, f"{type(why).__name__}: {why}\n".encode())
             os._exit(3)
     os.close(writer)
-    until = begun + seconds
-    while (ended := os.waitpid(child, os.WNOHANG)) == (0, 0) and time.monotonic() < until:
-        time.sleep(0.0005)
-    if ended == (0, 0):
-        os.kill(child, signal.SIGKILL)
-        ended = os.waitpid(child, 0)
-    with open(reader, "rb") as told:
-        text = told.read()
-    code = os.waitstatus_to_exitcode(ended[1])
+    text = b""
+    with open(reader, "rb", buffering=0) as told:
+        while text.count(b"\n") < moment.line and (piece := told.read(1 << 16)):
+            text += piece
+        if moment.line <= text.count(b"\n"):
+            time.sleep(moment.seconds)
+            os.kill(child, signal.SIGKILL)
+        text += b"".join(iter(lambda: told.read(1 << 16), b""))
+    code = os.waitstatus_to_exitcode(os.waitpid(child, 0)[1])
     assert code in (0, -signal.SIGKILL), text
-    return Run(text.decode().rpartition("\n")[0].splitlines(), time.monotonic() - begun, code != 0)
+    return Run(text.decode().rpartition("\n")[0].splitlines(), code != 0)
 
 
 class Memory:
@@ -95,17 +108,15 @@ def shown(lines: List[str], kind: str) -> List[bytes]:
 def test_the_example_is_killed_anywhere(tmp_path: Path) -> None:
     """It goes on each time, until it ends as it does when nobody kills it; then another one is begun."""
     draw, module = random.Random(1), example()
-    kills, stories, usual, at = 0, 0, 0.0, Counter[int]()
+    kills, stories, at = 0, 0, Counter[int]()
     said: List[str]
-    while kills < KILLS or usual == 0.0:
+    while kills < KILLS:
         folder = tmp_path / str(stories)
         folder.mkdir()
         alice, bob, said, done = Memory(), Memory(), [], False
         while not done:
-            limit = draw.uniform(0.0, 1.2 * usual) if stories and kills < KILLS else 600.0
-            ran = run(functools.partial(module.main, folder), limit)
+            ran = run(functools.partial(module.main, folder), Moment.drawn(draw, LINES) if kills < KILLS else NEVER)
             done, kills = not ran.killed, kills + ran.killed
-            usual = ran.seconds if done and not said else usual
             at[len(ran.lines)] += ran.killed
             said += ran.lines
             alice.look(folder / "alice.wallet")
@@ -114,8 +125,8 @@ def test_the_example_is_killed_anywhere(tmp_path: Path) -> None:
             assert {*shown(said, "payment")} <= {*alice.texts}
         assert said[-1] == END and len(alice.texts) == 2 and len(bob.words) == 2
         stories += 1
-    print(f"{kills} kills of {stories} stories, {usual:.2f} s each; by the lines before a kill: {sorted(at.items())}")
-    assert len(at) > 6, at
+    print(f"{kills} kills of {stories} stories; by the lines before a kill: {sorted(at.items())}")
+    assert len(at) >= LINES - 2, at
 
 
 def busy(folder: Path) -> None:
@@ -136,20 +147,17 @@ def reopened(file: Path) -> Ledger:
 
 
 def test_a_busy_wallet_is_killed(tmp_path: Path) -> None:
-    draw, memory, usual = random.Random(2), Memory(), 0.4
+    draw, memory = random.Random(2), Memory()
     with Wallet.create(tmp_path / "wallet") as wallet:
         world = World(tmp_path, [(2, wallet.receive()) for _ in range(COINS)])
         world.ledger.close()
-    counts: List[Tuple[int, int]] = []
     for _ in range(BUSY_KILLS):
-        ran = run(functools.partial(busy, tmp_path), draw.uniform(0.0, usual))
+        ran = run(functools.partial(busy, tmp_path), Moment.drawn(draw, 6))
         assert ran.killed
-        usual = min(10.0, usual * 1.3) if not ran.lines else max(0.1, usual * 0.98)
         memory.look(tmp_path / "wallet")
         assert {*shown(ran.lines, "lock")} <= {*memory.words}
-        told = {bytes.fromhex(line.split()[1]): bytes.fromhex(line.split()[2]) for line in ran.lines if line.startswith("payment")}
-        assert told.items() <= memory.texts.items()
-        counts.append((len(memory.words), len(memory.texts)))
-    print(f"{BUSY_KILLS} kills, {counts[-1][0]} words and {counts[-1][1]} payments")
+        told = [line.split()[1:] for line in ran.lines if line.startswith("payment")]
+        assert {bytes.fromhex(each): bytes.fromhex(text) for each, text in told}.items() <= memory.texts.items()
+    print(f"{BUSY_KILLS} kills, {len(memory.words)} words and {len(memory.texts)} payments")
     inputs = [text[1:34] for text in memory.texts.values()]
-    assert len(inputs) > 5 and len(set(inputs)) == len(inputs)
+    assert len(inputs) > BUSY_KILLS // 2 and len(set(inputs)) == len(inputs)
