@@ -29,11 +29,12 @@ class Node(Protocol):
 
 
 class Look(NamedTuple):
-    """What a ledger says, at one moment: the unspent outputs under some locks, and each lock whose word a kept block
-    shows, be it present or waiting."""
+    """What a ledger says, at one moment: the unspent outputs under some locks, each lock whose word a kept block
+    shows, be it present or waiting, and the ids of the accepted transactions."""
 
     unspent: List[Unspent]
     shown: Set[bytes]
+    accepted: Set[bytes]
 
 
 def look(node: Node, locks: Collection[bytes]) -> Look:
@@ -63,7 +64,7 @@ def look(node: Node, locks: Collection[bytes]) -> Look:
     if left != told:
         here, there = sum(left.values()), sum(told.values())
         raise Misfit(f"what the wallet has comes to {here} by the blocks, and to {there} by the report, or under other locks")
-    return Look(unspent, shown)
+    return Look(unspent, shown, accepted)
 
 
 def with_siblings(chosen: Sequence[Unspent], unspent: Iterable[Unspent]) -> Tuple[List[Unspent], int]:

@@ -45,7 +45,8 @@ class Looking:
         the program's balances.
 
         Errors: `Misfit`, and those of the ledger."""
-        found, bound = self._look(ledger), self._bound()
+        found = self._look(ledger)
+        bound = self._bound(found)
         burnt = {each.lock for each in self.store.words() if each.burnt}
 
         def standing(coin: Unspent) -> Standing:
@@ -63,19 +64,26 @@ class Looking:
         return Money(total("spendable"), total("bound"), total("exposed"))
 
     def _look(self, ledger: Node) -> Look:
-        """What the ledger says of the wallet's locks. Words that it shows are burnt from here on."""
+        """What the ledger says of the wallet's locks. Words that it shows are burnt from here on, and what it accepts
+        was accepted."""
         words = self.store.words()
         found = look(ledger, {each.lock for each in words})
         seen = [each.lock for each in words if each.lock in found.shown and not each.burnt]
-        if seen:
+        new = [each.id for each in self.store.txs() if each.id in found.accepted and not each.was_accepted]
+        if seen or new:
             with self.store.change():
                 self.store.burn(seen)
+                for tx_id in new:
+                    self.store.note_state(tx_id, "accepted")
         return found
 
-    def _bound(self, but: Optional[Payment] = None) -> Set[Outpoint]:
+    def _bound(self, seen: Look, but: Optional[Payment] = None) -> Set[Outpoint]:
         """What the transactions of payments that aren't accepted spend; of all of these but one."""
-        under_way = [each for each in self.payments() if not each.times and (but is None or each.number != but.number)]
-        return {outpoint for each in under_way for sent in each.sent for outpoint in sent.tx.spent}
+        spent: Set[Outpoint] = set()
+        for each in self.payments():
+            if each.number != (but and but.number) and seen.accepted.isdisjoint(sent.tx.id for sent in each.sent):
+                spent.update(outpoint for sent in each.sent for outpoint in sent.tx.spent)
+        return spent
 
     @asked("the wallet's payments")
     def payments(self, ledger: Optional[Node] = None) -> List[Payment]:

@@ -68,7 +68,7 @@ class Paying(Looking):
                 if each.lock == to and unspent.issuperset(each.tx.spent):
                     self.store.renew_tx(each.tx.id)
                     return self.payment(now.number)
-            bound = self._bound(now)
+            bound = self._bound(seen, now)
             free = [coin for coin in seen.unspent if coin.outpoint not in bound]
             own = [sent.tx for each in self.payments() for sent in each.sent]
             first, excluded = excluding([each.tx for each in now.sent], own, free)
@@ -91,7 +91,7 @@ class Paying(Looking):
             raise NotTurned(f"payment {now.number} is accepted")
         seen = self._look(ledger)
         with self.store.change():
-            bound = self._bound(now)
+            bound = self._bound(seen, now)
             free = [coin for coin in seen.unspent if coin.outpoint not in bound]
             spendable = set(self._spendable(seen))
             spent = {outpoint for sent in now.sent for outpoint in sent.tx.spent} if now else set()
