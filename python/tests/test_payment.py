@@ -13,8 +13,9 @@ import pytest
 from zorimarl.errors import LedgerError
 from zorimarl.feeds import Coin, Cursor, ReadBlock, Tx, frame, head, lock_of, read_block, read_tx, sha256, spelled, transaction
 from zorimarl.payment import NoPayment, NotEnough, TooLarge, Unspent, spend
+from zorimarl.program import find
 
-PROGRAM = os.environ.get("SPECTRE", "spectre")
+PROGRAM = find().path
 MOST = 2**63 - 1
 TX = bytes(31)  # the first bytes of an id, of which the last one is named
 
@@ -189,7 +190,7 @@ def draw_wish(draw: random.Random, unspent: Sequence[Unspent]) -> Wish:
 
 
 def run(words: Sequence[bytes], given: bytes) -> "subprocess.CompletedProcess[bytes]":
-    return subprocess.run([os.fsencode(PROGRAM), *words], input=given, capture_output=True, timeout=60)
+    return subprocess.run([PROGRAM, *words], input=given, capture_output=True, timeout=60)
 
 
 def unspent_of(drawn: Drawn) -> List[Unspent]:

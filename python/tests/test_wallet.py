@@ -2,12 +2,15 @@
 What is expected is worked out by hand."""
 
 from pathlib import Path
-from typing import Callable, Iterator, List, Tuple
+from typing import Any, Callable, Iterator, List, Tuple
 
 import pytest
 from wallet_world import BOB, THIEF, World
 
+from zorimarl.answers import Report, State
+from zorimarl.errors import Misfit
 from zorimarl.feeds import Cursor, Tx, lock_of, locked, read_tx
+from zorimarl.kept import Block
 from zorimarl.payment import NoPayment, NotEnough, TooLarge
 from zorimarl.wallet import Payment, Wallet
 from zorimarl.wallet_errors import BurntLock, MayPayTwice, NameTaken, NoSuchPayment, NotTurned
@@ -121,6 +124,14 @@ def test_a_name_is_paid_once(made: Made) -> None:
     assert [each.name for each in wallet.payments()] == ["order 7", "order 8"]
 
 
+@pytest.mark.parametrize("name", [7, b"order 7", "a\nb", "\udc80", "a" * 1_001])
+def test_what_is_no_name(made: Made, name: Any) -> None:
+    world, wallet = made(100)
+    with pytest.raises(NoPayment) as told:
+        wallet.pay(world.ledger, BOB, 40, name=name)
+    assert told.value.file == wallet.store.path and told.value.request == "a payment"
+
+
 def test_it_is_paid(made: Made, tmp_path: Path) -> None:
     """A second wallet has what the first one pays to its lock, and pays it on."""
     world, alice = made(100)
@@ -132,6 +143,33 @@ def test_it_is_paid(made: Made, tmp_path: Path) -> None:
         assert (coin.amount, coin.lock, coin.standing) == (70, lock, "spendable")
         world.put(bob.pay(world.ledger, alice.receive(), 20).tx)
         assert money(bob, world) == (50, 0, 0) and money(alice, world) == (50, 0, 0)
+
+
+class Wrong:
+    """A ledger whose report says that a lock has one unit more than it has."""
+
+    def __init__(self, world: World, lock: bytes) -> None:
+        self.ledger, self.lock = world.ledger, lock
+
+    def report(self) -> Report:
+        found = self.ledger.report()
+        return found._replace(balances={**found.balances, self.lock: found.balances.get(self.lock, 0) + 1})
+
+    def tx(self, tx_id: bytes) -> State:
+        return self.ledger.tx(tx_id)
+
+    def blocks(self) -> List[Block]:
+        return self.ledger.blocks()
+
+
+def test_nothing_is_paid_where_the_report_doesnt_fit(made: Made) -> None:
+    world, wallet = made(100)
+    for lock in (wallet.locks()[0].lock, wallet.receive()):
+        with pytest.raises(Misfit):
+            wallet.pay(Wrong(world, lock), BOB, 40)
+        with pytest.raises(Misfit):
+            wallet.balance(Wrong(world, lock))
+    assert wallet.payments() == [] and wallet.balance(Wrong(world, BOB)).spendable == 100
 
 
 def test_no_payment_of_that_number(made: Made) -> None:

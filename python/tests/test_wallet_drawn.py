@@ -1,7 +1,6 @@
 """Wallets over drawn ledgers: what they hold to after each step, and their payments against the program's `spend`."""
 
 import hashlib
-import os
 import random
 import secrets
 import subprocess
@@ -14,10 +13,11 @@ from wallet_world import World
 
 from zorimarl.feeds import Cursor, Input, Tx, lock_of, locked, read_tx
 from zorimarl.payment import NotEnough, PaymentError, TooLarge
+from zorimarl.program import find
 from zorimarl.wallet import Payment, Wallet
 from zorimarl.wallet_errors import BurntLock, MayPayTwice, NotTurned
 
-PROGRAM = os.environ.get("SPECTRE", "spectre")
+PROGRAM = find().path
 WORLDS = 25
 STEPS = 16
 

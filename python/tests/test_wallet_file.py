@@ -13,7 +13,9 @@ from typing import Iterator, List, Type
 import pytest
 
 from zorimarl.errors import LedgerError
-from zorimarl.feeds import lock_of
+from zorimarl.feeds import lock_of, locked
+from zorimarl.ledger import Ledger, genesis
+from zorimarl.payment import Outpoint
 from zorimarl.wallet import Wallet
 from zorimarl.wallet_errors import (
     NotPrivate,
@@ -156,6 +158,32 @@ def test_a_changed_word_is_found(file: Path) -> None:
     assert lock.hex() in str(told.value) or "quick_check" in str(told.value) or "index" in str(told.value)
 
 
+def test_the_other_name_of_a_making_that_was_killed_goes(file: Path) -> None:
+    """One that is another wallet's stays."""
+    Wallet.create(file).close()
+    other, stays = file.with_name(f"{file.name}.0123.new"), file.with_name(f"{file.name}.4567.new")
+    os.link(file, other)
+    stays.write_bytes(b"")
+    Wallet.open(file).close()
+    assert not other.exists() and stays.exists() and file.stat().st_nlink == 1
+
+
+def test_a_copy(file: Path) -> None:
+    copy = file.with_name("copy")
+    with Wallet.create(file) as wallet:
+        lock = wallet.receive()
+        wallet.copy(copy)
+        wallet.receive()
+        with pytest.raises(WalletExists):
+            wallet.copy(file)
+        with pytest.raises(WalletFault):
+            wallet.copy(file / "copy")
+    assert mode(copy) == 0o600
+    with Wallet.open(copy) as other:
+        assert [each.lock for each in other.locks()] == [lock]
+    assert len(words_in(file)) == 2
+
+
 def test_words_are_new_and_stay(file: Path) -> None:
     with Wallet.create(file) as wallet:
         shown = [wallet.receive() for _ in range(20)]
@@ -263,6 +291,29 @@ def test_processes_side_by_side_have_no_word_in_common(file: Path) -> None:
     assert len(set(shown)) == 100
     with Wallet.open(file) as wallet:
         assert {each.lock for each in wallet.locks()} == set(shown)
+
+
+def pay_many(file: Path, journal: Path, count: int, told: "multiprocessing.Queue[List[Outpoint]]") -> None:
+    with Wallet.open(file) as wallet, Ledger(journal, timeout=60) as ledger:
+        told.put([each for _ in range(count) for each in wallet.pay(ledger, lock_of(b"bob"), 1).tx.spent])
+
+
+def test_processes_side_by_side_pay_by_other_coins(file: Path, tmp_path: Path) -> None:
+    """Each of them has a node of its own, of one ledger."""
+    told: "multiprocessing.Queue[List[Outpoint]]" = multiprocessing.Queue()
+    with Wallet.create(file) as wallet:
+        first = genesis([locked([], [(2, wallet.receive())]) for _ in range(40)])
+    for name in ("one", "other"):
+        Ledger(tmp_path / name, first, bits=0, timeout=60).close()
+    runs = [multiprocessing.Process(target=pay_many, args=(file, tmp_path / name, 15, told)) for name in ("one", "other")]
+    for each in runs:
+        each.start()
+    spent = [outpoint for _ in runs for outpoint in told.get(timeout=120)]
+    for each in runs:
+        each.join()
+    assert len(spent) == 30 and len(set(spent)) == 30
+    with Wallet.open(file) as wallet:
+        assert len(wallet.payments()) == 30 and sum(each.burnt for each in wallet.locks()) == 30
 
 
 def test_one_that_waits_too_long_says_so(file: Path) -> None:

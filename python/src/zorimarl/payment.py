@@ -71,15 +71,15 @@ class Unspent(NamedTuple):
 def check_amount(amount: int) -> int:
     """The amount, where it is 1 to 2^63 - 1 units; else it is a `NoPayment`."""
     if isinstance(amount, bool) or not isinstance(amount, int) or not 0 < amount < AMOUNT_LIMIT:
-        raise NoPayment(f"{str(amount)[:40]} is no amount: that is a whole number of units from 1 to 2^63 - 1")
+        raise NoPayment(f"`{amount!r:.40}` is no amount: that is a whole number of units from 1 to 2^63 - 1")
     return amount
 
 
 def check_lock(lock: bytes) -> bytes:
     """The lock, where it is 32 bytes; else it is a `NoPayment`."""
-    if not isinstance(lock, bytes) or len(lock) != 32:
-        raise NoPayment(f"{str(lock)[:80]} is no lock: that is 32 bytes")
-    return lock
+    if not isinstance(lock, (bytes, bytearray)) or len(lock) != 32:
+        raise NoPayment(f"`{lock!r:.80}` is no lock: that is 32 bytes")
+    return bytes(lock)
 
 
 def largest_first(unspent: Iterable[Unspent]) -> List[Unspent]:
@@ -127,6 +127,6 @@ def spend(words: Sequence[bytes], unspent: Iterable[Unspent], amount: int, to: b
     if not words or any(not 0 < len(word) <= LONGEST_WORD for word in words):
         raise NoPayment(f"a payment needs words, and each has 1 to {LONGEST_WORD} bytes")
     check_amount(amount)
-    check_lock(to)
+    to = check_lock(to)
     locks = {lock_of(word) for word in words}
     return pay(words, choose((coin for coin in unspent if coin.lock in locks), amount), amount, to)

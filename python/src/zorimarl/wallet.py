@@ -67,6 +67,13 @@ class Wallet(Paying):
         Errors: `NoWallet`, `NotPrivate`, `WalletDamaged`, `WalletBusy`, `WalletFault`."""
         return cls(path, timeout)
 
+    def copy(self, path: Path) -> None:
+        """Makes a copy of the file as it is now, with mode 600, where nothing is of that name: for safe keeping, and
+        not to pay by both. It has just the words that were made before it.
+
+        Errors: `WalletExists`, `WalletFault`."""
+        self.store.copy(path)
+
     def close(self) -> None:
         """Closes the file. All that was answered stands in it."""
         self.store.close()

@@ -14,6 +14,15 @@ from .wallet_store import WORD_BYTES
 from .wallet_values import Payment
 
 
+LONGEST_NAME = 1_000
+
+
+def check_name(name: Optional[str]) -> None:
+    """A name is a text of at most 1,000 letters; anything else is a `NoPayment`."""
+    if name is not None and not (isinstance(name, str) and len(name) <= LONGEST_NAME and name.isprintable()):
+        raise NoPayment(f"`{name!r:.80}` is no name for a payment: that is a text that can be printed, of up to {LONGEST_NAME} letters")
+
+
 class Paying(Looking):
     """A wallet that pays."""
 
@@ -28,7 +37,8 @@ class Paying(Looking):
 
         Errors: `NoPayment`, `NotEnough`, `TooLarge`, `BurntLock`, `NameTaken`, `Misfit`, and those of the ledger and file."""
         check_amount(amount)
-        check_lock(lock)
+        lock = check_lock(lock)
+        check_name(name)
         found = self._named(name, lock, amount)
         if found:
             return found

@@ -10,9 +10,7 @@ from __future__ import annotations
 
 import contextlib
 import os
-import secrets
 import sqlite3
-import stat
 import threading
 import urllib.parse
 from typing import Iterable, Iterator, List, NamedTuple, Optional
@@ -20,10 +18,10 @@ from typing import Iterable, Iterator, List, NamedTuple, Optional
 from .blocks import lock_of
 from .errors import LedgerError
 from .program import Path
-from .wallet_errors import NotPrivate, NoWallet, WalletBusy, WalletClosed, WalletDamaged, WalletExists, WalletFault
+from .wallet_errors import NoWallet, WalletBusy, WalletClosed, WalletDamaged, WalletFault
+from .wallet_file import APPLICATION, OPENING, look_at, made
 
-MAKING, OPENING, READING, CHANGING = "making a wallet", "opening a wallet", "reading the wallet", "changing the wallet"
-APPLICATION = 0x5A4F5257  # "ZORW", in the database's head
+READING, CHANGING = "reading the wallet", "changing the wallet"
 FORM = 1
 WORD_BYTES = 32
 SCHEMA = f"""
@@ -89,38 +87,9 @@ class TxRow(NamedTuple):
 
 
 def make(path: Path) -> None:
-    """Makes a wallet's file with mode 600 and no words. It is there whole or not at all: it is made under another
-    name, and linked to its own where nothing has that.
-
-    Errors: `WalletExists`, `WalletFault`."""
-    name = os.path.abspath(path)
-    folder = os.path.dirname(name)
-    new = f"{name}.{secrets.token_hex(8)}.new"
-    try:
-        opened = os.open(new, os.O_CREAT | os.O_EXCL | os.O_RDWR | os.O_CLOEXEC, 0o600)
-        try:
-            os.fchmod(opened, 0o600)  # whatever the umask took away
-        finally:
-            os.close(opened)
-        try:
-            with contextlib.closing(sqlite3.connect(new, isolation_level=None)) as database:
-                database.executescript(f"PRAGMA journal_mode = MEMORY; PRAGMA synchronous = FULL; BEGIN; {SCHEMA} COMMIT;")
-            os.link(new, name)
-        finally:
-            os.unlink(new)
-        sync_folder(folder)
-    except FileExistsError:
-        raise WalletExists("there is something of that name", name, MAKING) from None
-    except (OSError, sqlite3.Error) as why:
-        raise WalletFault(str(why), name, MAKING) from None
-
-
-def sync_folder(folder: str) -> None:
-    opened = os.open(folder, os.O_RDONLY | os.O_DIRECTORY | os.O_CLOEXEC)
-    try:
-        os.fsync(opened)
-    finally:
-        os.close(opened)
+    """Makes a wallet's file without words. Errors: `WalletExists`, `WalletFault`."""
+    with made(path) as database:
+        database.executescript(f"BEGIN; {SCHEMA} COMMIT;")
 
 
 class Store:
@@ -171,7 +140,7 @@ class Store:
         except sqlite3.OperationalError as why:
             kind = WalletBusy if "locked" in str(why) else WalletFault
             raise kind(str(why), self.path, request) from None
-        except (sqlite3.DatabaseError, ValueError) as why:
+        except sqlite3.Error as why:
             raise WalletDamaged(str(why), self.path, request) from None
 
     def opened(self) -> sqlite3.Connection:
@@ -205,6 +174,11 @@ class Store:
             database, self.database = self.database, None
             if database is not None and os.getpid() == self.process:
                 database.close()
+
+    def copy(self, path: Path) -> None:
+        """Makes another file with all that this one has. Errors: `WalletExists`, `WalletFault`."""
+        with self.guard, made(path) as database:
+            self.opened().backup(database)
 
     # Words
 
@@ -252,19 +226,3 @@ class Store:
         """What the program says of a transaction; within `change`."""
         now = (state, state == "accepted", tx_id)
         self.opened().execute("UPDATE txs SET state = ?, was_accepted = was_accepted OR ? WHERE id = ?", now)
-
-
-def look_at(path: str) -> None:
-    """Sees that a wallet's file is one, and its owner's alone. It isn't opened for that: to close it again would
-    let go the locks that this process holds on it."""
-    try:
-        found = os.stat(path)
-    except FileNotFoundError:
-        raise NoWallet("it isn't there", path, OPENING) from None
-    except OSError as why:
-        raise WalletFault(str(why), path, OPENING) from None
-    if not stat.S_ISREG(found.st_mode) or not found.st_size:
-        raise NoWallet("it holds no wallet", path, OPENING)
-    if found.st_mode & 0o077:
-        mode = f"{found.st_mode & 0o777:o}"
-        raise NotPrivate(f"its mode is {mode}, so others may use its words: `chmod 600` makes it its owner's alone", path, OPENING)
