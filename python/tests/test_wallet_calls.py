@@ -44,7 +44,7 @@ def killed_at(kind: str, number: int, file: Path) -> Optional[List[bytes]]:
     return [bytes.fromhex(line) for line in done.stdout.split()]
 
 
-@pytest.mark.skipif(not can_trace(), reason="strace isn't there, or may not trace")
+@pytest.mark.skipif(not can_trace(), reason="a kill at each call of a wallet, since there is no strace, or it may not trace")
 @pytest.mark.parametrize("kind", CALLS)
 def test_killed_at_each_call(kind: str, tmp_path: Path) -> None:
     """And it goes on where it was killed."""

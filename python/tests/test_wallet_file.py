@@ -218,6 +218,23 @@ def test_a_fork_has_to_open_it_anew(file: Path) -> None:
     assert wallet.receive() == lock_of(words_in(file)[0])
 
 
+def test_nothing_is_left_open(file: Path) -> None:
+    Wallet.create(file).close()
+    before = len(os.listdir("/proc/self/fd"))
+    for _ in range(50):
+        with Wallet.open(file) as wallet:
+            wallet.locks()
+        with pytest.raises(NoWallet):
+            Wallet.open(file.with_name("none"))
+        with pytest.raises(WalletExists):
+            Wallet.create(file)
+    file.chmod(0o644)
+    for _ in range(50):
+        with pytest.raises(NotPrivate):
+            Wallet.open(file)
+    assert len(os.listdir("/proc/self/fd")) == before
+
+
 # When a word is on the disk
 
 RECEIVE = "import sys; from zorimarl.wallet import Wallet; w = Wallet.open(sys.argv[1]); w.receive(); print(w.receive().hex(), flush=True)"
@@ -231,7 +248,7 @@ def test_a_word_is_synced_before_its_lock_is_shown(file: Path, tmp_path: Path) -
     kinds = "write,pwrite64,fsync,fdatasync,ftruncate"
     words = ["strace", "-f", "-y", "-qq", "-e", f"trace={kinds}", "-o", str(trace), sys.executable, "-c", RECEIVE, str(file)]
     if not shutil.which("strace") or subprocess.run(["strace", "-qq", "-o", "/dev/null", "true"]).returncode:
-        pytest.skip("strace isn't there, or may not trace")
+        pytest.skip("the syncs before a lock is shown, since there is no strace, or it may not trace")
     lock = subprocess.run(words, capture_output=True, check=True, text=True).stdout.strip()
     calls = [found for found in map(re.compile(r"\d+ +(\w+)\(\d+<([^>]*)>(.*)").match, trace.read_text().splitlines()) if found]
     seen = [(each[1].replace("fdatasync", "fsync"), each[2], each[3]) for each in calls]

@@ -139,10 +139,13 @@ def busy(folder: Path) -> None:
 
 
 def reopened(file: Path) -> Ledger:
+    until = time.monotonic() + 60
     while True:
         try:
             return Ledger(file, timeout=60)
         except InUse:  # the node of a client that was killed ends a little later
+            if until < time.monotonic():
+                raise
             time.sleep(0.01)
 
 
