@@ -23,7 +23,7 @@ def asked(request: str) -> Callable[[Call[Asks, Answer]], Call[Asks, Answer]]:
 
     def around(call: Call[Asks, Answer]) -> Call[Asks, Answer]:
         @functools.wraps(call)
-        def told(self: Any, *args: Asks.args, **kwargs: Asks.kwargs) -> Answer:
+        def told(self: Any, /, *args: Asks.args, **kwargs: Asks.kwargs) -> Answer:
             try:
                 return call(self, *args, **kwargs)
             except LedgerError as why:
