@@ -11,6 +11,7 @@ import hashlib
 import sys
 from collections.abc import Iterable, Iterator, Sequence
 from dataclasses import dataclass, field
+from functools import cached_property
 
 sys.setrecursionlimit(1_000_000)
 
@@ -32,7 +33,7 @@ def sha(text: bytes) -> bytes:
 
 def meets(name: bytes, bits: int) -> bool:
     """The first bits of an id are zero, each byte read from its highest bit."""
-    return "".join(f"{byte:08b}" for byte in name)[:bits] == "0" * bits
+    return int.from_bytes(name, "big") >> (256 - bits) == 0
 
 
 class Fields:
@@ -81,13 +82,13 @@ class Tx:
     inputs: tuple[Input, ...]
     outputs: tuple[Output, ...]
 
-    @property
+    @cached_property
     def text(self) -> bytes:
         spent = b"".join(i.tx + bytes([i.index, len(i.preimage)]) + i.preimage for i in self.inputs)
         paid = b"".join(o.amount.to_bytes(8, "little") + o.lock for o in self.outputs)
         return bytes([len(self.inputs)]) + spent + bytes([len(self.outputs)]) + paid
 
-    @property
+    @cached_property
     def id(self) -> bytes:
         return sha(self.text)
 
@@ -102,7 +103,7 @@ class Block:
     parents: tuple[bytes, ...]
     txs: tuple[Tx, ...]
 
-    @property
+    @cached_property
     def text(self) -> bytes:
         head = b"\x01" + self.salt.to_bytes(8, "little") + self.nonce.to_bytes(8, "little")
         parents = bytes([len(self.parents)]) + b"".join(self.parents)
@@ -637,11 +638,15 @@ def lines_of(text: bytes) -> list[list[str]]:
     pieces = text.split(b"\n")
     if pieces[-1] == b"":
         pieces.pop()
-    found = []
+    found: list[list[str]] = []
+    nothing: list[str] = []
     for piece in pieces:
+        if not piece:
+            found.append(nothing)
+            continue
         line = (piece[:-1] if piece.endswith(b"\r") else piece).decode("latin-1")
         words = [word for word in line.replace("\t", " ").split(" ") if word]
-        found.append([] if words and words[0].startswith("#") else words)
+        found.append(nothing if words and words[0].startswith("#") else words)
     return found
 
 
@@ -691,6 +696,7 @@ class Scene:
         self.grants: list[Tx] = []
         self.made: dict[str, Block] = {}
         self.txs: dict[str, Tx] = {}
+        self.ids: set[bytes] = set()  # of the transactions
         self.words: dict[str, list[str]] = {}  # what locked each transaction's outputs
         self.locks: dict[bytes, str] = {}
         self.order: list[str] = []  # the names of blocks and transactions
@@ -719,13 +725,12 @@ class Scene:
     def line(self, words: list[str], number: int) -> None:
         plain(words)
         need("command", words[0] in COMMANDS)
-        before = set(self.seen)
         if words[0] == "profile":
-            need("late", not before)
+            need("late", not self.seen)
         if words[0] == "bits":
             need("late", self.seen in ([], ["profile"]))
         if words[0] == "grant":
-            need("late", before <= {"profile", "bits", "grant"})
+            need("late", set(self.seen) <= {"profile", "bits", "grant"})
         if words[0] in ("grant", "tx"):
             self.tx_line(words)
         elif words[0] in ("make", "block"):
@@ -770,7 +775,7 @@ class Scene:
 
     def new_name(self, name: str) -> None:
         need("name", 1 <= len(name) <= 32 and set(name) <= LETTERS and name not in KEY_WORDS)
-        need("taken", name != "G" and name not in self.order)
+        need("taken", name != "G" and name not in self.made and name not in self.txs)
 
     def spend(self, out: str, word: str | None, earlier: list[Input]) -> Input:
         name, dot, index = out.rpartition(".")
@@ -802,10 +807,11 @@ class Scene:
         if words[0] == "grant":
             need("many", len(self.grants) < 256 and len(Block(0, 0, (), (*self.grants, tx)).text) <= 65_536)
         need("number", sum(output.amount for output in outputs) < 2**63)
-        need("twin", all(tx.id != each.id for each in self.txs.values()))
+        need("twin", tx.id not in self.ids)
         if words[0] == "grant":
             self.grants.append(tx)
         self.txs[words[1]], self.words[words[1]] = tx, [word for _, word in pays]
+        self.ids.add(tx.id)
         self.order.append(words[1])
         self.label(word for _, word in pays)
 
@@ -829,8 +835,8 @@ class Scene:
 
     def mined(self, block: Block) -> Block:
         """The same block with the least nonce below 2^20 that meets the work."""
-        text = block.text
+        front, rest = block.text[:9], block.text[17:]
         for nonce in range(1 << 20):
-            if meets(sha(text[:9] + nonce.to_bytes(8, "little") + text[17:]), self.bits):
+            if meets(sha(front + nonce.to_bytes(8, "little") + rest), self.bits):
                 return Block(block.salt, nonce, block.parents, block.txs)
         raise LineFault("work")
