@@ -19,27 +19,23 @@ import { fileURLToPath } from "node:url";
 
 /** The first rule that bytes break, and the place of the field. */
 export class Fault extends Error {
-  /** @param {string} why @param {number} [at] */
-  constructor(why, at) {
+  constructor(/** @type {string} */ why, /** @type {number | undefined} */ at = undefined) {
     super(`${why} at ${at}`);
     this.why = why;
     this.at = at;
   }
 }
 
-/** @param {Uint8Array} bytes */
-export const sha = (bytes) => createHash("sha256").update(bytes).digest("hex");
-/** @param {number | bigint | string} value @param {number} width */
+export const sha = (/** @type {Uint8Array} */ bytes) => createHash("sha256").update(bytes).digest("hex");
+/** A number in so many bytes. @param {number | bigint | string} value @param {number} width */
 const little = (value, width) => Buffer.from(BigInt(value).toString(16).padStart(2 * width, "0"), "hex").reverse();
-/** @param {string} text */
-const hex = (text) => Buffer.from(text, "hex");
+const hex = (/** @type {string} */ text) => Buffer.from(text, "hex");
 
 /** Bytes that are read field by field, each whole before it is judged. */
 export class Fields {
   /** @param {Buffer} bytes */
   constructor(bytes) {
-    this.bytes = bytes;
-    this.at = this.begun = 0;
+    [this.bytes, this.at, this.begun] = [bytes, 0, 0];
   }
 
   /** @param {number} width */
@@ -60,7 +56,7 @@ export class Fields {
     this.rule(why, holds);
   }
 
-  /** A byte of few values. @param {string} why @param {number} low @param {number} high @param {number} [width] */
+  /** A number within bounds. @param {string} why @param {number} low @param {number} high @param {number} [width] */
   count(why, low, high, width = 1) {
     const value = this.number(width);
     this.rule(why, low <= value && value <= high);
@@ -151,8 +147,9 @@ export function mined({ salt, parents, txs = [], bits = 0 }) {
   return bytes;
 }
 
-/** @param {string} kind @param {Buffer} [payload] */
-const frame = (kind, payload = Buffer.alloc(0)) => Buffer.concat([Buffer.from(kind), little(payload.length, 4), payload]);
+const frame = (/** @type {string} */ kind, payload = Buffer.alloc(0)) => Buffer.concat([Buffer.from(kind), little(payload.length, 4), payload]);
+
+const [LINE, MORE, FAULT] = [/^[ -~]{1,192}$/, /^(vote|accepted|tx|balances|balance) /, /^fault [ -~]{1,186}$/];
 
 /** How the first line of an answer begins. @param {string} kind @param {Buffer} payload @returns {string[]} */
 function firsts(kind, payload) {
@@ -184,9 +181,9 @@ export class Node {
     this.line = lines.pop() ?? ""; // a line counts once its end was read
     for (this.last of lines) {
       const first = this.waiting[0];
-      if (this.last.startsWith("fault ")) continue; // the node ends by itself, and `over` tells it
-      if (!first || (!first.lines.length && !first.firsts.some((each) => `${this.last}\n`.startsWith(each)))) {
-        this.last = `it isn't asked for: ${this.last}`;
+      if (FAULT.test(this.last)) continue; // the node ends by itself, and `over` tells it
+      if (!first || !LINE.test(this.last) || !(first.lines.length ? MORE.test(this.last) : first.firsts.some((each) => `${this.last}\n`.startsWith(each)))) {
+        this.last = `not an answer: ${this.last}`;
         return void this.process.kill("SIGKILL");
       }
       // Pairs and reports say how many lines follow; behind those of a report stand those of its two lists.
@@ -196,6 +193,7 @@ export class Node {
       first.lines.push(this.last);
       if (!first.left) this.waiting.shift()?.done(first.lines);
     }
+    if (this.line.length > 192) this.process.kill("SIGKILL");
   }
 
   /** Once the node has ended, what isn't answered fails, and may have been done or not. @param {number | string} code */
@@ -217,7 +215,6 @@ export class Node {
     return this.ended;
   }
 
-  /* These are the questions, and the blocks. */
   offer(/** @type {Buffer} */ block) { return this.ask("B", block); }
   vote(/** @type {string} */ x, /** @type {string} */ y) { return this.ask("V", hex(x + y)); }
   tx(/** @type {string} */ id) { return this.ask("T", hex(id)); }
@@ -247,7 +244,7 @@ async function talk(file, bits) {
 
 if (process.argv[1] === fileURLToPath(import.meta.url)) {
   const [mode, ...rest] = process.argv.slice(2);
-  if (mode === "talk" && rest.length) await talk(rest[0], Number(rest[1] ?? 0));
-  else if (mode === "vectors") process.exitCode = (await import("../vectors/codecs.mjs")).tryAll(rest);
+  if (mode === "talk" && rest.length) talk(rest[0], Number(rest[1] ?? 0));
+  else if (mode === "vectors") import("../vectors/codecs.mjs").then(({ tryAll }) => (process.exitCode = tryAll(rest)));
   else process.exitCode = (console.error("usage: client.mjs talk FILE [BITS] | vectors FILE .."), 2);
 }

@@ -1,0 +1,139 @@
+#!/usr/bin/env python3
+"""Compares the program with the vectors and with the reference beside them.
+
+    python3 tests/vectors.py [SEED]
+
+The files have the form of their schema; they are what inputs and reference come to; the program does what each says, and
+on a thousand ledgers that are drawn by SEED (1 where none is named) what the reference says. Then faults are planted in
+what the program writes and in the reference, one at a time, and `vectors/run` has to name each."""
+
+from __future__ import annotations
+
+import pathlib
+import shutil
+import sys
+import tempfile
+
+from harness import DONE, PROGRAM, ROOT, call, finish, see
+
+FOLDER = ROOT / "vectors"
+sys.dont_write_bytecode = True
+sys.path.insert(0, str(FOLDER))
+
+from forms import KINDS, load  # type: ignore[import-not-found, unused-ignore]
+from rules import ALL  # type: ignore[import-not-found, unused-ignore]
+from schema import wrong  # type: ignore[import-not-found, unused-ignore]
+
+LIMIT = 550
+DRAWN = 1000
+MOST = 2_100_000  # bytes of the folder
+
+# Faults of a program, as what changes its output, its code, or its file: where they show.
+PROGRAMS = [
+    ("another word for a refusal", "transactions", "out = out.replace(b'tx-amount', b'tx-sum')"),
+    ("a place that is one too high", "feeds", "out = re.sub(rb'malformed (\\d+)', lambda m: b'malformed %d' % (int(m[1]) + 1), out)"),
+    ("a tie that is given to the first", "graphs", "out = out.replace(b' tie', b' before')"),
+    ("a rejected payment that is accepted", "ledgers", "out = out.replace(b'rejected', b'accepted')"),
+    ("another exit code", "spends", "code = 15 if code == 14 else code"),
+    ("a byte of a payment", "spends", "out = out[:-1] + bytes([out[-1] ^ 1]) if out[:1] == b'\\1' else out"),
+    ("a line that is left out", "scripts", "out = out.replace(b'idle\\n', b'')"),
+    ("a file that is made longer", "nodes", "words[0] == 'show' or open(words[-1], 'ab').write(b'x')"),
+    ("a certificate that isn't refused", "certificates", "code = 0 if code == 13 else code"),
+    ("a digit in upper case", "ids", "out = out.replace(b'a', b'A')"),
+    ("a number of changes", "watches", "out = out.replace(b'changes 3', b'changes 2')"),
+]
+# Faults of the reference: what is changed in its text, and where they show.
+REFERENCES = [
+    ("an outpoint that may stand twice", "transactions", "inputs[-1].outpoint < (name[:32]", "inputs[-1].outpoint <= (name[:32]"),
+    ("the version judged behind the salt", "blocks", '    fields.rule("Version", version == 1)\n    salt, nonce = fields.number(8), fields.number(8)\n',
+     '    salt, nonce = fields.number(8), fields.number(8)\n    fields.rule("Version", version == 1)\n'),
+    ("the higher salt", "graphs", "-1 if self.rank[x] < self.rank[y]", "-1 if self.rank[x] > self.rank[y]"),
+    ("a voter that counts the present blocks but itself", "graphs", "self.settled(self.virt(past, x, y), x, y)",
+     "self.settled(sgn(sum(self.vote(members, w, x, y, told) for w in members if w != z and not {x, y} <= self.past(w))), x, y)"),
+    ("a tie that is enough", "ledgers", "z, rival[0]) != -1", "z, rival[0]) == 1"),
+    ("a rival that isn't sound", "ledgers", "rival.id != tx.id and self.sound(other)", "rival.id != tx.id"),
+    ("a limit that is missed by one", "feeds", "elif len(text) >= limit:", "elif len(text) > limit:"),
+    ("512 records", "journals", "len(blocks) < 511", "len(blocks) < 512"),
+    ("the smallest first", "spends", "(-each[2].amount, ", "(each[2].amount, "),
+    ("a rank that is asked of y first", "certificates", "entry(graph, members, names", "-entry(graph, members, names"),
+]
+WRAPPER = """#!{python}
+import re, subprocess, sys
+words = sys.argv[1:]
+done = subprocess.run([{program!r}, *words], input=sys.stdin.buffer.read(), stdout=subprocess.PIPE, stderr=subprocess.DEVNULL)
+out, code = done.stdout, done.returncode
+{change}
+sys.stdout.buffer.write(out)
+sys.stdout.buffer.flush()
+sys.exit(code)
+"""
+
+
+def last_line(output: bytes) -> str:
+    lines = output.decode("utf-8", "replace").splitlines()
+    return lines[-1] if lines else ""
+
+
+def has_form() -> None:
+    """Schema, names and rules, and the folder's length."""
+    schema = load(FOLDER / "schema.json")
+    used: set[str] = set()
+    for kind in KINDS:
+        file = load(FOLDER / f"{kind}.json")
+        faults = list(wrong(schema, schema, file))
+        see(f"{kind}.json has the form of schema.json: {faults[:3]}", not faults and file["kind"] == kind)
+        names = [vector["name"] for vector in file["vectors"]]
+        see(f"each vector of {kind}.json has a name of its own", len(set(names)) == len(names))
+        used |= {rule for vector in file["vectors"] for rule in vector["rules"]}
+    see(f"each rule has a vector, and each rule that is named is one: {sorted(used ^ set(ALL))}", used == set(ALL))
+    schema["$defs"]["vector"]["required"].append("nothing")
+    see("a vector without a field that is required has not that form", any(wrong(schema, schema, load(FOLDER / "ids.json"))))
+    length = sum(path.stat().st_size for path in FOLDER.iterdir() if path.is_file())
+    see(f"the folder has about 2 MB, and not {length}", length <= MOST)
+
+
+def is_fresh() -> None:
+    done = call([sys.executable, FOLDER / "make.py", "--check"], seconds=LIMIT)
+    see(f"the files are what inputs and reference come to: {done.stdout.decode()}", done.returncode == DONE)
+
+
+def compares(seed: str) -> None:
+    done = call([sys.executable, FOLDER / "run", "--drawn", str(DRAWN), "--seed", seed, PROGRAM], seconds=LIMIT)
+    print(f"vectors/run --drawn {DRAWN} --seed {seed}: {last_line(done.stdout)}")
+    passed = int(last_line(done.stdout).split()[0]) if done.returncode == DONE else 0
+    see(f"program, vectors and reference agree: {done.stdout.decode()[-2000:]} {done.stderr.decode()[-500:]}", passed > DRAWN + 600)
+
+
+def names_faults(folder: pathlib.Path) -> None:
+    """Faults that are planted."""
+    for at, (title, kind, change) in enumerate(PROGRAMS):
+        wrapper = folder / f"program-{at}"
+        wrapper.write_text(WRAPPER.format(python=sys.executable, program=PROGRAM, change=change))
+        wrapper.chmod(0o755)
+        done = call([sys.executable, FOLDER / "run", "--kind", kind, wrapper], seconds=LIMIT)
+        see(f"a program with {title} is named: {last_line(done.stdout)}", done.returncode == 1 and f"DIFFERS {kind}/".encode() in done.stdout)
+    for at, (title, kind, old, new) in enumerate(REFERENCES):
+        place = folder / f"reference-{at}"
+        shutil.copytree(FOLDER, place, ignore=shutil.ignore_patterns("__pycache__"))
+        changed = 0
+        for path in (place / "reference.py", place / "commands.py"):
+            text = path.read_text()
+            changed += text.count(old)
+            path.write_text(text.replace(old, new))
+        done = call([sys.executable, place / "run", "--reference", "--kind", kind], seconds=LIMIT)
+        see(f"a reference with {title} is named: {last_line(done.stdout)}", changed == 1 and done.returncode == 1 and f"DIFFERS {kind}/".encode() in done.stdout)
+    done = call([sys.executable, FOLDER / "run", "--kind", "ids", folder / "nothing"])
+    see("what is no program is a faulty command line", done.returncode == 2)
+
+
+def main(words: list[str]) -> int:
+    has_form()
+    is_fresh()
+    compares(words[0] if words else "1")
+    with tempfile.TemporaryDirectory() as folder:
+        names_faults(pathlib.Path(folder))
+    return finish()
+
+
+if __name__ == "__main__":
+    sys.exit(main(sys.argv[1:]))
