@@ -17,16 +17,8 @@ import tempfile
 from harness import DONE, PROGRAM, ROOT, call, finish, see
 
 FOLDER = ROOT / "vectors"
-sys.dont_write_bytecode = True
-sys.path.insert(0, str(FOLDER))
-
-from forms import KINDS, load  # type: ignore[import-not-found, unused-ignore]
-from rules import ALL  # type: ignore[import-not-found, unused-ignore]
-from schema import wrong  # type: ignore[import-not-found, unused-ignore]
-
 LIMIT = 550
 DRAWN = 1000
-MOST = 2_100_000  # bytes of the folder
 
 # Faults of a program, as what changes its output, its code, or its file: where they show.
 PROGRAMS = [
@@ -74,22 +66,22 @@ def last_line(output: bytes) -> str:
     return lines[-1] if lines else ""
 
 
-def has_form() -> None:
-    """Schema, names and rules, and the folder's length."""
-    schema = load(FOLDER / "schema.json")
-    used: set[str] = set()
-    for kind in KINDS:
-        file = load(FOLDER / f"{kind}.json")
-        faults = list(wrong(schema, schema, file))
-        see(f"{kind}.json has the form of schema.json: {faults[:3]}", not faults and file["kind"] == kind)
-        names = [vector["name"] for vector in file["vectors"]]
-        see(f"each vector of {kind}.json has a name of its own", len(set(names)) == len(names))
-        used |= {rule for vector in file["vectors"] for rule in vector["rules"]}
-    see(f"each rule has a vector, and each rule that is named is one: {sorted(used ^ set(ALL))}", used == set(ALL))
-    schema["$defs"]["vector"]["required"].append("nothing")
-    see("a vector without a field that is required has not that form", any(wrong(schema, schema, load(FOLDER / "ids.json"))))
-    length = sum(path.stat().st_size for path in FOLDER.iterdir() if path.is_file())
-    see(f"the folder has about 2 MB, and not {length}", length <= MOST)
+def has_form(folder: pathlib.Path) -> None:
+    """Schema, names and rules, and the folder's length; and the same where one of them is at fault."""
+    done = call([sys.executable, FOLDER / "make.py", "--form"])
+    see(f"the files have their form: {done.stdout.decode()[:500]}", done.returncode == DONE)
+    for title, name, old, new, said in (
+        ("a field that is missing", "ids.json", '"why": "The last digit is a blank."', '"whys": ""', "ids.json: /vectors/9 lacks some of"),
+        ("a rule that isn't there", "ids.json", '"id/odd"', '"id/even"', "id/even is named and no rule"),
+        ("two vectors of one name", "ids.json", '"odd-63"', '"even-62"', "ids.json has two vectors even-62"),
+        ("digits in upper case", "blocks.json", '"bytes": "0101', '"bytes": "01FF', "blocks.json: /vectors/0"),
+    ):
+        place = folder / title.replace(" ", "-")
+        shutil.copytree(FOLDER, place, ignore=shutil.ignore_patterns("__pycache__"))
+        file = place / name
+        file.write_text(file.read_text().replace(old, new))
+        done = call([sys.executable, place / "make.py", "--form"])
+        see(f"{title} is named: {done.stdout.decode()[:500]}", done.returncode == 1 and said in done.stdout.decode())
 
 
 def is_fresh() -> None:
@@ -127,10 +119,10 @@ def names_faults(folder: pathlib.Path) -> None:
 
 
 def main(words: list[str]) -> int:
-    has_form()
     is_fresh()
     compares(words[0] if words else "1")
     with tempfile.TemporaryDirectory() as folder:
+        has_form(pathlib.Path(folder))
         names_faults(pathlib.Path(folder))
     return finish()
 

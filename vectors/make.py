@@ -3,9 +3,10 @@
 
     python3 vectors/make.py PROGRAM     write them, if the program does what the reference says
     python3 vectors/make.py --check     say which files aren't what the inputs and the reference come to
+    python3 vectors/make.py --form      say which files haven't the form of schema.json, or name a rule that isn't there
 
 Where the program differs in a single vector, nothing is written, and each such vector is named. The table of README.md
-is written with them. The last line is `N vectors`, or says what is wrong; the status is 0 where all is well."""
+is written with them. The last line of the first two is `N vectors`, or says what is wrong; the status is 0 where all is well."""
 
 from __future__ import annotations
 
@@ -21,9 +22,11 @@ import chosen_runs
 from calls import wrongs
 from forms import HERE, KINDS, SMALLEST, Vector, load, put, sha, spelled
 from rules import ALL, RULES
+from schema import wrong
 from spell import block
 from work import deep, worked_out
 
+MOST = 2_100_000  # bytes of this folder
 ABOUT = {
     "ids": "Texts that are ids, or why they are none.",
     "transactions": "Bytes of transactions: what they spell, or their first fault and the place of its field.",
@@ -142,21 +145,41 @@ def disagreements(program: str, vectors: dict[str, list[Vector]]) -> list[str]:
     with ThreadPoolExecutor() as pool:
         listed = [(kind, vector) for kind, each in vectors.items() for vector in each]
         said = pool.map(lambda one: wrongs([program], *one), listed)
-        return [f"{kind}/{vector['name']} ({vector['why']})\n    {wrong}" for (kind, vector), found in zip(listed, said) for wrong in found]
+        return [f"{kind}/{vector['name']} ({vector['why']})\n    {each}" for (kind, vector), found in zip(listed, said) for each in found]
+
+
+def faults_of_form() -> list[str]:
+    """What is wrong with the form of the files, with names, and with rules."""
+    schema, found = load(HERE / "schema.json"), []
+    used: set[str] = set()
+    for kind in KINDS:
+        file = load(HERE / f"{kind}.json")
+        found += [f"{kind}.json: {each}" for each in wrong(schema, schema, file)]
+        names = [vector["name"] for vector in file["vectors"]]
+        found += [f"{kind}.json has two vectors {name}" for name in sorted(set(names)) if names.count(name) > 1]
+        found += [f"{kind}.json has vectors of {file['kind']}"] if file["kind"] != kind else []
+        used |= {rule for vector in file["vectors"] for rule in vector["rules"]}
+    found += [f"{rule} is named and no rule, or a rule without a vector" for rule in sorted(used ^ set(ALL))]
+    length = sum(path.stat().st_size for path in HERE.iterdir() if path.is_file())
+    return found + ([f"the folder has {length} bytes"] if length > MOST else [])
 
 
 def main(words: list[str]) -> int:
     if len(words) != 1:
-        print("usage: make.py PROGRAM, or make.py --check", file=sys.stderr)
+        print("usage: make.py PROGRAM, or make.py --check or --form", file=sys.stderr)
         return 2
+    if words == ["--form"]:
+        found = faults_of_form()
+        print("\n".join(found) or "all files have their form")
+        return 1 if found else 0
     vectors = deep(made)
     texts = files(vectors)
     if words == ["--check"]:
         stale = [path.name for path, text in texts.items() if not path.is_file() or path.read_text("utf-8") != text]
         print(f"not what the inputs come to: {', '.join(stale)}" if stale else f"{sum(map(len, vectors.values()))} vectors")
         return 1 if stale else 0
-    if wrong := disagreements(words[0], vectors):
-        print("\n".join([*wrong, f"nothing is written: reference and program differ in {len(wrong)} places"]))
+    if differing := disagreements(words[0], vectors):
+        print("\n".join([*differing, f"nothing is written: reference and program differ in {len(differing)} places"]))
         return 1
     for path, text in texts.items():
         path.write_text(text, "utf-8")
