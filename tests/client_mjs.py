@@ -99,6 +99,8 @@ def starts(folder: pathlib.Path) -> None:
     heads = [line.split()[0] for line in lines]
     see("answers stand in the order of the messages", heads == ["kept", "pairs", "vote", "vote", "vote", "blocks", "accepted", "balances", "tx"])
     see("and say how long they are", lines[1] == "pairs 3" and lines[6:8] == ["accepted 0", "balances 0"])
+    talk.write(frame(b"B", bytes(65_537)))
+    see("a message that is longer than a pipe is read to its end first", talk.line() == "refused too-long")
     see("the frame `E` ends with 0 and nothing more", talk.end(E + frame(b"P")) == (DONE, ""))
 
 

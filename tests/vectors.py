@@ -24,7 +24,7 @@ DRAWN = 1000
 PROGRAMS = [
     ("another word for a refusal", "transactions", "out = out.replace(b'tx-amount', b'tx-sum')"),
     ("a place that is one too high", "feeds", "out = re.sub(rb'malformed (\\d+)', lambda m: b'malformed %d' % (int(m[1]) + 1), out)"),
-    ("a tie that is given to the first", "graphs", "out = out.replace(b' tie', b' before')"),
+    ("a tie that is given to the first", "watches", "out = out.replace(b' tie', b' before')"),
     ("a rejected payment that is accepted", "ledgers", "out = out.replace(b'rejected', b'accepted')"),
     ("another exit code", "spends", "code = 15 if code == 14 else code"),
     ("a byte of a payment", "spends", "out = out[:-1] + bytes([out[-1] ^ 1]) if out[:1] == b'\\1' else out"),
