@@ -67,17 +67,54 @@ def drawn(seed: int, number: int) -> str:
     return "".join(f"{line}\n" for line in lines)
 
 
+WORDS = ("profile bits grant tx make block send vote state balance pairs report nodes on carries spends with pays to G b0 b1 g0 t0 g0.0 g0.1 t0.0 g0.9 g0.00 "
+         "0 1 2 3 65 01 -1 9223372036854775807 9223372036854775808 # x x! give tell deliver").split() + ["w" * 65, "n" * 33, "\t", "\r", "\x7f", ""]
+
+
+def garbled(seed: int, number: int, text: str) -> str:
+    """A text some of whose words and lines are changed, left out, or stand twice or elsewhere."""
+    draw = random.Random(f"{seed}/{number}/garbled")
+    lines = text.splitlines()
+    for _ in range(draw.choice([1, 1, 2, 3])):
+        at = draw.randrange(len(lines))
+        words = lines[at].split(" ")
+        place = draw.randrange(len(words))
+        change = draw.randrange(6)
+        if change < 3:
+            words[place:place + change] = [draw.choice(WORDS)]
+        elif change == 3:
+            del words[place]
+        elif change == 4:
+            words.insert(place, draw.choice(words))
+        lines[at] = " ".join(words)
+        if change == 5:
+            lines.insert(draw.randrange(len(lines)), lines[at] if draw.random() < 0.5 else lines.pop(at))
+    return "".join(f"{line}\n" for line in lines)
+
+
+def spoiled(seed: int, number: int, data: bytes) -> bytes:
+    """Bytes of which one is changed, left out or put in, or that are cut."""
+    draw = random.Random(f"{seed}/{number}/spoiled")
+    at = draw.choice([draw.randrange(len(data)), draw.randrange(min(len(data), 120)), len(data) - 1 - draw.randrange(min(len(data), 40))])
+    byte = bytes([draw.choice([0, 1, 2, 3, 17, 65, 255, data[at] ^ 1 << draw.randrange(8)])])
+    return data[:at] + draw.choice([byte + data[at + 1:], byte + data[at + 1:], data[at + 1:], byte + data[at:], b""])
+
+
 def questions(seed: int, number: int, text: str, feed: bytes, ids: list[str]) -> Iterator[Asked]:
     """What is asked of a drawn ledger beside its own questions: each by turns, since each costs a call of the program."""
     draw = random.Random(f"{seed}/{number}/asked")
+    yield ["play"], garbled(seed, number, text).encode()
     if number % 4 == 0:
         yield ["replay"], feed
+        yield ["replay"], spoiled(seed, number, feed)
     if number % 4 == 1:
         yield ["certify", *draw.sample(ids, 2)], feed
     if number % 4 == 2:
         yield ["spend", str(draw.randint(1, 120)), "to", "zed", "from", *draw.sample(["ann", "bob", "cid", "own0", "own1"], draw.randint(1, 4))], feed
     if number % 4 == 3:
-        yield ["gossip"], (text + "nodes 3\n" + "".join(f"{line}\n" for line in script(draw, text))).encode()
+        nodes = "".join(f"{line}\n" for line in ["nodes 3", *script(draw, text)])
+        yield ["gossip"], (text + nodes).encode()
+        yield ["gossip"], (text + garbled(seed, number, nodes)).encode()
 
 
 def script(draw: random.Random, text: str) -> list[str]:

@@ -169,9 +169,9 @@ def graph_runs(vector: Vector) -> Iterator[Run]:
     frames = [frame("B", payloads[step["block"]]) + frame("P") for step in vector["after"]]
     given = feed(SMALLEST, *frames, profile=vector["profile"])
     yield Run(["replay"], given, 0, text_of(*lines))
-    for x, y, word, votes in vector["after"][-1]["votes"]:
-        if set(votes) != {"-"}:  # as those of an ancestor and its descendant are
-            yield Run(["certify", ids[x], ids[y]], given, 0, f"{word} {votes}".encode(), outside="votes")
+    for x, y, word, said in vector["after"][-1]["votes"]:
+        if set(said) != {"-"}:  # as those of an ancestor and its descendant are
+            yield Run(["certify", ids[x], ids[y]], given, 0, f"{word} {said}".encode(), outside="votes")
 
 
 def turned(word: str) -> str:
