@@ -181,6 +181,7 @@ LIMITED: list[tuple[str, str, str, bytes, int]] = [
     ("limit-33", "33 bytes were taken within the head, and another is needed.", "feed/too-long", SMALL, 33),
     ("limit-38", "The frame `E` lacks a byte within the limit.", "feed/too-long", SMALL, 38),
     ("limit-39", "A feed that is whole within the limit is whole.", "feed/too-long feed/whole", SMALL + b"more", 39),
+    ("limit-just", "A feed that ends just at the limit is too long, since nothing behind it is looked at.", "feed/too-long", SMALL[:33], 33),
     ("limit-beyond", "A feed shorter than the limit is truncated.", "feed/too-long feed/truncated", SMALL[:33], 34),
     ("limit-malformed", "A fault within the limit is told.", "feed/too-long feed/kind", feed(GENESIS, b"Z") + bytes(9), 35),
     ("limit-before-fault", "A fault behind the limit isn't seen.", "feed/too-long", feed(GENESIS, b"Z"), 34),
