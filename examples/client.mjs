@@ -12,8 +12,7 @@ import { createHash } from "node:crypto";
 import { createInterface } from "node:readline";
 import { fileURLToPath } from "node:url";
 
-/** @typedef {{tx: string, index: number, preimage: string}} Input */
-/** @typedef {{amount: string, lock: string}} Output */
+/** @typedef {{tx: string, index: number, preimage: string}} Input @typedef {{amount: string, lock: string}} Output */
 /** @typedef {{id: string, inputs: Input[], outputs: Output[]}} Tx */
 /** @typedef {{id: string, salt: string, nonce: string, parents: string[], transactions: Tx[]}} Block */
 
@@ -33,13 +32,9 @@ const hex = (/** @type {string} */ text) => Buffer.from(text, "hex");
 
 /** Bytes that are read field by field, each whole before it is judged. */
 export class Fields {
-  /** @param {Buffer} bytes */
-  constructor(bytes) {
-    [this.bytes, this.at, this.begun] = [bytes, 0, 0];
-  }
+  constructor(/** @type {Buffer} */ bytes) { [this.bytes, this.at, this.begun] = [bytes, 0, 0]; }
 
-  /** @param {number} width */
-  take(width) {
+  take(/** @type {number} */ width) {
     this.begun = this.at;
     if (this.bytes.length - this.at < width) throw new Fault("Short", this.begun);
     this.at += width;
@@ -148,7 +143,6 @@ export function mined({ salt, parents, txs = [], bits = 0 }) {
 }
 
 const frame = (/** @type {string} */ kind, payload = Buffer.alloc(0)) => Buffer.concat([Buffer.from(kind), little(payload.length, 4), payload]);
-
 const [LINE, MORE, FAULT] = [/^[ -~]{1,192}$/, /^(vote|accepted|tx|balances|balance) /, /^fault [ -~]{1,186}$/];
 
 /** How the first line of an answer begins. @param {string} kind @param {Buffer} payload @returns {string[]} */
@@ -164,7 +158,7 @@ export class Node {
   constructor(program, file, genesis, bits = 0, profile = 1) {
     /** @type {{firsts: string[], left: number, lines: string[], done: (lines: string[]) => void, fail: (error: Error) => void}[]} */
     this.waiting = [];
-    this.line = this.last = "";
+    [this.line, this.fault, this.broken, this.code] = ["", "", "", /** @type {number | string | null} */ (null)];
     this.process = spawn(program[0], [...program.slice(1), "node", file], { stdio: ["pipe", "pipe", "inherit"] });
     this.ended = new Promise((done) => {
       this.process.on("error", (error) => done(this.over(String(error))));
@@ -179,34 +173,41 @@ export class Node {
   read(text) {
     const lines = (this.line + text).split("\n");
     this.line = lines.pop() ?? ""; // a line counts once its end was read
-    for (this.last of lines) {
-      const first = this.waiting[0];
-      if (FAULT.test(this.last)) continue; // the node ends by itself, and `over` tells it
-      if (!first || !LINE.test(this.last) || !(first.lines.length ? MORE.test(this.last) : first.firsts.some((each) => `${this.last}\n`.startsWith(each)))) {
-        this.last = `not an answer: ${this.last}`;
-        return void this.process.kill("SIGKILL");
-      }
+    for (const line of this.line.length > 192 ? [...lines, this.line] : lines) if (!this.broken) this.take(line);
+  }
+
+  /** A line of an answer, or of a fault, behind which the node ends; any other one ends it at once. @param {string} line */
+  take(line) {
+    const first = this.waiting[0];
+    const begins = first?.lines.length ? MORE.test(line) : first?.firsts.some((each) => `${line}\n`.startsWith(each));
+    if (!this.fault && FAULT.test(line)) this.fault = line;
+    else if (this.fault || !begins || !LINE.test(line)) {
+      this.broken = `no answer: ${line}`;
+      this.process.kill("SIGKILL");
+    } else {
       // Pairs and reports say how many lines follow; behind those of a report stand those of its two lists.
-      const [word, count] = this.last.split(" ");
-      const more = { pairs: Number(count), blocks: 1, accepted: Number(count) + 1, balances: Number(count) }[word];
-      first.left += (more ?? 0) - 1;
-      first.lines.push(this.last);
+      const [word, count] = line.split(" ");
+      first.left += ({ pairs: Number(count), blocks: 1, accepted: Number(count) + 1, balances: Number(count) }[word] ?? 0) - 1;
+      first.lines.push(line);
       if (!first.left) this.waiting.shift()?.done(first.lines);
     }
-    if (this.line.length > 192) this.process.kill("SIGKILL");
   }
 
   /** Once the node has ended, what isn't answered fails, and may have been done or not. @param {number | string} code */
   over(code) {
-    for (const each of this.waiting.splice(0)) each.fail(new Error(`the node ended with ${code}: ${this.last}`));
-    return code;
+    const isShort = this.waiting.length || this.fault || this.line;
+    this.code ??= code === 0 && isShort ? "0, which isn't its end" : code;
+    for (const each of this.waiting.splice(0)) each.fail(this.why());
+    return this.code;
   }
+
+  why() { return new Error(`the node ended with ${this.code}: ${this.broken || this.fault}`); }
 
   /** @param {string} kind @param {Buffer} [payload] @returns {Promise<string[]>} */
   ask(kind, payload = Buffer.alloc(0)) {
-    const answer = new Promise((done, fail) => this.waiting.push({ firsts: firsts(kind, payload), left: 1, lines: [], done, fail }));
+    if (this.code !== null) return Promise.reject(this.why());
     this.process.stdin.write(frame(kind, payload)); // what the pipe doesn't take is kept, and written later
-    return answer;
+    return new Promise((done, fail) => this.waiting.push({ firsts: firsts(kind, payload), left: 1, lines: [], done, fail }));
   }
 
   /** The frame `E` ends the node, which answers all first: 0 is the good end. @returns {Promise<number | string>} */
@@ -228,17 +229,16 @@ async function talk(file, bits) {
   const genesis = mined({ salt: 0, parents: [] });
   const program = process.env.SPECTRE ?? fileURLToPath(new URL("../bin/spectre", import.meta.url));
   const node = new Node([program], file, genesis, bits);
-  /** @type {Promise<void>[]} */
-  const told = [];
+  let failure = "";
   for await (const line of createInterface({ input: process.stdin })) {
     const [word, ...rest] = line.split(" ").map((each) => (each === "G" ? sha(genesis) : each));
     const kind = { block: "B", vote: "V", tx: "T", balance: "U", pairs: "P", report: "R" }[word];
     if (!kind) throw new Error(`no request: ${line}`);
     const payload = word === "block" ? mined({ salt: rest[0], parents: rest.slice(1), bits }) : hex(rest.join(""));
-    told.push(node.ask(kind, payload).then((lines) => console.log(lines.join("\n"))));
+    node.ask(kind, payload).then((lines) => console.log(lines.join("\n")), (error) => (failure ||= error.message));
   }
   const code = await node.end();
-  await Promise.all(told).catch((error) => console.error(error.message));
+  if (failure) console.error(failure);
   process.exitCode = typeof code === "number" ? code : 126;
 }
 

@@ -259,6 +259,16 @@ const node = new Node([{json.dumps(str(listed))}], file, mined({{ salt: 0, paren
 console.log(JSON.stringify(await node.pairs().catch((error) => error.message.slice(0, 14))));
 """
     see("a list that is cut is no answer", javascript(body, folder / "none") == "the node ended")
+    for title, text in (("a line behind a fault's", f"fault truncated 9\nvote {G.hex()} {G.hex()} same\n"), ("a fault that ends with 0", "fault truncated 9\n")):
+        fake = folder / "faulty"
+        fake.write_text(f"#!/bin/sh\nhead -c {len(HEAD)} >/dev/null\nprintf '%s' '{text}'\n")
+        fake.chmod(0o755)
+        told = javascript(f"""
+const node = new Node([{json.dumps(str(fake))}], file, mined({{ salt: 0, parents: [] }})), root = sha(mined({{ salt: 0, parents: [] }}));
+const first = await node.vote(root, root).catch((error) => error.message.slice(0, 14));
+console.log(JSON.stringify([first, await node.report().catch((error) => error.message.slice(0, 14)), await node.end()]));
+""", folder / "none")
+        see(f"{title} is no answer, and nothing is asked any more: {told}", isinstance(told, list) and told[:2] == ["the node ended"] * 2 and told[2] != 0)
     told = javascript("""
 const node = new Node(["/nowhere/spectre"], file, mined({ salt: 0, parents: [] }));
 console.log(JSON.stringify([await node.report().catch(() => "failed"), String(await node.end()).includes("ENOENT")]));
@@ -281,6 +291,8 @@ def asks_by_lines(folder: pathlib.Path) -> None:
     lines = "block 1 G\nvote G G\nreport\n".encode()
     done = call(["node", CLIENT, "talk", folder / "journal", "4"], lines, env={**os.environ, "SPECTRE": PROGRAM})
     said = done.stdout.decode().splitlines()
+    told = call(["node", CLIENT, "talk", folder / "journal", "5"], lines * 20, env={**os.environ, "SPECTRE": PROGRAM})
+    see(f"another chain ends them: {told.stderr.decode()}", told.returncode == 8 and b"the node ended with 8: fault other-chain 4 " in told.stderr)
     see(f"requests by lines: {said}", done.returncode == DONE and [line.split()[0] for line in said] == ["kept", "vote", "blocks", "accepted", "balances"])
 
 
