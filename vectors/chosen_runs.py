@@ -381,7 +381,7 @@ NODES: list[Run] = [
 ]
 
 USAGES = [
-    "", "help", "--help", "--version x", "play play", "node", "node FILE FILE", "node --fresh", "node --fresh --fresh FILE", "node -f", "show", "show -f",
+    "", "help", "-h", "--version x", "play play", "node", "node FILE FILE", "node --fresh", "node --fresh --fresh FILE", "node -f", "show", "show -f",
     "export FILE", "export FILE 3", "export FILE 01", "make", "make 512 0 1", "make 03 0 1", "make 3 18446744073709551616 1", "make 3 0 0", "make 3 0 17",
     "make 3 -1 1", "drill 3 0", "drill 3 0 1 1", "replay x", f"certify {AH}", f"certify {AH} {BH[:-1]}", f"certify {AH} {BH[:-1]}g", f"certify {AH} {BH}0",
     "check x", "gossip x", "spend 1 to b", "spend 0 to b from a", "spend 9223372036854775808 to b from a", "spend 01 to b from a", "spend 1 to b from a a",

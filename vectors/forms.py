@@ -46,7 +46,7 @@ def unspelled(text: str) -> bytes:
 
 def put(data: bytes) -> Vector:
     """Text where it is some, else bytes."""
-    plain = all(byte == 10 or 32 <= byte < 127 for byte in data) and not re.search(rb"(.)\1{63,}", data, re.S)
+    plain = len(data) < 1 << 20 and all(byte == 10 or 32 <= byte < 127 for byte in data) and not re.search(rb"(.)\1{63,}", data, re.S)
     return {"text": data.decode()} if plain else {"bytes": spelled(data)}
 
 
