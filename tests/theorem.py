@@ -22,7 +22,7 @@ from collections import Counter
 from dataclasses import dataclass, field
 from html.parser import HTMLParser
 
-from harness import ROOT, call, finish, run_all, see
+from harness import ROOT, call, run_all, see
 
 PAGE = ROOT / "docs/theorem.html"
 CONTRACT = "spectre.command.run"
@@ -230,7 +230,8 @@ def leads(box: Box, word: str, link: str, boxes: dict[str, Box]) -> bool:
     if front in ("S", "K", "D"):
         return f"ghost {rest[0]}: " in boxes[link].text
     uses = uses_in(file)
-    path = uses.get(front) or next((whole for each, whole in uses.items() if "◌" in each and front in each.split("◌")), "")
+    operators = [whole for each, whole in uses.items() if "◌" in each and front in each.split("◌")]
+    path = uses.get(front, operators[0] if operators else "")
     name = rest[-1] if rest else path.rsplit(".", 1)[-1] or front
     if link.startswith("std."):
         return path.split(".")[:2] in (["Rattle", "std"], ["Rattle", "hex"], ["Rattle", "sha2"], [""]) and name == link[4:]
@@ -251,7 +252,8 @@ def names_are_placed(_: pathlib.Path) -> None:
     left, counted = [], 0
     for box in page.boxes:
         text = no_comments(box.text)
-        local = binders(text) | {box.key.rsplit(".", 1)[-1]} | set(re.findall(r"(?m)^ +(?:(?:pub|fn|ghost|ensures|requires) )?(\w+)", text)) | (handed if box.key.startswith(CONTRACT) else set())
+        local = binders(text) | {box.key.rsplit(".", 1)[-1]} | set(re.findall(r"(?m)^ +(?:(?:pub|fn|ghost|ensures|requires) )?(\w+)", text))
+        local |= handed if box.key.startswith(CONTRACT) else set()
         words = [] if box.key == CONTRACT else spelled(box, text)
         for before, word, behind, link in words:
             counted += 1
@@ -318,7 +320,7 @@ def faults_are_told(folder: pathlib.Path) -> None:
     root = tree(folder)
     see("a copy gives the same page", writer(root, root / "page") == (0, "") and (root / "page").read_bytes() == PAGE.read_bytes())
     for file, old, new, said in (
-        ("crates/spectre/specs/Output.antt", "use Rattle.sp_make.specs.Made.{made}\n", "", "crates/spectre/specs/Output.antt:37: output_by: line 9: `made` names nothing here"),
+        ("crates/spectre/specs/Output.antt", "use Rattle.sp_make.specs.Made.{made}\n", "", "specs/Output.antt:37: output_by: line 9: `made` names nothing here"),
         ("crates/sp_model/specs/Votes.antt", "abbrev pub word :", "abbrev pub wort :", "`Rattle.sp_model.specs.Votes.word` names nothing"),
         ("crates/sp_model/src/word.rt", "    Tie,", "    Ties,", "Rattle.sp_model.specs.declared.word.Word.TheVariants.Tie` isn't declared"),
         ("crates/sp_io/specs/Causes.antt", "Rose before now = counted before ≤ now", "Rose before now = counted befor ≤ now", "`befor` names nothing here"),
