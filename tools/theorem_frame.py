@@ -56,6 +56,7 @@ tbody th, tfoot th, .r { white-space: nowrap }
 thead th { color: var(--faint); font-size: .8125rem }
 .r { text-align: right; font-variant-numeric: tabular-nums; padding-right: .5rem }
 tfoot th, tfoot td { font-weight: 600 }
+p, td, h3 small { overflow-wrap: anywhere }
 dl { display: grid; grid-template-columns: minmax(9rem, 15rem) 1fr; gap: .5rem 1.5rem; margin: 1rem 0 }
 dd { margin: 0 }
 footer { color: var(--faint); font-size: .875rem; border-top: 1px solid var(--edge); padding: 1rem 0 3rem }
@@ -64,7 +65,13 @@ footer { color: var(--faint); font-size: .875rem; border-top: 1px solid var(--ed
   nav > div { position: static; max-height: none; padding: 1rem 0 0 }
   nav ul { columns: 3 9rem; column-gap: 2rem }
 }
-@media (max-width: 40rem) { dl { display: block } dd { margin: 0 0 .75rem } h3 small { display: block; margin: 0 } }
+@media (max-width: 40rem) {
+  dl { display: block }
+  dd { margin: 0 0 .75rem }
+  h3 small { display: block; margin: 0 }
+  th, td { padding-right: .5rem }
+  tbody th { white-space: normal; overflow-wrap: anywhere }
+}
 @media print {
   :root { --ink: #000; --faint: #444; --paper: #fff; --box: #fff; --edge: #bbb; --link: #000; --name: #000; --here: #fff }
   nav, .skip { display: none }

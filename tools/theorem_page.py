@@ -106,7 +106,7 @@ class Page:
         key = f"{section.key}{'.more' if section.continued else ''}"
         name = section.key.split(".", 1)[-1]
         head = "" if section.continued else "".join(f"<p>{prose(each)}</p>" for each in section.head)
-        out = [f'<section aria-labelledby="{key}"><h3 id="{key}">{escape(name)}{", on" if section.continued else ""} <small>{section.file}</small></h3>{head}\n']
+        out = [f'<section><h3 id="{key}">{escape(name)}{", on" if section.continued else ""} <small>{section.file}</small></h3>{head}\n']
         group = None
         for part in section.parts:
             if part.group and part.group != group:
