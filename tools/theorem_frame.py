@@ -18,7 +18,7 @@ html { scroll-padding-top: 1rem }
 body { margin: 0; color: var(--ink); background: var(--paper); font: 1rem/1.55 system-ui, "Segoe UI", "DejaVu Sans", sans-serif }
 a { color: var(--link); text-decoration-thickness: 1px; text-underline-offset: 2px }
 .skip { position: absolute; left: -99rem }
-.skip:focus { left: 1rem; top: 1rem; padding: .4rem .8rem; background: var(--paper); outline: 2px solid var(--link) }
+.skip:focus { z-index: 1; left: 1rem; top: 1rem; padding: .4rem .8rem; background: var(--paper); outline: 2px solid var(--link) }
 .page { display: grid; grid-template-columns: 14rem minmax(0, 54rem); gap: 0 3rem; justify-content: center; padding: 0 1.25rem }
 header, footer { grid-column: 2 }
 main { grid-column: 2; padding-bottom: 4rem }
@@ -62,15 +62,18 @@ dd { margin: 0 }
 footer { color: var(--faint); font-size: .875rem; border-top: 1px solid var(--edge); padding: 1rem 0 3rem }
 @media (max-width: 64rem) {
   .page { display: block; max-width: 56rem; margin: 0 auto }
-  nav > div { position: static; max-height: none; padding: 1rem 0 0 }
-  nav ul { columns: 3 9rem; column-gap: 2rem }
+  nav { display: none }
 }
 @media (max-width: 40rem) {
   dl { display: block }
   dd { margin: 0 0 .75rem }
   h3 small { display: block; margin: 0 }
-  th, td { padding-right: .5rem }
-  tbody th { white-space: normal; overflow-wrap: anywhere }
+  table, tbody, tfoot { display: block }
+  thead { position: absolute; left: -99rem }
+  tr { display: flex; flex-wrap: wrap; gap: 0 .75rem; padding: .4rem 0; border-bottom: 1px solid var(--edge) }
+  tbody th, tbody td, tfoot th, tfoot td { border: 0; padding: 0 }
+  td:nth-child(2) { order: 1; flex-basis: 100% }
+  td:nth-child(3) { margin-left: auto }
 }
 @media print {
   :root { --ink: #000; --faint: #444; --paper: #fff; --box: #fff; --edge: #bbb; --link: #000; --name: #000; --here: #fff }
