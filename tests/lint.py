@@ -22,7 +22,7 @@ SKIPPED = {"out", ".git", "__pycache__", ".mypy_cache", "build"}
 SHELL = re.compile(rb"#!.*\b(sh|dash|bash)\b")
 PYTHON = re.compile(rb"#!.*\bpython3?\b")
 # Where modules of a script's stand beside its own folder. What stands in `python` is held to mypy by python/test.
-BESIDE = {"tests": ["tests"], "examples": ["examples", "python/src", "tests"], "tools": ["tools"]}
+BESIDE = {"tests": ["tests"], "examples": ["examples", "python/src", "tests"], "tools": ["tools"], "vectors": ["vectors"]}
 # Not yet typed throughout, or standing on modules that aren't.
 UNTYPED = {
     "examples/alike.py",

@@ -14,8 +14,9 @@ import pytest
 from samples import A, B, C, G, GRANT, ID_A, ID_B, ID_C, START, TO_BOB, TO_CAROL, instead
 from test_leaks import children, descriptors
 from zorimarl import aio, errors
-from zorimarl.feeds import block, lock_of, read_feed
+from zorimarl.feeds import block, genesis, locked, lock_of, read_feed
 from zorimarl.ledger import Ledger
+from zorimarl.wallet import Wallet
 
 
 def run(main: Coroutine[object, object, None]) -> None:
@@ -26,6 +27,20 @@ async def blocks_of(*blocks: bytes, pause: float = 0.0) -> AsyncIterator[bytes]:
     for each in blocks:
         await asyncio.sleep(pause)
         yield each
+
+
+def test_a_wallet_in_its_turn(file: str, tmp_path: os.PathLike[str]) -> None:
+    with Wallet.create(os.path.join(tmp_path, "alice.wallet")) as alice, Wallet.create(os.path.join(tmp_path, "bob.wallet")) as bob:
+        start = genesis([locked([], [(100, alice.receive())])])
+
+        async def main() -> None:
+            async with await aio.Ledger.open(file, start, 0) as ledger:
+                payment = await ledger.use(lambda plain: alice.pay(plain, bob.receive(), 70))
+                await ledger.offer(await ledger.mine([ledger.genesis_id], [payment.tx]))
+                assert (await ledger.use(lambda plain: alice.payment(payment.number, plain))).state == "accepted"
+                assert (await ledger.use(bob.balance)).spendable == 70
+
+        run(main())
 
 
 def test_the_same_calls(file: str, tmp_path: os.PathLike[str]) -> None:

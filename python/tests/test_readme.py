@@ -28,15 +28,16 @@ PRINTED: List[List[str]] = [
     ["accepted"],
     ["before", "True", f"balance {BOB} from 0 to 100", f"balance {BOB} from 100 to 0", "vote .* from absent to tie"]
     + [f"balance {BOB} from 0 to 100", "vote .* from tie to before", "held balance .*", "held vote .*"],
+    ["accepted", "120 70"],
     ["accepted"],  # that of docs/USE.md
 ]
 
 
-def test_there_are_six() -> None:
-    assert len(CODE) == len(PRINTED) == 6
+def test_each_is_here() -> None:
+    assert len(CODE) == len(PRINTED)
 
 
-@pytest.mark.parametrize("number", range(6))
+@pytest.mark.parametrize("number", range(len(PRINTED)))
 def test_examples(number: int, tmp_path: pathlib.Path) -> None:
     done = subprocess.run([sys.executable, "-c", CODE[number]], cwd=tmp_path, capture_output=True, text=True, check=False)
     assert done.returncode == 0 and done.stderr == "", done.stderr

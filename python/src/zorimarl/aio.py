@@ -198,6 +198,11 @@ class Ledger:
     async def export(self, profile: Optional[int] = None, timeout: Optional[float] = None) -> bytes:
         return await self._call(self._ledger.export, profile, timeout)
 
+    async def use(self, call: Callable[[plain.Ledger], Result]) -> Result:
+        """Any other call over the plain ledger, in this one's thread and turn: a wallet's, as
+        `await ledger.use(lambda plain: wallet.pay(plain, lock, 40))`."""
+        return await self._call(call, self._ledger)
+
     # The end, and after it
 
     async def reopen(self) -> List[Answered]:
