@@ -5,6 +5,7 @@ import importlib.util
 import os
 import random
 import signal
+import sys
 import time
 from collections import Counter
 from pathlib import Path
@@ -53,6 +54,7 @@ def run(work: Callable[[], None], moment: Moment) -> Run:
     child = os.fork()
     if not child:
         os.dup2(writer, 1)
+        sys.stdout = open(1, "w", buffering=1, closefd=False)  # pytest's own goes elsewhere
         try:
             work()
             os._exit(0)
