@@ -29,7 +29,7 @@ PROGRAMS = [
     ("another exit code", "spends", "code = 15 if code == 14 else code"),
     ("a byte of a payment", "spends", "out = out[:-1] + bytes([out[-1] ^ 1]) if out[:1] == b'\\1' else out"),
     ("a line that is left out", "scripts", "out = out.replace(b'idle\\n', b'')"),
-    ("a file that is made longer", "nodes", "words[0] == 'show' or open(words[-1], 'ab').write(b'x')"),
+    ("a file that is made longer", "nodes", "words[0] != 'show' and os.path.isfile(words[-1]) and open(words[-1], 'ab').write(b'x')"),
     ("a certificate that isn't refused", "certificates", "code = 0 if code == 13 else code"),
     ("a digit in upper case", "ids", "out = out.replace(b'a', b'A')"),
     ("a number of changes", "watches", "out = out.replace(b'changes 3', b'changes 2')"),
@@ -49,7 +49,7 @@ REFERENCES = [
     ("a rank that is asked of y first", "certificates", "entry(graph, members, names", "-entry(graph, members, names"),
 ]
 WRAPPER = """#!{python}
-import re, subprocess, sys
+import os, re, subprocess, sys
 words = sys.argv[1:]
 done = subprocess.run([{program!r}, *words], input=sys.stdin.buffer.read(), stdout=subprocess.PIPE, stderr=subprocess.DEVNULL)
 out, code = done.stdout, done.returncode
