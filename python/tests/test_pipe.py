@@ -104,7 +104,7 @@ def test_quickly(opened: Opener, capsys: pytest.CaptureFixture[str]) -> None:
         best, single = max(ratios)
     with capsys.disabled():
         print(f"\nkept: {alone:.0f} blocks a second one at a time, {together:.0f} in a full pipe; known: {single:.0f} and {best * single:.0f}")
-    assert best > 3
+    assert best > 2
 
 
 def resident() -> int:
