@@ -1,3 +1,4 @@
+pub mod ProfileNames
 pub mod Sets
 pub mod Shapes
 pub mod Ranks

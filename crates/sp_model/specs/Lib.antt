@@ -5,3 +5,4 @@ pub mod Examples
 pub mod Renaming
 pub mod Loose
 pub mod Joining
+pub mod Profiles

@@ -1,8 +1,9 @@
 //! Laws of pasts and votes, over the definitions alone. Each is the contract of a function that
 //! does nothing, so that the check proves it.
 
-ghost use Rattle.std.specs.Prelude.{◌≡◌, ◌≢◌, ◌==◌, ◌||◌, ℕ, List, [], ◌∷◌, IsTrue, IsFalse, if◌then◌else◌, ℤ, pos, negsuc, neg_ℤ};
+ghost use Rattle.std.specs.Prelude.{◌≡◌, ◌≢◌, ◌==◌, ◌||◌, ℕ, List, [], ◌∷◌, IsTrue, IsFalse, if◌then◌else◌, ℤ, pos, negsuc, neg_ℤ, Some};
 ghost use Rattle.std.specs.List.{list_any};
+ghost use Rattle.sp_model.specs.declared.profile.Profile.{Profile};
 ghost use Rattle.sp_model.specs.declared.profile.Profile.TheVariants.{One, Two};
 ghost use Rattle.sp_model.specs.declared.word.Word.TheVariants.{Before, After, Tie, Same, Absent};
 ghost use Rattle.sp_model.specs.Graph.{Graph, IsDownset, IsGraph, AreDistinct, has, is_lower, keys, parents_of, rank_of, round, complete, reaches_within, in_past, past, bar, future, related, anticone};
@@ -10,6 +11,7 @@ ghost use Rattle.sp_model.specs.Agreement.{AgreesOn, AreShapedAlike};
 ghost use Rattle.sp_model.specs.Joining.{Joins};
 ghost use Rattle.sp_model.specs.Loose.{is_loose};
 ghost use Rattle.sp_model.specs.Renaming.{AreRenamed, IsRenamed, IsWhollyRenamed};
+ghost use Rattle.sp_model.specs.Profiles.{name, number, with_name, with_number};
 ghost use Rattle.sp_model.specs.Votes.{sgn, total, settled_in, case_of, vote_by, vote, virt, word};
 ghost use Rattle.sp_model.specs.Examples as example;
 ghost use Rattle.sp_model.specs.Examples.{said};
@@ -270,4 +272,14 @@ pub fn worked_examples()
     ensures cycle_first { said example.cycle_of_three 1 2 ≡ Before }
     ensures cycle_second { said example.cycle_of_three 2 3 ≡ Before }
     ensures cycle_third { said example.cycle_of_three 3 1 ≡ Before }
+{}
+
+/// Each profile has a number of its own and, behind any stem, a name of its own: what is read back
+/// is the profile that was written.
+#[tactic(auto, using(crate::proofs::ProfileNames::named))]
+pub fn numbers_of_profiles()
+    ensures number { (profile : Profile) → with_number (number profile) ≡ Some profile }
+    ensures no_other { (n : ℕ) (profile : Profile) → with_number n ≡ Some profile → n ≡ number profile }
+    ensures name { (stem : List ℕ) (profile : Profile) → with_name stem (name stem profile) ≡ Some profile }
+    ensures no_other_name { (stem bytes : List ℕ) (profile : Profile) → with_name stem bytes ≡ Some profile → bytes ≡ name stem profile }
 {}
