@@ -11,8 +11,8 @@ ghost use Rattle.sp_accept.specs.AcceptedRows.{has_accepted_in, is_accepted_in, 
 ghost use Rattle.sp_accept.specs.Rows.{row_at};
 ghost use Rattle.sp_accept.specs.Todo.{turned_at};
 
-use crate::around::put;
 use crate::lookups::{carrier_at, carriers_of};
+use crate::rival_blocks::put;
 use sp_bits::Row;
 use sp_carry::{Carriers, is_set};
 use std::alloc::{AllocError, Global};

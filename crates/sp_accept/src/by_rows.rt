@@ -12,10 +12,10 @@ ghost use Rattle.sp_accept.specs.Rows.{row_at, AreOf};
 ghost use Rattle.sp_accept.specs.Witness.{Decide};
 
 use crate::accepted_rows::AcceptedRows;
-use crate::around::Around;
 use crate::lookups::carrier_at;
 use crate::order::Order;
-use crate::outside::is_any_outside;
+use crate::rival_blocks::Around;
+use crate::safe_blocks::is_any_outside;
 use crate::sources::are_sources_accepted;
 use sp_carry::Carriers;
 use std::alloc::AllocError;

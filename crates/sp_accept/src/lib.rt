@@ -6,16 +6,16 @@
 
 mod accepted;
 mod accepted_rows;
-mod around;
 mod by_rows;
 mod flags;
 mod flips;
 pub mod laws;
 mod lookups;
 mod order;
-mod outside;
 mod pass;
+mod rival_blocks;
 mod rivals;
+mod safe_blocks;
 mod settle;
 mod sources;
 mod todo;

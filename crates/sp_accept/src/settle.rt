@@ -15,11 +15,11 @@ ghost use Rattle.sp_accept.specs.Todo.{all_turned, AreSettledBut, AreTurned, is_
 ghost use Rattle.sp_accept.specs.Witness.{Decide};
 
 use crate::accepted_rows::AcceptedRows;
-use crate::around::{Around, around_of, rivals_of};
 use crate::by_rows::is_next_by_rows;
 use crate::flags::differ;
 use crate::lookups::{carrier_at, first_from};
 use crate::order::Order;
+use crate::rival_blocks::{Around, around_of, rivals_of};
 use crate::todo::note;
 use crate::witness::witness_of;
 use sp_bits::Row;

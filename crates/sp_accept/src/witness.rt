@@ -6,9 +6,9 @@ ghost use Rattle.std.specs.Prelude.{◌≡◌, ◌<◌, ◌≤◌, length, IfSom
 ghost use Rattle.sp_accept.specs.Around.{is_unbeaten};
 ghost use Rattle.sp_accept.specs.Rows.{AreOf};
 
-use crate::around::{end_of, is_unbeaten};
 use crate::lookups::carrier_at;
 use crate::order::Order;
+use crate::rival_blocks::{end_of, is_unbeaten};
 use sp_bits::Row;
 use sp_carry::Carriers;
 

@@ -8,10 +8,10 @@ ghost use Rattle.sp_carry.specs.Rivals.{rivals_of};
 ghost use Rattle.sp_carry.specs.RivalBlocks.{rival_blocks};
 ghost use Rattle.sp_carry.specs.Sources.{sources_in};
 
-use crate::beside::{add_rows, cut_rows};
 use crate::carrier::Carrier;
 use crate::carry::carry_with_room;
 use crate::few::Few;
+use crate::rival_rows::{add_rows, cut_rows};
 use crate::rivals::rivals;
 use crate::sources::push_sources;
 use crate::table::Table;

@@ -2,8 +2,6 @@
 //! The definitions of acceptance and of balances stand here, with their laws.
 #![tactic(auto)]
 
-mod below;
-mod beside;
 mod carrier;
 mod carriers;
 mod carry;
@@ -14,6 +12,8 @@ mod ids;
 pub mod laws;
 mod marks;
 mod numbers;
+mod past_carriers;
+mod rival_rows;
 mod rivals;
 mod sets;
 mod sources;

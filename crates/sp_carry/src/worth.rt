@@ -11,7 +11,7 @@ ghost use Rattle.sp_carry.specs.Carried.{ledger_of, AreLinked};
 ghost use Rattle.sp_carry.specs.Kept.{carried_of, IsKept};
 ghost use Rattle.sp_carry.specs.Worth.{worth_in, worth_of};
 
-use crate::below::output_below;
+use crate::past_carriers::output_below;
 use crate::table::Table;
 use sp_dag::Dag;
 use sp_ids::Lock;

@@ -11,10 +11,10 @@ ghost use Rattle.sp_view.specs.Ends.{NoneFrom};
 ghost use Rattle.sp_view.specs.Moving.{moved_rows};
 ghost use Rattle.sp_view.specs.SoFar.{AreBelow, AreSoFar};
 
-use crate::asking::entry_of;
+use crate::asked_by_block::entry_of;
 use crate::derive::derived_entry;
-use crate::ends::grow;
 use crate::growth::Growth;
+use crate::last_pair::grow;
 use crate::stored::RowName;
 use sp_ids::Memory;
 use sp_rows::RowPool;

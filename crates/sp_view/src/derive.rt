@@ -6,12 +6,12 @@ ghost use Rattle.sp_dag.specs.Numbered.{graph_of, pairs_of};
 ghost use Rattle.sp_view.specs.Stored.{count_of, row_of, spare, live};
 ghost use Rattle.sp_view.specs.Views.{holds, moved_of, IsEntry, IsOnce, KeepIds};
 
-use crate::anew::rows_anew;
-use crate::asking::{has_both, is_none};
+use crate::asked_by_block::{has_both, is_none};
+use crate::asked_by_growth::{asked_by_growth, one_side};
 use crate::growth::Growth;
-use crate::missing::{asked_by_growth, one_side};
 use crate::new_pairs::new_entry;
 use crate::pair_rows::Sides;
+use crate::reask::rows_anew;
 use crate::sharing::share_entry;
 use crate::stored::{RowName, row_at, share, taken};
 use crate::voting::Voting;

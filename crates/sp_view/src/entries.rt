@@ -12,7 +12,7 @@ ghost use Rattle.sp_view.specs.Keeping.{IsSavingStep};
 ghost use Rattle.sp_view.specs.Saved.{patched, AreCountedWith, IsSaving};
 ghost use Rattle.sp_view.specs.Moving.{moves_of, moved_rows};
 
-use crate::asking::has_both;
+use crate::asked_by_block::has_both;
 use crate::joining::Joining;
 use crate::new_pairs::new_entry;
 use crate::old_pairs::joined_entry;

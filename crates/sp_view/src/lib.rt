@@ -3,34 +3,34 @@
 //! against its own.
 #![tactic(auto)]
 
-mod anew;
-mod asking;
+mod asked_by_block;
+mod asked_by_growth;
 mod best;
 mod block_runs;
+mod both_sides;
 mod derive;
-mod ends;
 mod entries;
+mod genesis_turn;
+mod genesis_vote;
 mod growth;
-mod home;
 mod joining;
+mod last_pair;
 pub mod laws;
-mod missing;
 mod new_pairs;
 mod old_pairs;
 mod own_vote;
 mod pair_rows;
 mod pasts;
-mod rooted;
+mod reask;
+mod reuse_rows;
 mod runs;
 mod saved;
-mod seeing;
 mod settle;
 mod sharing;
 mod stored;
 mod summing;
 mod sums;
 mod tally;
-mod turned;
 mod view;
 mod voting;
 mod writing;

@@ -11,15 +11,15 @@ ghost use Rattle.sp_view.specs.Steps.{AreAnew, IsNew, IsOld};
 ghost use Rattle.sp_view.specs.Stored.{count_of};
 ghost use Rattle.sp_view.specs.Summed.{IsSum};
 
-use crate::anew::asked_entry;
-use crate::asking::asked;
+use crate::asked_by_block::asked;
+use crate::genesis_turn::turned_entry;
+use crate::genesis_vote::root_turn;
 use crate::joining::Joining;
 use crate::own_vote::own_vote;
-use crate::rooted::root_turn;
+use crate::reask::asked_entry;
 use crate::runs::Place;
 use crate::saved::Saved;
 use crate::stored::RowName;
-use crate::turned::turned_entry;
 use sp_bits::Row;
 use sp_rows::RowPool;
 

@@ -7,7 +7,7 @@ ghost use Rattle.sp_model.specs.Loose.{is_loose};
 ghost use Rattle.sp_dag.specs.Numbered.{graph_of, pairs_of};
 ghost use Rattle.sp_view.specs.Settled.{AreKept, AreOpen, AreSides};
 
-use crate::seeing::{known_votes, told};
+use crate::both_sides::{known_votes, told};
 use crate::settle::settle;
 use crate::voting::Voting;
 use sp_bits::Row;

@@ -8,8 +8,8 @@ ghost use Rattle.sp_view.specs.Saved.{either, patched};
 ghost use Rattle.sp_view.specs.Stored.{count_of, row_of};
 ghost use Rattle.sp_view.specs.Views.{entry_at, holds, held};
 
-use crate::ends::grow;
-use crate::home::entry_home;
+use crate::last_pair::grow;
+use crate::reuse_rows::entry_home;
 use crate::sharing::{give_entries, give_entry, give_from, share_entry};
 use crate::stored::RowName;
 use sp_ids::Memory;

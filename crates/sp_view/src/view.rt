@@ -16,10 +16,10 @@ mod changed;
 mod derived;
 mod virtual_votes;
 
-use crate::asking::entry_of;
-use crate::ends::{end_of, grow};
+use crate::asked_by_block::entry_of;
 use crate::entries::join_entries;
 use crate::joining::Joining;
+use crate::last_pair::{end_of, grow};
 use crate::saved::Saved;
 use crate::sharing::{give_entries, share_entries};
 use crate::stored::RowName;

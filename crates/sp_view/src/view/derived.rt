@@ -12,8 +12,8 @@ ghost use Rattle.sp_view.specs.Moving.{moved_rows};
 
 use crate::best::start;
 use crate::block_runs::derive_entries;
-use crate::ends::end_of;
 use crate::growth::Growth;
+use crate::last_pair::end_of;
 use crate::pasts::pasts_of;
 use crate::sharing::give_entries;
 use crate::view::View;

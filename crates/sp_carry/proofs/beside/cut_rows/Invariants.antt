@@ -1,5 +1,0 @@
-use Rattle.sp_carry.specs.RivalBlocks.{AreCut}
-use Rattle.sp_carry.proofs.beside.cut_rows.Given as goal
-
-abbrev pub invariant-rows : goal.invariant-rows
-invariant-rows l = AreCut l.left l.blocks l.place l.fn.rows.items l.rows.items
