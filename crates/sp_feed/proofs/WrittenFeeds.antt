@@ -17,9 +17,10 @@ use Rattle.sp_feed.specs.declared.kind.Kind.{Kind}
 use Rattle.sp_feed.specs.declared.kind.Kind.TheVariants.{Block, Vote, Tx, Balance, Pairs, Report, End}
 use Rattle.sp_feed.specs.Feed.{after_frame, feed, one_more, rest_of, Whole, with_head}
 use Rattle.sp_feed.specs.Format.{bits_form, block_letter_form, broken, cut, Flaw, frame_form, genesis_form, Head, head_form, head_of, length_form}
-use Rattle.sp_feed.specs.Versions.{name, profile_of}
+use Rattle.sp_feed.specs.Versions.{name, profile_of, stem}
+use Rattle.sp_model.proofs.ProfileNames.{eight as eight_behind, named as named_behind}
 use Rattle.sp_model.specs.declared.profile.Profile.{Profile}
-use Rattle.sp_model.specs.declared.profile.Profile.TheVariants.{One, Two}
+use Rattle.sp_model.specs.declared.profile.Profile.TheVariants.{One}
 use Rattle.sp_feed.specs.Kinds.{allows, kind_of, letter, Said, said, SaysBlock, SaysVote, SaysTx, SaysBalance, SaysPairs, SaysReport}
 use Rattle.sp_feed.specs.Spelling.{AllFit, Fits, framed, frames_of, spelled, written, WrittenIsRead}
 use Rattle.sp_feed.proofs.Reading.{judged-append, met}
@@ -144,13 +145,11 @@ genesis_read head at more l e =
 
 -- a name is that of its profile
 named : (profile : Profile) → profile_of (name profile) ≡ Some profile
-named One = refl
-named Two = refl
+named profile = named_behind stem profile
 
 -- and has eight bytes
 eight : (profile : Profile) → length (name profile) ≡ 8
-eight One = refl
-eight Two = refl
+eight profile = eight_behind stem profile refl
 
 -- the head behind its name
 abbrev head_behind : Profile → Form Flaw Head

@@ -15,9 +15,10 @@ use Rattle.sp_form.proofs.Taking.{bind_spelled, IsBytes-append_right, last_spell
 use Rattle.sp_journal.specs.Format.{bits_form, broken, cut, Flaw, gate_form, genesis_form, Head, head_form, head_of, length_form, name_form, record_form, set, sized_form}
 use Rattle.sp_block.specs.Judged.{is_block}
 use Rattle.sp_model.specs.declared.profile.Profile.{Profile}
-use Rattle.sp_model.specs.declared.profile.Profile.TheVariants.{One, Two}
+use Rattle.sp_model.specs.declared.profile.Profile.TheVariants.{One}
 use Rattle.sp_journal.specs.Journal.{head_text}
-use Rattle.sp_journal.specs.Versions.{name, profile_of}
+use Rattle.sp_journal.specs.Versions.{name, profile_of, stem}
+use Rattle.sp_model.proofs.ProfileNames.{eight as eight_behind, found, named as named_behind}
 
 gate_spelled : Spelled gate_form (λ gate. gate ∷ []) (λ gate. gate ≡ set)
 gate_spelled = value_spelled 1 cut byte (λ gate. rule (eqb gate set) broken ∷ []) (λ gate. gate ∷ []) (λ gate. gate ≡ set) (record {
@@ -30,20 +31,17 @@ gate_spelled = value_spelled 1 cut byte (λ gate. rule (eqb gate set) broken ∷
 -- ---- the name of a version
 
 named : (profile : Profile) → profile_of (name profile) ≡ Some profile
-named One = refl
-named Two = refl
+named profile = named_behind stem profile
 
 eight : (profile : Profile) → length (name profile) ≡ 8
-eight One = refl
-eight Two = refl
+eight profile = eight_behind stem profile refl
 
 name_back : (bytes : List ℕ) → is_some (profile_of bytes) ≡ true → name (unwrap_or (profile_of bytes) One) ≡ bytes
-name_back bytes = at (bytes_eq bytes (name One)) (bytes_eq bytes (name Two)) (bytes_eq-Decides bytes (name One)).0 (bytes_eq-Decides bytes (name Two)).0
+name_back bytes = at (profile_of bytes) (found stem bytes)
   where
-    at : (a b : Bool) → (a ≡ true → bytes ≡ name One) → (b ≡ true → bytes ≡ name Two) → is_some (cond a (Some One) (cond b (Some Two) None)) ≡ true → name (unwrap_or (cond a (Some One) (cond b (Some Two) None)) One) ≡ bytes
-    at true b p q some = sym (p refl)
-    at false true p q some = sym (q refl)
-    at false false p q some = absurd cc
+    at : (o : Option Profile) → ((profile : Profile) → o ≡ Some profile → bytes ≡ name profile) → is_some o ≡ true → name (unwrap_or o One) ≡ bytes
+    at (Some profile) back some = sym (back profile refl)
+    at None back some = absurd cc
 
 name_spelled : Spelled name_form name (λ profile. Unit {0})
 name_spelled = record {
