@@ -20,6 +20,7 @@ use Rattle.sp_play.specs.Judging.{index_of, input_of, inputs_after, is_spent, lo
 use Rattle.sp_play.specs.Known.{at_start, Entry, genesis_text, grants_of, is_of_id, Known, known_block, known_tx, locked_of, new_name, thing_at}
 use Rattle.sp_play.specs.Making.{after_line, at_stage_body, balance_line, bits_line, block_line, block_of, by_command, by_nonce, carried_at, draft_by, draft_of, grant_line, is_full, is_past_block, is_past_grants, line_by, nonce_below, profile_line, send_line, state_line, text_line, tx_line, vote_line, with_block, with_sent, with_thing, with_tx}
 use Rattle.sp_play.specs.Numbers.{number_in, is_decimal, value_from}
+use Rattle.sp_play.specs.Profiles.{profile_in}
 use Rattle.sp_play.specs.Pieces.{Pay, Spend}
 use Rattle.sp_play.specs.Scene.{bytes_in, Read, read, read_from, read_on, said_in, scene}
 use Rattle.sp_play.specs.Things.{LockedTx}
@@ -239,7 +240,7 @@ making_written sends known words all =
 
 line_written : (command : Command) (known : Known) (words : List (List ℕ)) → KnowsWritten known → AreWords words → IfOk (line_by command known words) KnowsWritten
 unfolding line_by profile_line bits_line send_line vote_line state_line balance_line text_line
-line_written commands.Profile known words all are = after_any KnowsWritten (has_words 2 words) _ (λ u. after_any KnowsWritten (number_in 1 2 (word_at words 1)) _ (λ number. all))
+line_written commands.Profile known words all are = after_any KnowsWritten (has_words 2 words) _ (λ u. after_any KnowsWritten (profile_in (word_at words 1)) _ (λ profile. all))
 line_written commands.Bits known words all are = after_any KnowsWritten (has_words 2 words) _ (λ u. after_any KnowsWritten (number_in 0 64 (word_at words 1)) _ (λ bits. all))
 line_written commands.Grant known words all are = grant_written known words all are
 line_written commands.Tx known words all are = spending_written known words all are

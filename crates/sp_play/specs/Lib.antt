@@ -2,6 +2,7 @@ pub mod Commands
 pub mod Things
 pub mod Words
 pub mod Numbers
+pub mod Profiles
 pub mod Pieces
 pub mod Forms
 pub mod Known

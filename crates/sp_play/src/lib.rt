@@ -23,6 +23,7 @@ mod paid;
 mod pieces;
 mod place_list;
 mod places;
+mod profile_word;
 mod saying;
 mod scans;
 mod scene;
@@ -37,6 +38,7 @@ mod why;
 mod words;
 
 pub use numbers::{is_decimal, number_of};
+pub use profile_word::profile_of;
 pub use source::{ScenarioFault, read_scenario};
 pub use spelling::{has_line_bytes, is_skipped, is_word};
 pub use whole::Scene;

@@ -3,7 +3,6 @@
 ghost use Rattle.std.specs.Prelude.{◌≡◌, ◌<◌, ◌≤◌, ◌||◌, [], All, Err, if◌then◌else◌, IfOk, IsNone, length, nat_lt, true};
 ghost use Rattle.sp_play.specs.Making as line;
 ghost use Rattle.sp_play.specs.Making.{at_stage_head, is_full};
-ghost use Rattle.sp_play.specs.Known as meant;
 ghost use Rattle.sp_play.specs.Known.{grants_of, place_of};
 ghost use Rattle.sp_play.specs.Words.{is_name};
 ghost use Rattle.sp_play.specs.declared.paid.Paid as paying;
@@ -16,29 +15,18 @@ use crate::limits::{MOST_NAMES, MOST_PARTS};
 use crate::lookups::new_name;
 use crate::numbers::number_in;
 use crate::paid::Paids;
+use crate::profile_word::profile_in;
 use crate::scans::gather_grants;
 use crate::stage::Stage;
 use crate::why::{LineError, Why};
 use crate::words::Words;
 use sp_ids::Memory;
-use sp_model::Profile;
 use sp_tx::Inputs;
 
 /// The most grants, and the most bytes of a block.
 const MOST_GRANTS: usize = 256;
 
 const LONGEST: usize = 65_536;
-
-// The profile of a number, which is 1 or 2.
-fn profile_of(number: u64) -> Profile
-    ensures { result ≡ meant.profile_of number }
-{
-    if number == 2 {
-        Profile::Two
-    } else {
-        Profile::One
-    }
-}
 
 impl Known {
     /// A line `profile N`.
@@ -47,8 +35,7 @@ impl Known {
         ensures { Steps self.old self.new result (line.profile_line self.old words.now) }
     {
         has_words(2, words)?;
-        let number = number_in(1, 2, words.at(1))?;
-        self.profile = profile_of(number);
+        self.profile = profile_in(words.at(1))?;
         self.stage = Stage::Profiled;
         Ok(())
     }
