@@ -4,13 +4,13 @@ use Rattle.std.specs.Int.{w32, to_le_bytes}
 use Rattle.std.proofs.lemmas.List.{append-nil}
 use Rattle.sp_form.specs.Turns.{InTurn}
 use Rattle.sp_model.specs.declared.profile.Profile.{Profile}
-use Rattle.sp_model.specs.declared.profile.Profile.TheVariants.{One, Two}
 use Rattle.sp_block.proofs.Judged.{block_spelled}
 use Rattle.sp_feed.specs.declared.kind.Kind.TheVariants.{Block}
 use Rattle.sp_feed.specs.Format.{head_of}
 use Rattle.sp_feed.specs.Kinds.{SaysBlock}
 use Rattle.sp_feed.specs.Spelling.{AllFit, framed, frames_of, written}
-use Rattle.sp_feed.specs.Versions.{name}
+use Rattle.sp_feed.specs.Versions.{name, stem}
+use Rattle.sp_model.proofs.ProfileNames.{eight as eight_behind}
 use Rattle.sp_feed.proofs.WrittenFeeds.{written_is_read}
 use Rattle.sp_journal.specs.Journal.{first_ids}
 use Rattle.sp_journal.specs.Judged.{IsRecord, with_id}
@@ -33,8 +33,7 @@ few_bytes bits ids (b ∷ blocks) each =
     omega (arith, short, more, length-append (framed Block b) (frames_of (map SaysBlock blocks)), length-append (to_le_bytes w32 (length b)) b)
 
 eight : (profile : Profile) → length (name profile) ≡ 8
-eight One = refl
-eight Two = refl
+eight profile = eight_behind stem profile refl
 
 pub export_is_read : ExportIsRead
 unfolding exported

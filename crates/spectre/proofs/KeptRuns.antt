@@ -35,8 +35,8 @@ use Rattle.spectre.specs.Taken.{TakesFeed}
 use Rattle.spectre.specs.declared.replay.ReplayFault.{ReplayFault}
 use Rattle.spectre.proofs.Running.{front_fewer, whole_front}
 use Rattle.sp_model.specs.declared.profile.Profile.{Profile}
-use Rattle.sp_model.specs.declared.profile.Profile.TheVariants.{One, Two}
-use Rattle.spectre.specs.Journals.{profile_number}
+use Rattle.sp_model.proofs.ProfileNames.{one_number}
+use Rattle.sp_model.specs.Profiles.{number}
 use Rattle.spectre.specs.Replay.{head_terms}
 
 -- ---- where source and disk tell their bytes
@@ -90,21 +90,14 @@ module _ (fresh : Bool) (disk : List ℕ) where
   chain_yes c head is =
       let one : (c.bits == head.bits) ≡ true = eq-eqb c.bits head.bits is.bits in
       let two : bytes_eq c.genesis head.genesis ≡ true = (bytes_eq-Decides c.genesis head.genesis).1 is.genesis in
-      let three : (profile_number c.profile == profile_number head.profile) ≡ true = eq-eqb (profile_number c.profile) (profile_number head.profile) (ap profile_number is.profile) in
+      let three : (number c.profile == number head.profile) ≡ true = eq-eqb (number c.profile) (number head.profile) (ap number is.profile) in
       rw (one, two, three) refl
 
-  -- each profile has a number of its own
-  one_number : (p q : Profile) → profile_number p ≡ profile_number q → p ≡ q
-  one_number One One e = refl
-  one_number One Two e = absurd (omega (arith, e))
-  one_number Two One e = absurd (omega (arith, e))
-  one_number Two Two e = refl
-
   pub chain_no : (c : Contents) (head : Head) → (IsChainOf c head → ⊥) → is_chain_of c head ≡ false
-  chain_no c head other = by (c.bits == head.bits) (bytes_eq c.genesis head.genesis) (profile_number c.profile == profile_number head.profile) refl refl refl
+  chain_no c head other = by (c.bits == head.bits) (bytes_eq c.genesis head.genesis) (number c.profile == number head.profile) refl refl refl
     where
-      by : (a b d : Bool) → (c.bits == head.bits) ≡ a → bytes_eq c.genesis head.genesis ≡ b → (profile_number c.profile == profile_number head.profile) ≡ d → is_chain_of c head ≡ false
-      by true true true p q r = absurd (other (record { profile = one_number c.profile head.profile (eqb-true (profile_number c.profile) (profile_number head.profile) r); bits = eqb-true c.bits head.bits p; genesis = (bytes_eq-Decides c.genesis head.genesis).0 q }))
+      by : (a b d : Bool) → (c.bits == head.bits) ≡ a → bytes_eq c.genesis head.genesis ≡ b → (number c.profile == number head.profile) ≡ d → is_chain_of c head ≡ false
+      by true true true p q r = absurd (other (record { profile = one_number c.profile head.profile (eqb-true (number c.profile) (number head.profile) r); bits = eqb-true c.bits head.bits p; genesis = (bytes_eq-Decides c.genesis head.genesis).0 q }))
       by true true false p q r = rw (p, q, r) refl
       by true false d p q r = rw (p, q) refl
       by false b d p q r = rw p refl

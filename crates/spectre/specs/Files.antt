@@ -1,7 +1,8 @@
 -- Which of the words of the command line is a file, and what it is used for.
 use Rattle.std.specs.Prelude.{◌≡◌, ℕ, ◌==◌, not, ◌&&◌, if◌then◌else◌, Bool, true, false, List, [], ◌∷◌, length, Option, Some, None, codes}
 use Rattle.std.specs.Str.{bytes_eq}
-use Rattle.sp_model.specs.declared.profile.Profile.TheVariants.{One, Two}
+use Rattle.sp_model.specs.declared.profile.Profile.{Profile}
+use Rattle.sp_play.specs.Profiles.{profile_of}
 use Rattle.spectre.specs.Words.{word_at}
 use Rattle.spectre.specs.declared.files.FileUse.{FileUse}
 use Rattle.spectre.specs.declared.files.FileUse.TheVariants.{Keep, Fresh, Show, Export}
@@ -25,12 +26,15 @@ fresh_file words =
     if bytes_eq (word_at words 1) (codes "--fresh") && is_file (word_at words 2) then Some (word_at words 2, Fresh) else
     if bytes_eq (word_at words 2) (codes "--fresh") && is_file (word_at words 1) then Some (word_at words 1, Fresh) else None
 
--- `export FILE 1` and `export FILE 2`
+abbrev pub exported_in : List ℕ → Option Profile → Option (List ℕ × FileUse)
+exported_in path None = None
+exported_in path (Some profile) = Some (path, Export profile)
+
+-- `export FILE N`, N the number of a profile
 unfoldable pub exported_file : List (List ℕ) → Option (List ℕ × FileUse)
 exported_file words =
     if not (is_file (word_at words 1)) then None else
-    if bytes_eq (word_at words 2) (codes "1") then Some (word_at words 1, Export One) else
-    if bytes_eq (word_at words 2) (codes "2") then Some (word_at words 1, Export Two) else None
+    exported_in (word_at words 1) (profile_of (word_at words 2))
 
 unfoldable pub third_file : List (List ℕ) → Option (List ℕ × FileUse)
 third_file words = if bytes_eq (word_at words 0) (codes "export") then exported_file words else fresh_file words

@@ -6,7 +6,7 @@ use Rattle.sp_ids.specs.Digest.{sha256_number}
 use Rattle.sp_block.specs.Block.{ReadBlock}
 use Rattle.sp_block.specs.declared.fault.BlockFault.{BlockFault}
 use Rattle.sp_model.specs.declared.profile.Profile.{Profile}
-use Rattle.sp_model.specs.declared.profile.Profile.TheVariants.{One, Two}
+use Rattle.sp_model.specs.Profiles.{number}
 use Rattle.sp_engine.specs.Arrivals.{kept_by_all}
 use Rattle.sp_engine.specs.Blocks.{block_in}
 use Rattle.sp_feed.specs.Format.{Head}
@@ -28,14 +28,9 @@ not_journal_text = codes "fault not-journal" ++ 10 ∷ []
 unfoldable pub damaged_text : ℕ → List ℕ
 damaged_text at = codes "fault damaged " ++ decimal at ++ 10 ∷ []
 
--- the number of a profile
-abbrev pub profile_number : Profile → ℕ
-profile_number One = 1
-profile_number Two = 2
-
 -- bits of work, genesis and profile of a chain, `N ID P`
 abbrev pub chain_text : ℕ → ℕ → Profile → List ℕ
-chain_text bits genesis profile = decimal bits ++ 32 ∷ [] ++ hex_label genesis ++ 32 ∷ [] ++ decimal (profile_number profile)
+chain_text bits genesis profile = decimal bits ++ 32 ∷ [] ++ hex_label genesis ++ 32 ∷ [] ++ decimal (number profile)
 
 -- `fault other-chain N ID P N ID P`: those of the journal, and then of the feed
 unfoldable pub other_chain_text : ℕ → ℕ → Profile → ℕ → ℕ → Profile → List ℕ
@@ -48,7 +43,7 @@ recovered_text count = codes "recovered " ++ decimal count ++ 10 ∷ []
 
 -- the head of a feed asks for the journal's bits, genesis block and profile
 abbrev pub is_chain_of : Contents → Head → Bool
-is_chain_of c head = (c.bits == head.bits) && (bytes_eq c.genesis head.genesis && (profile_number c.profile == profile_number head.profile))
+is_chain_of c head = (c.bits == head.bits) && (bytes_eq c.genesis head.genesis && (number c.profile == number head.profile))
 
 -- the answers over the journal's blocks, but where the head is of another chain
 abbrev pub chained : Contents → Option Head → List ℕ → List ℕ

@@ -5,6 +5,7 @@ ghost use Rattle.spectre.specs.Files as meant;
 ghost use Rattle.spectre.specs.Words.{texts};
 
 use sp_model::Profile;
+use sp_play::profile_of;
 
 /// What a file is used for.
 #[derive(Clone, Copy, Debug, PartialEq, Eq)]
@@ -74,14 +75,10 @@ fn exported_file(words: &[String]) -> Option<(&str, FileUse)>
     ensures none { IsNone result → IsNone (meant.exported_file (texts words.now)) }
 {
     if !is_file(words[1].as_bytes()) {
-        None
-    } else if words[2].as_bytes() == b"1".as_slice() {
-        Some((words[1].as_str(), FileUse::Export(Profile::One)))
-    } else if words[2].as_bytes() == b"2".as_slice() {
-        Some((words[1].as_str(), FileUse::Export(Profile::Two)))
-    } else {
-        None
+        return None;
     }
+    let profile = profile_of(words[2].as_bytes())?;
+    Some((words[1].as_str(), FileUse::Export(profile)))
 }
 
 /// The file among three words.

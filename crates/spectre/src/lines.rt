@@ -3,7 +3,7 @@
 ghost use Rattle.std.specs.Prelude.{◌≡◌, ◌≤◌, ◌+◌, ◌++◌, ◌∷◌, [], length};
 ghost use Rattle.std.specs.Fmt.{decimal};
 ghost use Rattle.sp_report.specs.Naming.{hex_label};
-ghost use Rattle.spectre.specs.Journals.{chain_text, damaged_text, not_journal_text, other_chain_text, profile_number, recovered_text};
+ghost use Rattle.spectre.specs.Journals.{chain_text, damaged_text, not_journal_text, other_chain_text, recovered_text};
 ghost use Rattle.spectre.specs.Lines.{reason};
 ghost use Rattle.spectre.specs.Lines as meant;
 
@@ -82,16 +82,6 @@ pub fn recovered_line(count: u16) -> Line
     line
 }
 
-/// The number of a profile.
-fn number_of(profile: Profile) -> u8
-    ensures { result ≡ profile_number profile }
-{
-    match profile {
-        Profile::One => 1,
-        Profile::Two => 2,
-    }
-}
-
 /// Writes a number of 8 bits in decimal digits, of which there are 3 at most.
 #[tactic(auto, using(crate::proofs::SmallNumbers::size_of_8))]
 fn push_small(line: &mut Line, number: u8)
@@ -115,7 +105,7 @@ fn push_chain(line: &mut Line, bits: u8, genesis: &BlockId, profile: Profile)
     line.push_byte(b' ');
     line.push_bytes(&digits);
     line.push_byte(b' ');
-    push_small(line, number_of(profile));
+    push_small(line, profile.number());
 }
 
 /// The line where a journal is that of another chain than a feed's head: bits of work, genesis and

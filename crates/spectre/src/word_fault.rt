@@ -7,7 +7,7 @@ use crate::files::is_file;
 use crate::id_words::ids_of;
 use crate::spend_words::{LARGEST, is_new_word, is_word};
 use crate::watch_words::is_new_item;
-use sp_play::number_of;
+use sp_play::{number_of, profile_of};
 use std::fmt;
 use std::fmt::{Display, Formatter};
 
@@ -129,7 +129,7 @@ fn may_stand(place: Place, word: &[u8]) -> bool {
         Place::File => is_file(word),
         Place::FileOrFresh => is_file(word) || word == b"--fresh".as_slice(),
         Place::Fresh => word == b"--fresh".as_slice(),
-        Place::Profile => word == b"1".as_slice() || word == b"2".as_slice(),
+        Place::Profile => profile_of(word).is_some(),
         Place::Id => ids_of(word, word).is_some(),
         Place::Amount => number_of(1, LARGEST, word).is_some(),
         Place::To => word == b"to".as_slice(),
