@@ -25,62 +25,55 @@ use Rattle.sp_model.specs.Votes.{word}
 use Rattle.sp_pool.specs.Kept.{graph_in, present}
 use Rattle.spectre.specs.Bringing.{Brought, HasAll}
 use Rattle.spectre.specs.Certificates.{Stands}
-use Rattle.spectre.specs.Certifies.{Certified, certified, certified_at, certified_by, certified_fed, certified_for, certified_over, certified_text, certified_with, IsCertified, IsNoPairBy, no_pair_text, text_or_none}
+use Rattle.spectre.specs.Certifies.{Certified, certified_by, certified_fed, certified_for, certified_over, certified_text, certified_with, IsCertified, no_pair_text}
 use Rattle.spectre.specs.CertifyEnds.{WritesCertified}
-use Rattle.spectre.specs.Faults.{EndsWhole, feed_fault_text, rest_behind, status_of}
+use Rattle.spectre.specs.Faults.{feed_fault_text, rest_behind, status_of}
 use Rattle.spectre.specs.JobEnds.{WritesBy}
-use Rattle.spectre.specs.Replay.{end_text, fed}
+use Rattle.spectre.specs.Replay.{fed}
+use Rattle.spectre.specs.Run.{Ended, last_line, last_status, run_status, run_text}
+use Rattle.spectre.specs.RunOf.{certified_fault, certified_lines, certified_run, certify_run}
+use Rattle.std.proofs.lemmas.List.{append-nil}
 use Rattle.spectre.specs.Taken.{TakesFeedFor}
 use Rattle.spectre.specs.declared.job.Job.{Job}
 use Rattle.spectre.specs.declared.job.Job.TheVariants as jobs
 use Rattle.spectre.specs.declared.status.Status.{Status}
 use Rattle.spectre.specs.declared.status.Status.TheVariants as status
-use Rattle.spectre.proofs.Due.{AfterFault, by_status, Closes, fault_ends, Stops, takes_line, with_input}
+use Rattle.spectre.proofs.Due.{by_status, closing_stops, fault_by, fault_ends, RunCloses, takes_line, text_closes, with_input}
 use Rattle.spectre.proofs.SpentFeeds.{as_replies, nothing}
-use Rattle.spectre.proofs.TopCall.{if_all, on_status}
+use Rattle.spectre.proofs.TopCall.{if_all}
+
+-- ---- the run of a certificate
+
+certified_line : (c : Certified) → certified_lines (Some c) ++ last_line (certified_fault (Some c)) ≡ certified_text c
+certified_line (Ok cert) = append-nil (cert_text cert)
+certified_line (Err NoPair) = refl
+certified_line (Err Memory) = refl
+
+certified_done : (c : Certified) → IsCertified (Some c) → status.Done ≡ last_status (certified_fault (Some c))
+certified_done (Ok cert) h = refl
+certified_done (Err fault) h = absurd h
 
 module _ (x y : ℕ) where
   abbrev job : Option Job
   job = Some (jobs.Certify x y)
 
-  -- the line of a fault stands alone
-  stops_so : (text : List ℕ) (end end' : End) → end' ≡ end → Stops end → certified_at text end' ≡ end_text end
-  stops_so text (Malformed at) end' e stops = ap (certified_at text) e
-  stops_so text (Truncated at) end' e stops = ap (certified_at text) e
-  stops_so text (TooLong taken) end' e stops = ap (certified_at text) e
-  stops_so text (Whole rest) end' e stops = absurd stops
-
-  pub certified_closes : Closes nothing (certified x y)
-  unfolding certified
-  certified_closes input end e stops = stops_so (text_or_none (certified_fed x y input)) end (fed input).end e stops
+  -- a fault stands alone
+  pub certified_closes : RunCloses nothing (certify_run x y)
+  unfolding certify_run
+  certified_closes input end e stops = closing_stops _ _ end (fed input).end e stops
 
   module _ (reads : Option (List ℕ)) {start now : Moment} (old new : Option (List ℕ)) where
     -- a feed's fault, of which the line was written
     pub by_fault : (e : FeedFault) (result : Status) → Brought start now (Err (heads.Feed e)) → (result ≢ status.WriteFault → result ≡ status_of e) → (result ≢ status.WriteFault → Appends old new (feed_fault_text e))
         → AppendsFront old new (feed_fault_text e) → (e ≡ faults.ReadFault → result ≡ status.ReadFault) → WritesBy job reads start.left now.left old new result
     by_fault e result b same text front read =
-        let f = fault_ends (certified x y) certified_closes new e result (as_replies old e b) same text front read in
-        on_status (WritesBy job reads start.left now.left old new) result
-        (λ s. absurd (subst AfterFault s f.among))
-        (λ s. absurd (subst AfterFault s f.among))
-        (λ s. (f.malformed s, λ takes. absurd takes))
-        (λ s. (f.truncated s, f.truncated_end s))
-        (λ s. λ feed. f.read s)
-        (λ s. f.write s)
-        (λ s. absurd (subst AfterFault s f.among))
-        (λ s. absurd (subst AfterFault s f.among))
-        (λ s. absurd (subst AfterFault s f.among))
-        (λ s. absurd (subst AfterFault s f.among))
-        (λ s. absurd (subst AfterFault s f.among))
-        (λ s. (f.too_long s, f.too_long_end s))
-        (λ s. absurd (subst AfterFault s f.among))
-        (λ s. absurd (subst AfterFault s f.among))
-        (λ s. absurd (subst AfterFault s f.among))
-        (λ s. absurd (subst AfterFault s f.among))
+        fault_by nothing (certify_run x y) certified_closes (WritesBy job reads start.left now.left old new) result
+        (fault_ends (λ input. run_text (certify_run x y input)) (text_closes nothing (certify_run x y) certified_closes) new e result (as_replies old e b) same text front read)
+        (λ h. h) (λ h. h) (λ h. h) (λ h feed. h) (λ h. h)
 
   -- memory was refused before the feed's end
   pub by_memory : (reads before after old : Option (List ℕ)) → WritesBy job reads before after old old status.Memory
-  by_memory reads before after old = if_all before _ (λ input. (certified x y input, wrote_none old (certified x y input)))
+  by_memory reads before after old = if_all before _ (λ input. (run_text (certify_run x y input), wrote_none old (run_text (certify_run x y input))))
 
   -- ---- a whole feed
 
@@ -99,30 +92,33 @@ module _ (x y : ℕ) where
         ∙ ap (λ (r : Result ReadBlock BlockFault). certified_with x y r (head_of engine.profile engine.bits all.genesis.bytes) all.messages) all.spelled
         ∙ ap (λ (l : List ReadBlock). Some (certified_over x y engine.profile l)) (sym all.kept_is)
 
-    text_is : certified x y (given ++ rest) ≡ certified_text (over engine)
-    unfolding certified
-    text_is = ap (λ (e : End). certified_at (text_or_none (certified_fed x y (given ++ rest))) e) ends_whole ∙ ap text_or_none fed_is
+    run_is : certify_run x y (given ++ rest) ≡ certified_run (Whole rest) (Some (over engine))
+    unfolding certify_run
+    run_is = ap (λ (e : End). certified_run e (certified_fed x y (given ++ rest))) ends_whole ∙ ap (certified_run (Whole rest)) fed_is
+
+    text_is : run_text (certify_run x y (given ++ rest)) ≡ certified_text (over engine)
+    text_is = ap run_text run_is ∙ certified_line (over engine)
 
   module _ {start now : Moment} (old new : Option (List ℕ)) {engine : Ledger} (b : Brought start now (Ok engine)) where
-    -- a status that says something of the certificate
-    told : (P : Option Certified → Type 0) → Appends old new (certified_text (over engine)) → P (Some (over engine)) → IfSome start.left (λ input. Appends old new (certified x y input) × (EndsWhole (fed input).end × P (certified_fed x y input)))
-    told P took is = with_input (λ input. Appends old new (certified x y input) × (EndsWhole (fed input).end × P (certified_fed x y input))) start.left now.left b.given b.took.consumed (λ rest e. (
-      subst (λ (t : List ℕ). Appends old new t) (sym (text_is b.says rest)) took,
-      (subst EndsWhole (sym (ends_whole b.says rest)) tt, subst P (sym (fed_is b.says rest)) is),
-    ))
+    -- the status of the certificate
+    told : (s : Status) → Appends old new (certified_text (over engine)) → s ≡ last_status (certified_fault (Some (over engine))) → IfSome start.left (λ input. Ended (certify_run x y input) s old new)
+    told s took is = with_input (λ input. Ended (certify_run x y input) s old new) start.left now.left b.given b.took.consumed (λ rest e. record {
+      status = is ∙ sym (ap run_status (run_is b.says rest));
+      took = subst (λ (t : List ℕ). Appends old new t) (sym (text_is b.says rest)) took;
+    })
 
     left : IfSome start.left (λ input. now.left ≡ Some (rest_behind (fed input).end))
     left = with_input (λ input. now.left ≡ Some (rest_behind (fed input).end)) start.left now.left b.given b.took.consumed (λ rest e. e ∙ ap (λ (end : End). Some (rest_behind end)) (sym (ends_whole b.says rest)))
 
-    front : AppendsFront old new (certified_text (over engine)) → IfSome start.left (λ input. AppendsFront old new (certified x y input))
-    front h = with_input (λ input. AppendsFront old new (certified x y input)) start.left now.left b.given b.took.consumed (λ rest e. subst (λ (t : List ℕ). AppendsFront old new t) (sym (text_is b.says rest)) h)
+    front : AppendsFront old new (certified_text (over engine)) → IfSome start.left (λ input. AppendsFront old new (run_text (certify_run x y input)))
+    front h = with_input (λ input. AppendsFront old new (run_text (certify_run x y input))) start.left now.left b.given b.took.consumed (λ rest e. subst (λ (t : List ℕ). AppendsFront old new t) (sym (text_is b.says rest)) h)
 
     -- the engine has all blocks, and the certificate over them was written
     pub by_certified : (reads : Option (List ℕ)) (s : Status) → WritesCertified (certified_over x y engine.profile engine.kept) old new s → WritesBy job reads start.left now.left old new s
-    by_certified reads status.Done w = (told IsCertified w.0 w.1, left)
+    by_certified reads status.Done w = (told status.Done w.0 (certified_done (over engine) w.1), left)
     by_certified reads status.WriteFault w = front w
     by_certified reads status.Memory w = front w
-    by_certified reads status.NoPair w = (told IsNoPairBy w.0 w.1, left)
+    by_certified reads status.NoPair w = (told status.NoPair w.0 (sym (ap (λ (o : Option Certified). last_status (certified_fault o)) w.1)), left)
     by_certified reads status.Usage w = absurd w
     by_certified reads status.Malformed w = absurd w
     by_certified reads status.Truncated w = absurd w

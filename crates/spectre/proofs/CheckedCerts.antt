@@ -1,5 +1,5 @@
 -- What a check comes to, by the input of a source that tells its bytes.
-use Rattle.std.proofs.Common.{◌≡◌, ◌≢◌, ℕ, List, [], ◌++◌, Option, Some, IfSome, ap, sym, subst, ◌∙◌}
+use Rattle.std.proofs.Common.{◌≡◌, ◌≢◌, ℕ, List, [], ◌++◌, Option, Some, IfSome, refl, ap, sym, subst, ◌∙◌}
 use Rattle.std.specs.Io.KnownBytes.{Appends, Consumes, IsAtEnd}
 use Rattle.std.proofs.lemmas.List.{append-nil}
 use Rattle.sp_cert.specs.Certificate.{Certificate}
@@ -8,13 +8,17 @@ use Rattle.sp_io.specs.Whole.{AppendsFront}
 use Rattle.sp_io.proofs.Writing.{wrote_none}
 use Rattle.sp_report.specs.Lines.{malformed_text, truncated_text}
 use Rattle.spectre.specs.CheckEnds.{WritesVerdict}
-use Rattle.spectre.specs.Checks.{checked, said_text}
+use Rattle.spectre.specs.Checks.{said_text}
+use Rattle.sp_cert.specs.declared.fault.CheckFault.{CheckFault}
+use Rattle.spectre.specs.Run.{Ended, run_status, run_text}
+use Rattle.spectre.specs.RunOf.{check_run, judged_run, said_run}
 use Rattle.spectre.specs.JobEnds.{WritesBy}
 use Rattle.spectre.specs.declared.job.Job.{Job}
 use Rattle.spectre.specs.declared.job.Job.TheVariants as jobs
 use Rattle.spectre.specs.declared.status.Status.{Status}
 use Rattle.spectre.specs.declared.status.Status.TheVariants as status
 use Rattle.spectre.proofs.Due.{with_input}
+use Rattle.spectre.proofs.RunTexts.{said_by}
 use Rattle.spectre.proofs.TopCall.{if_all}
 
 abbrev job : Option Job
@@ -27,10 +31,13 @@ by_line P ends other same goes cut = subst P (sym (same (λ e. cc))) (goes (λ e
 
 -- ---- by the input
 
--- the output is the line of what the input says
-checked_is : (input : List ℕ) (s : Said) → said input ≡ s → checked input ≡ said_text s
-unfolding checked
-checked_is input s says = ap said_text says
+-- the run is that of what the input says
+check_is : (input : List ℕ) (s : Said) → said input ≡ s → check_run input ≡ said_run s
+unfolding check_run
+check_is input s says = ap said_run says
+
+check_text : (input : List ℕ) (s : Said) → said input ≡ s → run_text (check_run input) ≡ said_text s
+check_text input s says = ap run_text (check_is input s says) ∙ said_by s
 
 module _ (before after old new : Option (List ℕ)) (given : List ℕ) (took : Consumes before after given) where
   -- what stands of the input, of which these bytes were given
@@ -46,17 +53,20 @@ module _ (before after old new : Option (List ℕ)) (given : List ℕ) (took : C
   left_none : IsAtEnd after → IfSome before (λ input. after ≡ Some [])
   left_none end = with_input (λ input. after ≡ Some []) before after given took (λ rest e. e ∙ ap (λ (t : List ℕ). Some t) (subst IsAtEnd e end))
 
-  written : (s : Said) (input : List ℕ) → said input ≡ s → Appends old new (said_text s) → Appends old new (checked input)
-  written s input says a = subst (λ (t : List ℕ). Appends old new t) (sym (checked_is input s says)) a
+  written : (st : Status) (s : Said) (input : List ℕ) → said input ≡ s → st ≡ run_status (said_run s) → Appends old new (said_text s) → Ended (check_run input) st old new
+  written st s input says is a = record {
+    status = is ∙ sym (ap run_status (check_is input s says));
+    took = subst (λ (t : List ℕ). Appends old new t) (sym (check_text input s says)) a;
+  }
 
-  front : (s : Said) (input : List ℕ) → said input ≡ s → AppendsFront old new (said_text s) → AppendsFront old new (checked input)
-  front s input says a = subst (λ (t : List ℕ). AppendsFront old new t) (sym (checked_is input s says)) a
+  front : (s : Said) (input : List ℕ) → said input ≡ s → AppendsFront old new (said_text s) → AppendsFront old new (run_text (check_run input))
+  front s input says a = subst (λ (t : List ℕ). AppendsFront old new t) (sym (check_text input s says)) a
 
   module _ (reads : Option (List ℕ)) where
     -- a whole certificate was judged
     pub by_verdict : (c : Certificate) → IsAtEnd after → said given ≡ Whole c → (result : Status) → WritesVerdict c old new result → WritesBy job reads before after old new result
-    by_verdict c end says status.Done w = (at_end (Whole c) _ (λ input is. (written (Whole c) input is w.0, (c, is, w.1))) end says, left_none end)
-    by_verdict c end says status.Refuted w = (at_end (Whole c) _ (λ input is. (written (Whole c) input is w.0, (w.1.0, (c, is, w.1.1)))) end says, left_none end)
+    by_verdict c end says status.Done w = (at_end (Whole c) _ (λ input is. written status.Done (Whole c) input is (sym (ap (λ (o : Option CheckFault). run_status (judged_run c o)) w.1)) w.0) end says, left_none end)
+    by_verdict c end says status.Refuted w = (at_end (Whole c) _ (λ input is. written status.Refuted (Whole c) input is (sym (ap (λ (o : Option CheckFault). run_status (judged_run c o)) w.1.1)) w.0) end says, left_none end)
     by_verdict c end says status.WriteFault w = at_end (Whole c) _ (λ input is. front (Whole c) input is w) end says
     by_verdict c end says status.Memory w = at_end (Whole c) _ (λ input is. front (Whole c) input is w) end says
     by_verdict c end says status.Usage w = absurd w
@@ -77,7 +87,7 @@ module _ (before after old new : Option (List ℕ)) (given : List ℕ) (took : C
         → AppendsFront old new (truncated_text at) → WritesBy job reads before after old new result
     by_truncated at end says result same text cut =
         by_line (WritesBy job reads before after old new) status.Truncated result same
-        (λ other. (at_end (Truncated at) _ (λ input is. (written (Truncated at) input is (text other), (at, is))) end says, left_none end))
+        (λ other. (at_end (Truncated at) _ (λ input is. written status.Truncated (Truncated at) input is refl (text other)) end says, left_none end))
         (at_end (Truncated at) _ (λ input is. front (Truncated at) input is cut) end says)
 
     -- a field breaks its rule, or a byte follows the last one
@@ -85,9 +95,9 @@ module _ (before after old new : Option (List ℕ)) (given : List ℕ) (took : C
         → AppendsFront old new (malformed_text at) → WritesBy job reads before after old new result
     by_malformed at says result same text cut =
         by_line (WritesBy job reads before after old new) status.Malformed result same
-        (λ other. (in_front (Malformed at) _ (λ input is. (written (Malformed at) input is (text other), (at, is))) says, λ takes. absurd takes))
+        (λ other. (in_front (Malformed at) _ (λ input is. written status.Malformed (Malformed at) input is refl (text other)) says, if_all before _ (λ input. tt)))
         (in_front (Malformed at) _ (λ input is. front (Malformed at) input is cut) says)
 
 -- memory was refused before the certificate was read
 pub by_memory : (reads before after old : Option (List ℕ)) → WritesBy job reads before after old old status.Memory
-by_memory reads before after old = if_all before _ (λ input. (checked input, wrote_none old (checked input)))
+by_memory reads before after old = if_all before _ (λ input. (run_text (check_run input), wrote_none old (run_text (check_run input))))

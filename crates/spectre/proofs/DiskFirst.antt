@@ -6,9 +6,9 @@ use Rattle.sp_node.specs.Stored.{Tells}
 use Rattle.sp_node.specs.declared.stored.Stored.{Stored}
 use Rattle.sp_node.specs.declared.stored.Stored.TheVariants as stores
 use Rattle.spectre.specs.Ends.{EndsByDisk, Shows}
-use Rattle.spectre.specs.Faults.{IsDiskAtFault}
 use Rattle.spectre.specs.Journals.{HasNoJournal, IsDamagedDisk}
 use Rattle.spectre.specs.Output.{OnDisk}
+use Rattle.spectre.specs.RunOf.{EndsAtDisk}
 use Rattle.spectre.specs.declared.job.Job.{Job}
 use Rattle.spectre.specs.declared.status.Status.{Status}
 use Rattle.spectre.specs.declared.status.Status.TheVariants as status
@@ -66,9 +66,9 @@ no_fault (inl h) = absurd h
 no_fault (inr h) = absurd h
 
 -- what holds of a job holds of the words that ask for it
-pub first_of : (asked job : Option Job) (reads : Option (List ℕ)) (Q : Type 0) → asked ≡ job → OnDisk job reads (λ bytes. IsDiskAtFault job bytes → Q) → OnDisk asked reads (λ bytes. IsDiskAtFault asked bytes → Q)
-first_of asked job reads Q e h = subst (λ (j : Option Job). OnDisk j reads (λ bytes. IsDiskAtFault j bytes → Q)) (sym e) h
+pub first_of : (asked job : Option Job) (reads : Option (List ℕ)) (Q : Type 0) → asked ≡ job → OnDisk job reads (λ bytes. EndsAtDisk job bytes → Q) → OnDisk asked reads (λ bytes. EndsAtDisk asked bytes → Q)
+first_of asked job reads Q e h = subst (λ (j : Option Job). OnDisk j reads (λ bytes. EndsAtDisk j bytes → Q)) (sym e) h
 
 -- memory was refused before anything was asked
-pub refused_first : (job : Option Job) (reads : Option (List ℕ)) (Q : Type 0) → Q → OnDisk job reads (λ bytes. IsDiskAtFault job bytes → EndsByDisk status.Memory × Q)
-refused_first job reads Q q = on_all job reads (λ bytes. IsDiskAtFault job bytes → EndsByDisk status.Memory × Q) (λ bytes fault. (tt, q))
+pub refused_first : (job : Option Job) (reads : Option (List ℕ)) (Q : Type 0) → Q → OnDisk job reads (λ bytes. EndsAtDisk job bytes → EndsByDisk status.Memory × Q)
+refused_first job reads Q q = on_all job reads (λ bytes. EndsAtDisk job bytes → EndsByDisk status.Memory × Q) (λ bytes fault. (tt, q))

@@ -1,6 +1,6 @@
 -- What the answering of a feed and the line of its fault come to, by the input of a source that tells its bytes. What is due
 -- for the messages in some bytes is a function of these, and so is what is written in all.
-use Rattle.std.proofs.Common.{◌≡◌, ◌≢◌, ◌≤◌, ℕ, List, [], ◌∷◌, ◌++◌, drop, length, Option, Some, None, IfSome, Result, Ok, Err, refl, ap, sym, subst, ◌∙◌, append_assoc, arith}
+use Rattle.std.proofs.Common.{◌≡◌, ◌≢◌, ◌≤◌, ◌<◌, ℕ, Bool, true, false, cond, List, [], ◌∷◌, ◌++◌, drop, length, Option, Some, None, IfSome, Result, Ok, Err, refl, ap, sym, subst, ◌∙◌, append_assoc, arith}
 use Rattle.std.proofs.Math.Seq.{drop-append_seam}
 use Rattle.std.specs.Io.KnownBytes.{Appends, Consumes, IsAtEnd}
 use Rattle.std.proofs.lemmas.List.{append-nil}
@@ -11,15 +11,19 @@ use Rattle.sp_feed.specs.declared.fault.FeedFault.TheVariants as faults
 use Rattle.sp_io.specs.Whole.{AppendsFront, Wrote}
 use Rattle.sp_io.proofs.Writing.{appends_then, at_least_then, wrote_stops}
 use Rattle.sp_feed.proofs.Rests.{feed_long}
+use Rattle.spectre.specs.Fault.{Fault}
 use Rattle.spectre.specs.Faults.{EndsMalformed, EndsTooLong, EndsTruncated, EndsWhole, feed_fault_text, rest_behind, status_of}
 use Rattle.spectre.specs.OneOf.{IsOneOf}
 use Rattle.spectre.specs.Replay.{end_text, fed, feed_limit}
 use Rattle.spectre.specs.Replaying.{RepliesFor}
-use Rattle.spectre.specs.Taken.{TakesFeedFor}
+use Rattle.spectre.specs.Run.{Ended, last_status, ran, Run, run_status, run_text}
+use Rattle.spectre.specs.RunOf.{behind, closing_run, feed_fault, is_cut, is_early}
+use Rattle.spectre.specs.Taken.{AreNeeded, TakesFeedFor}
 use Rattle.spectre.specs.declared.replay.ReplayFault.{ReplayFault}
 use Rattle.spectre.specs.declared.replay.ReplayFault.TheVariants.{Feed, WriteFault, Memory}
 use Rattle.spectre.specs.declared.status.Status.{Status}
 use Rattle.spectre.specs.declared.status.Status.TheVariants as status
+use Rattle.spectre.proofs.FeedRuns.{feed_line, long_status, malformed_status, truncated_status}
 
 -- what stands of the bytes that were given, whatever follows them, stands of the input
 pub with_input : (P : List ℕ → Type 0) (old new : Option (List ℕ)) (given : List ℕ) → Consumes old new given → ((rest : List ℕ) → new ≡ Some rest → P (given ++ rest)) → IfSome old P
@@ -180,6 +184,30 @@ module _ {due but : List ℕ → List ℕ} {start now : Moment} {old mid : Optio
       → result ≡ status.WriteFault → IfSome start.left (λ input. AppendsFront old new (whole input))
   fault_line_cut whole closes new e result r front other is = fault_front whole closes new e r (λ h. let no : status.WriteFault ≡ status.ReadFault = sym is ∙ other h in absurd cc) front
 
+-- ---- of a malformed feed just the bytes are taken that tell it
+
+module _ (is_so : List ℕ → Bool) (given : List ℕ) (told : is_so given ≡ false) where
+  behind_last : (front rest : List ℕ) → front ≡ given → behind is_so front rest ≡ rest
+  unfolding behind
+  behind_last front [] same = refl
+  behind_last front (byte ∷ more) same = ap (λ (b : Bool). cond b (behind is_so (front ++ byte ∷ []) more) (byte ∷ more)) (ap is_so same ∙ told)
+
+  -- the shortest front that tells is what was given
+  pub behind_is : (front seen rest : List ℕ) → front ++ seen ≡ given → ((first more : List ℕ) → given ≡ first ++ more → 0 < length more → is_so first ≡ true) → behind is_so front (seen ++ rest) ≡ rest
+  unfolding behind
+  behind_is front [] rest same needed = behind_last front rest (sym (append-nil front) ∙ same)
+  behind_is front (byte ∷ more) rest same needed =
+      let next = behind_is (front ++ byte ∷ []) more rest (append_assoc front (byte ∷ []) more ∙ same) needed in
+      ap (λ (b : Bool). cond b (behind is_so (front ++ byte ∷ []) (more ++ rest)) (byte ∷ (more ++ rest))) (needed front (byte ∷ more) (sym same) (omega arith)) ∙ next
+
+module _ {due but : List ℕ → List ℕ} {start now : Moment} {old mid : Option (List ℕ)} where
+  pub malformed_left : (e : FeedFault) → RepliesFor due but start now old mid (Err (Feed e)) → status_of e ≡ status.Malformed → IfSome start.left (λ input. now.left ≡ Some (behind is_early [] input))
+  malformed_left (faults.Malformed at) r s =
+      let told : is_early r.given ≡ false = ap is_early (sym (append-nil r.given)) ∙ ap is_cut (r.says []).1 in
+      with_input (λ input. now.left ≡ Some (behind is_early [] input)) start.left now.left r.given r.took.consumed (λ rest e.
+      e ∙ ap (λ (t : List ℕ). Some t) (sym (behind_is is_early r.given told [] r.given rest refl (λ first more k l. ap is_cut (r.needed first more k l)))))
+  malformed_left other r s = absurd cc
+
 -- ---- all that a fault of a feed, and its line, come to
 
 -- the statuses of a feed's faults
@@ -221,6 +249,7 @@ after_fault e status.Large same = none_other e status.Large (same (λ h. cc))
 pub record FaultEnds (due whole : List ℕ → List ℕ) (before after old new : Option (List ℕ)) (s : Status) : Type 0 where
   pub among : AfterFault s
   pub malformed : s ≡ status.Malformed → IfSome before (λ input. Appends old new (whole input) × EndsMalformed (fed input).end)
+  pub malformed_end : s ≡ status.Malformed → IfSome before (λ input. after ≡ Some (behind is_early [] input))
   pub truncated : s ≡ status.Truncated → IfSome before (λ input. Appends old new (whole input) × EndsTruncated (fed input).end)
   pub truncated_end : s ≡ status.Truncated → IfSome before (λ input. after ≡ Some [])
   pub too_long : s ≡ status.TooLong → IfSome before (λ input. Appends old new (whole input) × EndsTooLong (fed input).end)
@@ -239,6 +268,7 @@ module _ {due but : List ℕ → List ℕ} {start now : Moment} {old mid : Optio
   fault_ends whole closes new e result r same text front read = record {
     among = after_fault e result same;
     malformed = fault_line_whole whole closes new e result status.Malformed EndsMalformed (is_malformed e) (λ h. cc) (λ h. cc) r same text;
+    malformed_end = λ is. malformed_left e r (by_status e result status.Malformed (λ h. cc) same is);
     truncated = fault_line_whole whole closes new e result status.Truncated EndsTruncated (is_truncated e) (λ h. cc) (λ h. cc) r same text;
     truncated_end = λ is. nothing_left e r (by_status e result status.Truncated (λ h. cc) same is);
     too_long = fault_line_whole whole closes new e result status.TooLong EndsTooLong (is_too_long e) (λ h. cc) (λ h. cc) r same text;
@@ -249,3 +279,49 @@ module _ {due but : List ℕ → List ℕ} {start now : Moment} {old mid : Optio
         (r.given, r.took.consumed, read_due new e r failed (text written));
     write = fault_line_cut whole closes new e result r front read;
   }
+
+-- ---- and so the call ends as its run does, which is that of a feed at fault
+
+malformed_stops : (end : End) → EndsMalformed end → Stops end
+malformed_stops (Malformed at) h = tt
+malformed_stops other h = absurd h
+
+truncated_stops : (end : End) → EndsTruncated end → Stops end
+truncated_stops (Truncated at) h = tt
+truncated_stops other h = absurd h
+
+long_stops : (end : End) → EndsTooLong end → Stops end
+long_stops (TooLong taken) h = tt
+long_stops other h = absurd h
+
+-- where a feed is at fault, its run is what is due, and then that fault
+abbrev pub RunCloses : (List ℕ → List ℕ) → (List ℕ → Run) → Type 0
+RunCloses due run = (input : List ℕ) (end : End) → (fed input).end ≡ end → Stops end → run input ≡ ran (due input) (feed_fault end)
+
+pub text_closes : (due : List ℕ → List ℕ) (run : List ℕ → Run) → RunCloses due run → Closes due (λ input. run_text (run input))
+text_closes due run closes input end e stops = ap run_text (closes input end e stops) ∙ ap (λ (t : List ℕ). due input ++ t) (feed_line end)
+
+module _ (due : List ℕ → List ℕ) (run : List ℕ → Run) (closes : RunCloses due run) where
+  ended : (before old new : Option (List ℕ)) (s : Status) (Q : End → Type 0) → ((end : End) → Q end → Stops end) → ((end : End) → Q end → s ≡ last_status (feed_fault end)) → IfSome before (λ input. Appends old new (run_text (run input)) × Q (fed input).end) → IfSome before (λ input. Ended (run input) s old new)
+  ended before old new s Q stops is h = if_some before _ _ (λ input x. record {
+    status = is (fed input).end x.1 ∙ sym (ap run_status (closes input (fed input).end refl (stops (fed input).end x.1)));
+    took = x.0;
+  }) h
+
+  pub fault_by : {before after old new : Option (List ℕ)} (P : Status → Type 0) (s : Status) → FaultEnds due (λ input. run_text (run input)) before after old new s → (IfSome before (λ input. Ended (run input) status.Malformed old new) × IfSome before (λ input. after ≡ Some (behind is_early [] input)) → P status.Malformed)
+      → (IfSome before (λ input. Ended (run input) status.Truncated old new) × IfSome before (λ input. after ≡ Some []) → P status.Truncated)
+      → (IfSome before (λ input. Ended (run input) status.TooLong old new) × IfSome before (λ input. after ≡ Some (drop feed_limit input)) → P status.TooLong)
+      → ((given : List ℕ) × Consumes before after given × Appends old new (due given) → P status.ReadFault) → (IfSome before (λ input. AppendsFront old new (run_text (run input))) → P status.WriteFault) → P s
+  fault_by {before = before} {old = old} {new = new} P status.Malformed f malformed truncated long read write = malformed (ended before old new status.Malformed EndsMalformed malformed_stops malformed_status (f.malformed refl), f.malformed_end refl)
+  fault_by {before = before} {old = old} {new = new} P status.Truncated f malformed truncated long read write = truncated (ended before old new status.Truncated EndsTruncated truncated_stops truncated_status (f.truncated refl), f.truncated_end refl)
+  fault_by {before = before} {old = old} {new = new} P status.TooLong f malformed truncated long read write = long (ended before old new status.TooLong EndsTooLong long_stops long_status (f.too_long refl), f.too_long_end refl)
+  fault_by {before = before} {old = old} {new = new} P status.ReadFault f malformed truncated long read write = read (f.read refl)
+  fault_by {before = before} {old = old} {new = new} P status.WriteFault f malformed truncated long read write = write (f.write refl)
+  fault_by {before = before} {old = old} {new = new} P other f malformed truncated long read write = absurd f.among
+
+-- of a feed at fault nothing else is told
+pub closing_stops : (lines : List ℕ) (fault : Option Fault) (end end' : End) → end' ≡ end → Stops end → closing_run end' lines fault ≡ ran [] (feed_fault end)
+closing_stops lines fault (Malformed at) end' e stops = ap (λ (x : End). closing_run x lines fault) e
+closing_stops lines fault (Truncated at) end' e stops = ap (λ (x : End). closing_run x lines fault) e
+closing_stops lines fault (TooLong taken) end' e stops = ap (λ (x : End). closing_run x lines fault) e
+closing_stops lines fault (Whole rest) end' e stops = absurd stops

@@ -21,7 +21,6 @@ use Rattle.sp_io.specs.Whole.{AppendsFront}
 use Rattle.sp_io.proofs.Writing.{appends_then, wrote_none}
 use Rattle.sp_journal.specs.Creation.{HoldsJournal, HoldsNoneOrNew, IsSynced}
 use Rattle.sp_journal.specs.Journal.{Contents, contents}
-use Rattle.sp_journal.specs.Opening.{contents_in}
 use Rattle.sp_journal.specs.Records.{Found as found, NoJournal, Records, records}
 use Rattle.sp_journal.specs.declared.gate_kind.Gate.{Gate}
 use Rattle.sp_node.specs.Answers.{answers}
@@ -31,10 +30,14 @@ use Rattle.sp_node.specs.declared.stored.Stored.TheVariants.{Empty, Found}
 use Rattle.spectre.specs.Chains.{EndAtHead, EndsAtHead, EndsByChain}
 use Rattle.spectre.specs.Codes.{code_of}
 use Rattle.spectre.specs.Crashes.{all_of, contents_by, EndsEarly, contents_of, contents_under, HoldsAcknowledged, HoldsAtLeast, HoldsFoundOrMore, HoldsOnward, IsEarly, IsSure, Recovers, Recovery}
-use Rattle.spectre.specs.Faults.{EndsMalformed, EndsTooLong, EndsTruncated, EndsWhole, feed_fault_text, status_of}
+use Rattle.spectre.specs.Faults.{EndsWhole, feed_fault_text, status_of}
 use Rattle.spectre.specs.JobEnds.{JobEnds, WritesBy}
-use Rattle.spectre.specs.Journals.{Fits, FitsHead, found_blocks, HasOtherChain, kept_output, other_chain_text}
+use Rattle.spectre.specs.Journals.{Fits, FitsHead, found_blocks, HasOtherChain, other_chain_text}
 use Rattle.spectre.specs.Keeping.{bytes_of, FitsStored, IsAmiss, IsUntried, KeepAnswers, NamesBothOf, UntriedBy}
+use Rattle.spectre.specs.Run.{Ended, last_status, run_status, run_text}
+use Rattle.spectre.specs.RunOf.{behind, feed_fault, is_headless, node_run, OnRun}
+use Rattle.std.specs.Prelude.{is_none}
+use Rattle.spectre.proofs.Due.{behind_is}
 use Rattle.spectre.specs.Replay.{but_last, fed, lines_under, replied, replied_but_last}
 use Rattle.spectre.specs.Replaying.{Replies, SaysReply}
 use Rattle.spectre.specs.Taken.{TakesFeed, TakesFeedFor}
@@ -44,12 +47,14 @@ use Rattle.spectre.specs.declared.keep.KeepFault.TheVariants.{DiskFault, Feed, M
 use Rattle.spectre.specs.declared.replay.ReplayFault.TheVariants as replays
 use Rattle.spectre.specs.declared.status.Status.{Status}
 use Rattle.spectre.specs.declared.status.Status.TheVariants as status
-use Rattle.spectre.proofs.KeptRuns.{Accepts, answered_recovery, at_one, early_recovery, feed_taken, fits_here, fits_there, fitting, front_of_text, holds_all, looked_since, on_both, on_one, OnBoth, other_is, other_recovery, same_found, stopped_recovery, sure_synced, told_by, whole_text}
+use Rattle.spectre.proofs.KeptRuns.{Accepts, answered_recovery, at_one, early_recovery, feed_taken, fits_here, fits_there, fitting, front_of_text, holds_all, looked_since, node_other, on_both, on_one, OnBoth, other_recovery, same_found, stopped_recovery, sure_synced, told_by, whole_run}
+use Rattle.spectre.proofs.FeedRuns.{long_status, malformed_status, truncated_status, whole_status}
 use Rattle.spectre.proofs.Keeping.{none_ends}
 use Rattle.spectre.proofs.Lasting.{answered_lasts, looked_lasts}
 use Rattle.spectre.proofs.Onward.{answered_stays, looked_stays}
-use Rattle.spectre.proofs.Replayed.{done_rest, done_text, Ends, fault_front, fault_written, is_malformed, is_too_long, is_truncated, limit_taken, memory_text, nothing_left, takes, takes_then, with_input, write_text}
+use Rattle.spectre.proofs.Replayed.{done_rest, done_text, Ends, fault_front, fault_written, is_malformed, is_too_long, is_truncated, limit_taken, malformed_left, memory_text, nothing_left, takes, takes_then, with_input, write_text}
 use Rattle.spectre.proofs.Replies.{appends_none, fault_says, lines_are}
+use Rattle.spectre.proofs.RunFirst.{chain_of}
 use Rattle.spectre.proofs.Running.{whole_front}
 use Rattle.sp_model.specs.declared.profile.Profile.{Profile}
 
@@ -152,15 +157,14 @@ module _ (path : List ℕ) (fresh : Bool) (stored : Stored) {start now : Moment}
   exit_done (inl u) = absurd u.why
   exit_done {new = new} (inr t) = record {
     by = (
-      on_map start.left first.reads _ _ (λ disk input l r h. (h.0, (fits_at fresh stored tells t.1.fits l r, h.1)))
-          (whole_text fresh stored start.left first.reads tells old new EndsWhole (fitting fresh stored start.left first.reads tells t.1.fits) (done_text (bytes_of stored) t.0)),
+      whole_run fresh stored start.left first.reads tells old new status.Done EndsWhole whole_status (fitting fresh stored start.left first.reads tells t.1.fits) (done_text (bytes_of stored) t.0),
       done_rest t.0,
     );
     taken = λ takes. absurd takes;
     taken_fed = λ _. feed_taken fresh stored start.left first.reads tells now.left old new (takes t.0);
     onward = answered_stays fresh stored first last law tells {result = Ok tt} (inr t);
     lasting = answered_lasts stored first last law last_law {result = Ok tt} (inr t);
-    chain = fitting_chain fresh stored start.left first.reads now.left status.Done tells t.1.fits;
+    chain = chain_of (jobs.Keep path fresh) start.left first.reads _ (fitting_chain fresh stored start.left first.reads now.left status.Done tells t.1.fits);
     certified = λ s. tt;
     crash = on_both start.left first.reads _ (λ disk input l r.
         answered_recovery fresh disk input stored (told_at fresh stored tells r) new first last law r l t
@@ -178,7 +182,7 @@ module _ (path : List ℕ) (fresh : Bool) (stored : Stored) {start now : Moment}
     taken_fed = λ _. feed_taken fresh stored start.left first.reads tells now.left old new (takes t.0);
     onward = answered_stays fresh stored first last law tells {result = Err WriteFault} (inr t);
     lasting = answered_lasts stored first last law last_law {result = Err WriteFault} (inr t);
-    chain = fitting_chain fresh stored start.left first.reads now.left status.WriteFault tells t.1.fits;
+    chain = chain_of (jobs.Keep path fresh) start.left first.reads _ (fitting_chain fresh stored start.left first.reads now.left status.WriteFault tells t.1.fits);
     certified = λ s. tt;
     crash = on_both start.left first.reads _ (λ disk input l r.
         stopped_recovery fresh disk input stored (told_at fresh stored tells r) first last law r l t status.WriteFault (λ e. cc));
@@ -188,14 +192,14 @@ module _ (path : List ℕ) (fresh : Bool) (stored : Stored) {start now : Moment}
   pub exit_memory : {new : Option (List ℕ)} → KeepAnswers stored start now old new first last (Err Memory)
       → JobEnds (Some (jobs.Keep path fresh)) first.reads start.left now.left old new first last status.Memory
   exit_memory {new = new} (inl u) = record {
-    by = front_none start.left first.reads old new (kept_output fresh) u.silent;
+    by = front_none start.left first.reads old new (λ disk input. run_text (node_run fresh disk input)) u.silent;
     taken = λ takes. absurd takes;
     taken_fed = λ _.
         subst (λ (o : Option (List ℕ)). IfSome first.reads (λ disk. TakesFeed (found_blocks disk) start.left now.left old o)) (sym u.silent)
         (feed_taken fresh stored start.left first.reads tells now.left old old (untried_takes u));
     onward = answered_stays fresh stored first last law tells {result = Err Memory} (inl u);
     lasting = answered_lasts stored first last law last_law {result = Err Memory} (inl u);
-    chain = untried_chain stored first.reads status.Memory u tt (λ e. cc);
+    chain = chain_of (jobs.Keep path fresh) start.left first.reads _ (untried_chain stored first.reads status.Memory u tt (λ e. cc));
     certified = λ s. tt;
     crash = on_both start.left first.reads _ (λ disk input l r.
         early_recovery fresh disk input now.left old new first last status.Memory law last_law r u.given
@@ -209,7 +213,7 @@ module _ (path : List ℕ) (fresh : Bool) (stored : Stored) {start now : Moment}
     taken_fed = λ _. feed_taken fresh stored start.left first.reads tells now.left old new (takes t.0);
     onward = answered_stays fresh stored first last law tells {result = Err Memory} (inr t);
     lasting = answered_lasts stored first last law last_law {result = Err Memory} (inr t);
-    chain = fitting_chain fresh stored start.left first.reads now.left status.Memory tells t.1.fits;
+    chain = chain_of (jobs.Keep path fresh) start.left first.reads _ (fitting_chain fresh stored start.left first.reads now.left status.Memory tells t.1.fits);
     certified = λ s. tt;
     crash = on_both start.left first.reads _ (λ disk input l r.
         stopped_recovery fresh disk input stored (told_at fresh stored tells r) first last law r l t status.Memory (λ e. cc));
@@ -286,8 +290,8 @@ exit_amiss path fresh gate {start = start} {now = now} old first last law last_l
       (untried_takes path fresh (Empty gate) old first last law last_law tells u));
   onward = answered_stays fresh (Empty gate) first last law tells {result = Err DiskFault} (inl u);
   lasting = answered_lasts (Empty gate) first last law last_law {result = Err DiskFault} (inl u);
-  chain = on_both start.left first.reads _ (λ disk input l r other.
-      (let no : NoJournal ≡ found other.contents = sym (told_at fresh (Empty gate) tells r).0.none ∙ other.found in absurd cc));
+  chain = chain_of (jobs.Keep path fresh) start.left first.reads _ (on_both start.left first.reads _ (λ disk input l r other.
+      (let no : NoJournal ≡ found other.contents = sym (told_at fresh (Empty gate) tells r).0.none ∙ other.found in absurd cc)));
   certified = λ s. tt;
   crash = on_both start.left first.reads _ (λ disk input l r.
       amiss_recovery fresh first last law last_law old u.given u.headed u.why gate disk input now.left new r (told_at fresh (Empty gate) tells r)
@@ -307,7 +311,7 @@ exit_disk path fresh stored {start = start} {now = now} old first last law last_
   taken_fed = λ _. feed_taken fresh stored start.left first.reads tells now.left old new (takes t.0);
   onward = answered_stays fresh stored first last law tells {result = Err DiskFault} (inr t);
   lasting = answered_lasts stored first last law last_law {result = Err DiskFault} (inr t);
-  chain = fitting_chain fresh stored start.left first.reads now.left status.DiskFault tells t.1.fits;
+  chain = chain_of (jobs.Keep path fresh) start.left first.reads _ (fitting_chain fresh stored start.left first.reads now.left status.DiskFault tells t.1.fits);
   certified = λ s. tt;
   crash = on_both start.left first.reads _ (λ disk input l r.
       stopped_recovery fresh disk input stored (told_at fresh stored tells r) first last law r l t status.DiskFault (λ e. cc));
@@ -394,28 +398,27 @@ module _ (path : List ℕ) (fresh : Bool) (stored : Stored) {start now : Moment}
   ]
 
   -- the line wasn't written whole
-  cut : result ≡ status.WriteFault → OnBoth start.left first.reads (λ disk input. AppendsFront old new (kept_output fresh disk input))
+  cut : result ≡ status.WriteFault → OnBoth start.left first.reads (λ disk input. AppendsFront old new (run_text (node_run fresh disk input)))
   cut is =
       let other : (e ≡ faults.ReadFault → ⊥) = λ h. (let no : status.WriteFault ≡ status.ReadFault = sym is ∙ read h in cc) in
       front_of_text fresh stored start.left first.reads tells old new (accepted other) (fault_front (bytes_of stored) new e r other front)
 
   -- it was
-  written : (e ≡ faults.ReadFault → ⊥) → Appends mid new (feed_fault_text e) → (P : End → Type 0) → ((end : End) → Ends e end → P end)
-      → OnBoth start.left first.reads (λ disk input. Appends old new (kept_output fresh disk input) × P (fed input).end)
-  written other b P f = on_map start.left first.reads _ _ (λ disk input l x h. (h.0, f (fed input).end h.1))
-      (whole_text fresh stored start.left first.reads tells old new (Ends e) (accepted other) (fault_written (bytes_of stored) new e r other b))
+  written : (e ≡ faults.ReadFault → ⊥) → Appends mid new (feed_fault_text e) → (s : Status) → ((end : End) → Ends e end → s ≡ last_status (feed_fault end))
+      → OnBoth start.left first.reads (λ disk input. Ended (node_run fresh disk input) s old new)
+  written other b s is = whole_run fresh stored start.left first.reads tells old new s (Ends e) is (accepted other) (fault_written (bytes_of stored) new e r other b)
 
   -- by the fault
   by_fault : (f : FeedFault) → e ≡ f → Appends mid new (feed_fault_text e)
       → WritesBy (Some (jobs.Keep path fresh)) first.reads start.left now.left old new (status_of f)
   by_fault (faults.Malformed at) is b = (
-    written (λ h. let no : faults.Malformed at ≡ faults.ReadFault = sym is ∙ h in cc) b EndsMalformed
-        (λ end h. is_malformed e end (ap status_of is) h),
-    λ takes. absurd takes,
+    written (λ h. let no : faults.Malformed at ≡ faults.ReadFault = sym is ∙ h in cc) b status.Malformed
+        (λ end h. malformed_status end (is_malformed e end (ap status_of is) h)),
+    malformed_left e r (ap status_of is),
   )
   by_fault (faults.Truncated at) is b = (
-    written (λ h. let no : faults.Truncated at ≡ faults.ReadFault = sym is ∙ h in cc) b EndsTruncated
-        (λ end h. is_truncated e end (ap status_of is) h),
+    written (λ h. let no : faults.Truncated at ≡ faults.ReadFault = sym is ∙ h in cc) b status.Truncated
+        (λ end h. truncated_status end (is_truncated e end (ap status_of is) h)),
     nothing_left e r (ap status_of is),
   )
   by_fault faults.ReadFault is b = λ _.
@@ -426,8 +429,8 @@ module _ (path : List ℕ) (fresh : Bool) (stored : Stored) {start now : Moment}
       (λ (l : List (List ℕ)). (given : List ℕ) × Consumes start.left now.left given × Appends old new (replied l given))
       (t.given, t.took.consumed, subst (λ (x : List ℕ). Appends old new x) (append-nil lines) (appends_then old mid new lines [] t.says.0 none))
   by_fault (faults.TooLong taken) is b = (
-    written (λ h. let no : faults.TooLong taken ≡ faults.ReadFault = sym is ∙ h in cc) b EndsTooLong
-        (λ end h. is_too_long e end (ap status_of is) h),
+    written (λ h. let no : faults.TooLong taken ≡ faults.ReadFault = sym is ∙ h in cc) b status.TooLong
+        (λ end h. long_status end (is_too_long e end (ap status_of is) h)),
     limit_taken e r (ap status_of is),
   )
 
@@ -457,6 +460,17 @@ module _ (path : List ℕ) (fresh : Bool) (stored : Stored) {start now : Moment}
         (fits_here fresh disk stored input (told_at fresh stored tells x) fits) in absurd no)
   ]
 
+  chained : OnBoth start.left first.reads (λ disk input. HasOtherChain disk input → EndsAtHead start.left now.left result)
+  chained = elim a [
+    | inr t ↦ fitting_chain fresh stored start.left first.reads now.left result tells t.1.fits
+    | inl u ↦ elim (is_read e) [
+      | inl is ↦ untried_chain stored first.reads result u (subst EndsByChain (sym (read is)) tt)
+          (λ d. (let no : status.ReadFault ≡ status.DiskFault = sym (read is) ∙ d in cc))
+      | inr other ↦ headless_chain start.left first.reads now.left result
+          (headless stored start now u.given first last e other u.took.consumed u.why)
+    ]
+  ]
+
   pub exit_feed : JobEnds (Some (jobs.Keep path fresh)) first.reads start.left now.left old new first last result
   exit_feed = record {
     by = elim (is_write result) [
@@ -469,15 +483,7 @@ module _ (path : List ℕ) (fresh : Bool) (stored : Stored) {start now : Moment}
         (takes_then (bytes_of stored) start.left now.left old mid new (feed_fault_text e) (takes r) front);
     onward = answered_stays fresh stored first last law tells a;
     lasting = answered_lasts stored first last law last_law a;
-    chain = elim a [
-      | inr t ↦ fitting_chain fresh stored start.left first.reads now.left result tells t.1.fits
-      | inl u ↦ elim (is_read e) [
-        | inl is ↦ untried_chain stored first.reads result u (subst EndsByChain (sym (read is)) tt)
-            (λ d. (let no : status.ReadFault ≡ status.DiskFault = sym (read is) ∙ d in cc))
-        | inr other ↦ headless_chain start.left first.reads now.left result
-            (headless stored start now u.given first last e other u.took.consumed u.why)
-      ]
-    ];
+    chain = chain_of (jobs.Keep path fresh) start.left first.reads _ chained;
     certified = λ s. tt;
     crash = on_both start.left first.reads _ (λ disk input l x. elim a [
       | inr tried ↦ answered_recovery fresh disk input stored (told_at fresh stored tells x) new first last law x l tried
@@ -507,12 +513,14 @@ exit_other path fresh stored {start = start} {now = now} old first last law last
             (on_both start.left first.reads _ (λ disk input l x.
             subst (λ (o : List ℕ). AppendsFront old new o) (sym (is_text disk input l x).0)
             (subst (λ (o : Option (List ℕ)). AppendsFront o new (other_chain_text b c p d e q)) u.silent front)))
-        | inr no_write ↦ subst (WritesBy (Some (jobs.Keep path fresh)) first.reads start.left now.left old new) (sym (same no_write))
-            (on_both start.left first.reads _ (λ disk input l x. (
-              subst (λ (o : List ℕ). Appends old new o) (sym (is_text disk input l x).0)
-                  (subst (λ (o : Option (List ℕ)). Appends o new (other_chain_text b c p d e q)) u.silent (text no_write)),
-              (is_text disk input l x).1,
-            )))
+        | inr no_write ↦ subst (WritesBy (Some (jobs.Keep path fresh)) first.reads start.left now.left old new) (sym (same no_write)) (
+          on_both start.left first.reads _ (λ disk input l x. record {
+            status = (is_text disk input l x).1;
+            took = subst (λ (o : List ℕ). Appends old new o) (sym (is_text disk input l x).0)
+                (subst (λ (o : Option (List ℕ)). Appends o new (other_chain_text b c p d e q)) u.silent (text no_write));
+          }),
+          other_left,
+        )
       ];
       taken = λ takes. absurd takes;
       taken_fed = λ _.
@@ -522,8 +530,8 @@ exit_other path fresh stored {start = start} {now = now} old first last law last
           (untried_takes path fresh stored old first last law last_law tells u)) front);
       onward = answered_stays fresh stored first last law tells {result = Err (OtherChain b c p d e q)} (inl u);
       lasting = answered_lasts stored first last law last_law {result = Err (OtherChain b c p d e q)} (inl u);
-      chain = untried_chain stored first.reads result u (line_ends EndsByChain result status.OtherChain same tt tt)
-          (line_ends (λ s. s ≡ status.DiskFault → ⊥) result status.OtherChain same (λ e. cc) (λ e. cc));
+      chain = chain_of (jobs.Keep path fresh) start.left first.reads _ (untried_chain stored first.reads result u (line_ends EndsByChain result status.OtherChain same tt tt)
+          (line_ends (λ s. s ≡ status.DiskFault → ⊥) result status.OtherChain same (λ e. cc) (λ e. cc)));
       certified = λ s. tt;
       crash = on_both start.left first.reads _ (λ disk input l x.
           other_recovery fresh disk input now.left old new first last result law last_law x u.given
@@ -532,17 +540,24 @@ exit_other path fresh stored {start = start} {now = now} old first last law last
           (subst (FitsStored stored) (head_is disk input l) (fits_here fresh disk stored input (told_at fresh stored tells x) fits))));
     }
   where
+    told : is_headless u.given ≡ false
+    told = ap is_headless (sym (append-nil u.given)) ∙ ap is_none (u.why.0.whole [])
+
+    other_left : IfSome start.left (λ input. now.left ≡ Some (behind is_headless [] input))
+    other_left = with_input (λ input. now.left ≡ Some (behind is_headless [] input)) start.left now.left u.given u.took.consumed (λ rest x.
+        x ∙ ap (λ (t : List ℕ). Some t) (sym (behind_is is_headless u.given told [] u.given rest refl (λ first more k l. ap is_none (u.headed first more k l)))))
+
     head_is : (disk input : List ℕ) → start.left ≡ Some input → (fed input).head ≡ Some u.why.0.head
     head_is disk input l = at_one (λ (i : List ℕ). (fed i).head ≡ Some u.why.0.head) l
         (with_input (λ i. (fed i).head ≡ Some u.why.0.head) start.left now.left u.given u.took.consumed (λ rest x. u.why.0.whole rest))
 
     named : (s : Stored) (disk input : List ℕ) (h : Head) → Tells fresh disk (Ok s) → (fed input).head ≡ Some h → (FitsStored s (Some h) → ⊥)
         → NamesBothOf s h (OtherChain b c p d e q)
-        → (kept_output fresh disk input ≡ other_chain_text b c p d e q) × HasOtherChain disk input
+        → (run_text (node_run fresh disk input) ≡ other_chain_text b c p d e q) × (status.OtherChain ≡ run_status (node_run fresh disk input))
     named (Empty gate) disk input h t is other names = absurd names
     named (Found o) disk input h t is other names = (
-      other_is fresh disk o input h t is other ∙ same_text names,
-      record { contents = contents_in o; found = t; head = h; begins = is; other = other },
+      ap run_text (node_other fresh disk o input h t is other) ∙ same_text names,
+      sym (ap run_status (node_other fresh disk o input h t is other)),
     )
       where
         same_text : {a1 a2 b1 b2 c1 c2 d1 d2 : ℕ} {p1 p2 q1 q2 : Profile} → OtherChain a2 b2 p2 c2 d2 q2 ≡ OtherChain a1 b1 p1 c1 d1 q1
@@ -550,7 +565,7 @@ exit_other path fresh stored {start = start} {now = now} old first last law last
         same_text eq = let e = other_parts eq in (λ i. other_chain_text (sym e.0 i) (sym e.1 i) (sym e.2 i) (sym e.3 i) (sym e.4 i) (sym e.5 i))
 
     is_text : (disk input : List ℕ) → start.left ≡ Some input → first.reads ≡ Some disk
-        → (kept_output fresh disk input ≡ other_chain_text b c p d e q) × HasOtherChain disk input
+        → (run_text (node_run fresh disk input) ≡ other_chain_text b c p d e q) × (status.OtherChain ≡ run_status (node_run fresh disk input))
     is_text disk input l x = named stored disk input u.why.0.head (told_at fresh stored tells x) (head_is disk input l) u.why.0.other u.why.0.names
 
 -- ---- the opening of the disk comes first
@@ -597,7 +612,7 @@ ends_on path fresh before after old new first mid last s law mid_law last_law lo
   lasting = on_one first.reads _ (λ disk r.
       joined_last first mid last HoldsJournal mid_law last_law (looks_last first mid HoldsJournal law mid_law looks)
       (at_one (λ (d : List ℕ). Lasts mid last HoldsJournal) (looks.reads ∙ r) k.lasting));
-  chain = subst (λ (o : Option (List ℕ)). OnBoth before o (λ disk input. HasOtherChain disk input → EndsAtHead before after s)) looks.reads k.chain;
+  chain = subst (λ (o : Option (List ℕ)). OnRun (Some (jobs.Keep path fresh)) before o (λ run. run_status run ≡ status.OtherChain → EndsAtHead before after s)) looks.reads k.chain;
   certified = λ s. tt;
   crash = on_map before first.reads _ _ (λ disk input l r h. recovery_on fresh disk input after old new first mid last s law mid_law r looks h)
       (subst (λ (o : Option (List ℕ)). OnBoth before o (λ disk input. Recovery fresh disk input after old new mid last s)) looks.reads k.crash);
@@ -655,7 +670,7 @@ module _ (path : List ℕ) (fresh : Bool) (left old : Option (List ℕ)) (first 
     taken_fed = λ _. on_one first.reads _ (λ disk r. nothing_taken (found_blocks disk) left old);
     onward = looked_stays first last law looks;
     lasting = looked_lasts first last law last_law looks;
-    chain = on_both left first.reads _ (λ disk input l r other. nothing_headed left s (early_chain s early));
+    chain = chain_of (jobs.Keep path fresh) left first.reads _ (on_both left first.reads _ (λ disk input l r other. nothing_headed left s (early_chain s early)));
     certified = λ s. tt;
     crash = on_both left first.reads _ (λ disk input l r.
         early_recovery fresh disk input left old old first last s law last_law r [] (none_consumed input l) looks (appends_none old) early none_ends
@@ -663,7 +678,7 @@ module _ (path : List ℕ) (fresh : Bool) (left old : Option (List ℕ)) (first 
   }
 
   pub silent_memory : WritesBy (Some (jobs.Keep path fresh)) first.reads left left old old status.Memory
-  silent_memory = front_none left first.reads old old (kept_output fresh) refl
+  silent_memory = front_none left first.reads old old (λ disk input. run_text (node_run fresh disk input)) refl
 
   no_lines : (before : List (List ℕ)) → Appends old old (replied_but_last before [])
   unfolding feed placed head_form bind
@@ -679,9 +694,9 @@ module _ (path : List ℕ) (fresh : Bool) (left old : Option (List ℕ)) (first 
   -- a line was written of what the disk holds
   pub exit_line : (new : Option (List ℕ)) (text : List ℕ) (status_is result : Status)
       → (result ≢ status.WriteFault → result ≡ status_is) → (result ≢ status.WriteFault → Appends old new text) → AppendsFront old new text
-      → ((disk input : List ℕ) → first.reads ≡ Some disk → (kept_output fresh disk input ≡ text) × (Fits fresh disk input → ⊥))
+      → ((disk input : List ℕ) → first.reads ≡ Some disk → (run_text (node_run fresh disk input) ≡ text) × (Fits fresh disk input → ⊥))
       → ((disk : List ℕ) (c : Contents) → first.reads ≡ Some disk → records disk ≡ found c → ⊥)
-      → (OnBoth left first.reads (λ disk input. Appends old new (kept_output fresh disk input))
+      → (OnBoth left first.reads (λ disk input. Appends old new (run_text (node_run fresh disk input)))
       → WritesBy (Some (jobs.Keep path fresh)) first.reads left left old new status_is)
       → JobEnds (Some (jobs.Keep path fresh)) first.reads left left old new first last result
   exit_line new text status_is result same whole front says unfound ends_by = record {
@@ -697,7 +712,7 @@ module _ (path : List ℕ) (fresh : Bool) (left old : Option (List ℕ)) (first 
         on_one first.reads _ (λ disk r. takes_then (found_blocks disk) left left old old new text (nothing_taken (found_blocks disk) left old) front);
     onward = looked_stays first last law looks;
     lasting = looked_lasts first last law last_law looks;
-    chain = on_both left first.reads _ (λ disk input l r other. absurd (unfound disk other.contents r other.found));
+    chain = chain_of (jobs.Keep path fresh) left first.reads _ (on_both left first.reads _ (λ disk input l r other. absurd (unfound disk other.contents r other.found)));
     certified = λ s. tt;
     crash = on_both left first.reads _ (λ disk input l r.
         other_recovery fresh disk input left old new first last result law last_law r [] (none_consumed input l) looks (says disk input r).1);

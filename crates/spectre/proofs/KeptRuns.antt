@@ -4,7 +4,6 @@ use Rattle.std.specs.Str.{bytes_eq}
 use Rattle.std.specs.Io.KnownBytes.{Appends, Consumes}
 use Rattle.std.proofs.lemmas.Bool.{eq-eqb, eqb-true, ne_eqb}
 use Rattle.std.proofs.lemmas.Slice.Eq.{bytes_eq-Decides}
-use Rattle.sp_ids.specs.Digest.{sha256_number}
 use Rattle.sp_disk.specs.Images.{Among, EachIs}
 use Rattle.sp_disk.specs.Moments.{IsMoment, Leaves, Looks, Moment as DiskMoment}
 use Rattle.sp_disk.proofs.Runs.{goes_on, started, weaker}
@@ -26,7 +25,11 @@ use Rattle.sp_block.specs.declared.fault.BlockFault.{BlockFault}
 use Rattle.sp_engine.specs.Blocks.{block_in}
 use Rattle.spectre.specs.Chains.{EndAtHead}
 use Rattle.spectre.specs.Crashes.{all_of, contents_by, contents_of, contents_under, EndsEarly, HoldsAcknowledged, HoldsAtLeast, HoldsFoundOrMore, IsSure, Recovery, TookMore}
-use Rattle.spectre.specs.Journals.{blocks_in, chained, Fits, FitsHead, found_blocks, IsChainOf, is_chain_of, damaged_text, HasNoJournal, kept_by, kept_output, may_be_new, not_journal_text, other_chain_text}
+use Rattle.spectre.specs.Fault.{DamagedAt, NoJournal as no_journal, OtherChain}
+use Rattle.spectre.specs.Run.{Ended, last_status, ran, run_status, run_text}
+use Rattle.spectre.specs.RunOf.{answer_run, chain_in, chain_of, disk_fault, feed_fault, found_run, kept_run, node_run}
+use Rattle.spectre.proofs.RunTexts.{answer_text}
+use Rattle.spectre.specs.Journals.{blocks_in, Fits, FitsHead, found_blocks, IsChainOf, is_chain_of, HasNoJournal, may_be_new}
 use Rattle.spectre.specs.Keeping.{bytes_of, FitsStored, records_in, Tries}
 use Rattle.spectre.specs.Replay.{fed, replayed}
 use Rattle.spectre.specs.declared.status.Status.{Status}
@@ -102,21 +105,23 @@ module _ (fresh : Bool) (disk : List ℕ) where
       by true false d p q r = rw (p, q) refl
       by false b d p q r = rw p refl
 
-  chained_is : (o : Opening) (input : List ℕ) (head : Option Head) → Accepts (Found o) head → chained (contents_in o) head input ≡ replayed (bytes_of (Found o)) input
-  chained_is o input None a = refl
-  chained_is o input (Some head) a = ap (λ (b : Bool). cond b (replayed (contents_in o).blocks input) (other_chain_text o.bits (sha256_number o.genesis.bytes) o.profile head.bits (sha256_number head.genesis) head.profile)) (chain_yes (contents_in o) head a)
+  found_is : (o : Opening) (input : List ℕ) (head : Option Head) → Accepts (Found o) head → found_run (contents_in o) head input ≡ answer_run (bytes_of (Found o)) input
+  found_is o input None a = refl
+  found_is o input (Some head) a = ap (λ (b : Bool). cond b (answer_run (contents_in o).blocks input) (ran [] (Some (OtherChain (chain_in (contents_in o)) (chain_of head))))) (chain_yes (contents_in o) head a)
 
-  pub kept_is : (stored : Stored) (input : List ℕ) → Tells fresh disk (Ok stored) → Accepts stored (fed input).head → kept_output fresh disk input ≡ replayed (bytes_of stored) input
-  unfolding kept_output
-  kept_is (Empty gate) input t a = ap (λ (r : Records). kept_by fresh disk r input) t.0.none ∙ (let e = is_new t.1 in rw e refl)
-  kept_is (Found o) input t a = ap (λ (r : Records). kept_by fresh disk r input) t ∙ chained_is o input (fed input).head a
+  -- so the run is that of the feed over the blocks that were found
+  pub node_is : (stored : Stored) (input : List ℕ) → Tells fresh disk (Ok stored) → Accepts stored (fed input).head → node_run fresh disk input ≡ answer_run (bytes_of stored) input
+  unfolding node_run
+  node_is (Empty gate) input t a = ap (λ (r : Records). kept_run fresh disk r input) t.0.none ∙ ap (λ (b : Bool). cond b (answer_run [] input) (disk_fault no_journal)) (is_new t.1)
+  node_is (Found o) input t a = ap (λ (r : Records). kept_run fresh disk r input) t ∙ found_is o input (fed input).head a
 
-  pub other_is : (o : Opening) (input : List ℕ) (head : Head) → Tells fresh disk (Ok (Found o)) → (fed input).head ≡ Some head → (IsChainOf (contents_in o) head → ⊥)
-      → kept_output fresh disk input ≡ other_chain_text o.bits (sha256_number o.genesis.bytes) o.profile head.bits (sha256_number head.genesis) head.profile
-  unfolding kept_output
-  other_is o input head t e other =
-      ap (λ (r : Records). kept_by fresh disk r input) t ∙ ap (λ (h : Option Head). chained (contents_in o) h input) e
-      ∙ ap (λ (b : Bool). cond b (replayed (contents_in o).blocks input) (other_chain_text o.bits (sha256_number o.genesis.bytes) o.profile head.bits (sha256_number head.genesis) head.profile)) (chain_no (contents_in o) head other)
+  -- or that of another chain
+  pub node_other : (o : Opening) (input : List ℕ) (head : Head) → Tells fresh disk (Ok (Found o)) → (fed input).head ≡ Some head → (IsChainOf (contents_in o) head → ⊥)
+      → node_run fresh disk input ≡ ran [] (Some (OtherChain (chain_in (contents_in o)) (chain_of head)))
+  unfolding node_run
+  node_other o input head t e other =
+      ap (λ (r : Records). kept_run fresh disk r input) t ∙ ap (λ (h : Option Head). found_run (contents_in o) h input) e
+      ∙ ap (λ (b : Bool). cond b (answer_run (contents_in o).blocks input) (ran [] (Some (OtherChain (chain_in (contents_in o)) (chain_of head))))) (chain_no (contents_in o) head other)
 
   -- the disk fits the feed just where the head is that of what was found
   fits_by : (stored : Stored) (head : Option Head) → Tells fresh disk (Ok stored) → FitsStored stored head → FitsHead fresh disk (records_in stored) head
@@ -253,17 +258,21 @@ module _ (fresh : Bool) (stored : Stored) (left reads : Option (List ℕ)) (tell
   abbrev Accepted : Type 0
   Accepted = IfSome left (λ input. Accepts stored (fed input).head)
 
-  pub whole_text : (old new : Option (List ℕ)) (P : End → Type 0) → Accepted → IfSome left (λ input. Appends old new (replayed (bytes_of stored) input) × P (fed input).end)
-      → OnBoth left reads (λ disk input. Appends old new (kept_output fresh disk input) × P (fed input).end)
-  whole_text old new P acc h = on_both left reads _ (λ disk input l r.
+  pub whole_run : (old new : Option (List ℕ)) (s : Status) (P : End → Type 0) → ((end : End) → P end → s ≡ last_status (feed_fault end)) → Accepted → IfSome left (λ input. Appends old new (replayed (bytes_of stored) input) × P (fed input).end)
+      → OnBoth left reads (λ disk input. Ended (node_run fresh disk input) s old new)
+  whole_run old new s P is acc h = on_both left reads _ (λ disk input l r.
       let t = at_one (λ (d : List ℕ). Tells fresh d (Ok stored)) r tells in
       let here = at_one (λ (i : List ℕ). Appends old new (replayed (bytes_of stored) i) × P (fed i).end) l h in
-      (subst (λ (x : List ℕ). Appends old new x) (sym (kept_is fresh disk stored input t (at_one (λ (i : List ℕ). Accepts stored (fed i).head) l acc))) here.0, here.1))
+      let run = node_is fresh disk stored input t (at_one (λ (i : List ℕ). Accepts stored (fed i).head) l acc) in
+      record {
+        status = is (fed input).end here.1 ∙ sym (ap run_status run);
+        took = subst (λ (x : List ℕ). Appends old new x) (sym (ap run_text run ∙ answer_text (bytes_of stored) input)) here.0;
+      })
 
-  pub front_of_text : (old new : Option (List ℕ)) → Accepted → IfSome left (λ input. AppendsFront old new (replayed (bytes_of stored) input)) → OnBoth left reads (λ disk input. AppendsFront old new (kept_output fresh disk input))
+  pub front_of_text : (old new : Option (List ℕ)) → Accepted → IfSome left (λ input. AppendsFront old new (replayed (bytes_of stored) input)) → OnBoth left reads (λ disk input. AppendsFront old new (run_text (node_run fresh disk input)))
   front_of_text old new acc h = on_both left reads _ (λ disk input l r.
       let t = at_one (λ (d : List ℕ). Tells fresh d (Ok stored)) r tells in
-      subst (λ (x : List ℕ). AppendsFront old new x) (sym (kept_is fresh disk stored input t (at_one (λ (i : List ℕ). Accepts stored (fed i).head) l acc)))
+      subst (λ (x : List ℕ). AppendsFront old new x) (sym (ap run_text (node_is fresh disk stored input t (at_one (λ (i : List ℕ). Accepts stored (fed i).head) l acc)) ∙ answer_text (bytes_of stored) input))
       (at_one (λ (i : List ℕ). AppendsFront old new (replayed (bytes_of stored) i)) l h))
 
   pub fitting : IfSome left (λ input. FitsStored stored (fed input).head) → Accepted
@@ -280,25 +289,28 @@ module _ (fresh : Bool) (stored : Stored) (left reads : Option (List ℕ)) (tell
 not_new : (fresh : Bool) (disk : List ℕ) → (length disk ≡ 0 → ⊥) → fresh ≡ false → may_be_new fresh disk ≡ false
 not_new fresh disk some old = let e : (length disk == 0) ≡ false = ne_eqb (length disk) 0 some in rw (old, e) refl
 
-pub none_says : (fresh : Bool) (disk input : List ℕ) → HasNoJournal fresh disk → (kept_output fresh disk input ≡ not_journal_text) × (Fits fresh disk input → ⊥)
-unfolding kept_output
-none_says fresh disk input h = (
-  ap (λ (r : Records). kept_by fresh disk r input) h.none ∙ ap (λ (b : Bool). cond b (replayed [] input) not_journal_text) (not_new fresh disk h.some h.old),
-  λ fits. by (fed input).head (subst (λ (r : Records). FitsHead fresh disk r (fed input).head) h.none fits),
-)
+pub none_misfits : (fresh : Bool) (disk input : List ℕ) → HasNoJournal fresh disk → Fits fresh disk input → ⊥
+none_misfits fresh disk input h fits = by (fed input).head (subst (λ (r : Records). FitsHead fresh disk r (fed input).head) h.none fits)
   where
     by : (head : Option Head) → FitsHead fresh disk NoJournal head → ⊥
     by None f = f
     by (Some head) (inl none) = h.some none
     by (Some head) (inr new) = absurd (let no : true ≡ false = sym new ∙ h.old in cc)
 
-pub damaged_says : (fresh : Bool) (disk input : List ℕ) (at : ℕ) → records disk ≡ damaged at → (kept_output fresh disk input ≡ damaged_text at) × (Fits fresh disk input → ⊥)
-unfolding kept_output
-damaged_says fresh disk input at is = (
-  ap (λ (r : Records). kept_by fresh disk r input) is,
-  λ fits. by (fed input).head (subst (λ (r : Records). FitsHead fresh disk r (fed input).head) is fits),
-)
+pub damaged_misfits : (fresh : Bool) (disk input : List ℕ) (at : ℕ) → records disk ≡ damaged at → Fits fresh disk input → ⊥
+damaged_misfits fresh disk input at is fits = by (fed input).head (subst (λ (r : Records). FitsHead fresh disk r (fed input).head) is fits)
   where
     by : (head : Option Head) → FitsHead fresh disk (damaged at) head → ⊥
     by None f = f
     by (Some head) f = f
+
+-- and its run
+
+pub none_run : (fresh : Bool) (disk input : List ℕ) → HasNoJournal fresh disk → node_run fresh disk input ≡ disk_fault no_journal
+unfolding node_run
+none_run fresh disk input h =
+    ap (λ (r : Records). kept_run fresh disk r input) h.none ∙ ap (λ (b : Bool). cond b (answer_run [] input) (disk_fault no_journal)) (not_new fresh disk h.some h.old)
+
+pub damaged_run : (fresh : Bool) (disk input : List ℕ) (at : ℕ) → records disk ≡ damaged at → node_run fresh disk input ≡ disk_fault (DamagedAt at)
+unfolding node_run
+damaged_run fresh disk input at is = ap (λ (r : Records). kept_run fresh disk r input) is

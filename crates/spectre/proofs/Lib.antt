@@ -8,7 +8,6 @@ pub mod Lasting
 pub mod KeptExits
 pub mod Shown
 pub mod TopCall
-pub mod Completing
 pub mod Securing
 pub mod Replies
 pub mod Replayed
@@ -20,7 +19,6 @@ pub mod DiskFirst
 pub mod WholeLines
 pub mod Gossiping
 pub mod GossipLines
-pub mod LastLines
 pub mod SmallNumbers
 pub mod Exported
 pub mod Sending
@@ -35,3 +33,9 @@ pub mod WatchedFeeds
 pub mod WatchEnds
 pub mod WatchLines
 pub mod ArgumentLists
+pub mod RunTexts
+pub mod AsDefined
+pub mod RunFirst
+pub mod FeedRuns
+pub mod JobRuns
+pub mod RunLines

@@ -16,7 +16,7 @@ use Rattle.spectre.specs.declared.status.Status.{Status}
 use Rattle.spectre.specs.declared.status.Status.TheVariants as status
 use Rattle.spectre.proofs.Due.{Begins, Closes, takes_line}
 use Rattle.spectre.proofs.Due as due
-pub use Rattle.spectre.proofs.Due.{by_status, done_rest, Ends, is_malformed, is_read_fault, is_too_long, is_truncated, limit_taken, nothing_left, takes, with_input}
+pub use Rattle.spectre.proofs.Due.{by_status, done_rest, Ends, is_malformed, is_read_fault, is_too_long, is_truncated, limit_taken, malformed_left, nothing_left, takes, with_input}
 
 -- the lines of the messages, and then the line of the end
 pub text_is : (before : List (List ℕ)) (input : List ℕ) (end : End) → (fed input).end ≡ end → replayed before input ≡ replied before input ++ end_text end

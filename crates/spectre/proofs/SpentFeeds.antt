@@ -16,22 +16,27 @@ use Rattle.sp_feed.specs.declared.fault.HeadFault.TheVariants as heads
 use Rattle.sp_io.specs.Whole.{AppendsFront}
 use Rattle.sp_io.proofs.Writing.{at_least, front_of_all, wrote_none}
 use Rattle.spectre.specs.Bringing.{Brought, HasAll}
-use Rattle.spectre.specs.Faults.{EndsWhole, feed_fault_text, rest_behind, status_of}
+use Rattle.spectre.specs.Faults.{feed_fault_text, rest_behind, status_of}
 use Rattle.spectre.specs.JobEnds.{WritesBy}
-use Rattle.spectre.specs.Replay.{end_text, fed, feed_limit}
+use Rattle.spectre.specs.Replay.{fed, feed_limit}
+use Rattle.spectre.specs.Run.{Ended, last_line, last_status, run_status, run_text}
+use Rattle.spectre.specs.RunOf.{spend_run, spent_fault, spent_lines, spent_run}
+use Rattle.sp_tx.specs.Spelling.{spelling}
+use Rattle.std.proofs.lemmas.List.{append-nil}
 use Rattle.spectre.specs.Replaying.{RepliesFor, SaysDue}
 use Rattle.spectre.specs.SpendEnds.{WritesSpend}
 use Rattle.sp_wallet.specs.declared.fault.SpendFault.TheVariants.{Large, Poor}
-use Rattle.spectre.specs.Spends.{large_text, poor_text, IsLargeBy, IsPoorBy, IsSpend, Spent, spend_by, spend_fed, spend_over, spend_text, spend_with, spent, spent_at, text_or_none}
+use Rattle.sp_wallet.specs.declared.fault.SpendFault.TheVariants as spends
+use Rattle.spectre.specs.Spends.{large_text, poor_text, IsSpend, Spent, spend_by, spend_fed, spend_over, spend_text, spend_with}
 use Rattle.spectre.specs.Taken.{TakesFeedFor}
 use Rattle.spectre.specs.declared.job.Job.{Job}
 use Rattle.spectre.specs.declared.job.Job.TheVariants as jobs
 use Rattle.spectre.specs.declared.replay.ReplayFault.TheVariants.{Feed, Memory}
 use Rattle.spectre.specs.declared.status.Status.{Status}
 use Rattle.spectre.specs.declared.status.Status.TheVariants as status
-use Rattle.spectre.proofs.Due.{AfterFault, Closes, fault_ends, Stops, takes_line, with_input}
+use Rattle.spectre.proofs.Due.{closing_stops, fault_by, fault_ends, RunCloses, takes_line, text_closes, with_input}
 use Rattle.spectre.proofs.Replies.{appends_none}
-use Rattle.spectre.proofs.TopCall.{if_all, on_status}
+use Rattle.spectre.proofs.TopCall.{if_all}
 
 -- nothing is due
 abbrev pub nothing : List ℕ → List ℕ
@@ -60,48 +65,39 @@ as_replies {start = start} {now = now} old e b = record {
 pub takes_nothing : {start now : Moment} {r : Result Ledger HeadFault} (old : Option (List ℕ)) → Brought start now r → TakesFeedFor nothing start.left now.left old old
 takes_nothing old b = record { given = b.given; consumed = b.took.consumed; within = omega (arith, b.took.counted, b.took.within); needed = b.needed; answered = λ front rest k l. at_least old old [] (appends_none old) }
 
+-- ---- the run of a spend
+
+spent_line : (s : Spent) → spent_lines (Some s) ++ last_line (spent_fault (Some s)) ≡ spend_text s
+spent_line (Ok t) = append-nil (spelling t)
+spent_line (Err (Poor reach)) = refl
+spent_line (Err (Large total)) = refl
+spent_line (Err spends.Memory) = refl
+
+spent_done : (s : Spent) → IsSpend (Some s) → status.Done ≡ last_status (spent_fault (Some s))
+spent_done (Ok t) h = refl
+spent_done (Err fault) h = absurd h
+
 module _ (words : List (List ℕ)) (amount to : ℕ) where
   abbrev job : Option Job
   job = Some (jobs.Spend amount to words)
 
-  -- the line of a fault stands alone
-  stops_so : (text : List ℕ) (end end' : End) → end' ≡ end → Stops end → spent_at text end' ≡ end_text end
-  stops_so text (Malformed at) end' e stops = ap (spent_at text) e
-  stops_so text (Truncated at) end' e stops = ap (spent_at text) e
-  stops_so text (TooLong taken) end' e stops = ap (spent_at text) e
-  stops_so text (Whole rest) end' e stops = absurd stops
-
-  pub spent_closes : Closes nothing (spent words amount to)
-  unfolding spent
-  spent_closes input end e stops = stops_so (text_or_none (spend_fed words amount to input)) end (fed input).end e stops
+  -- a fault stands alone
+  pub spent_closes : RunCloses nothing (spend_run words amount to)
+  unfolding spend_run
+  spent_closes input end e stops = closing_stops _ _ end (fed input).end e stops
 
   module _ (reads : Option (List ℕ)) {start now : Moment} (old new : Option (List ℕ)) where
     -- a feed's fault, of which the line was written
     pub by_fault : (e : FeedFault) (result : Status) → Brought start now (Err (heads.Feed e)) → (result ≢ status.WriteFault → result ≡ status_of e) → (result ≢ status.WriteFault → Appends old new (feed_fault_text e))
         → AppendsFront old new (feed_fault_text e) → (e ≡ faults.ReadFault → result ≡ status.ReadFault) → WritesBy job reads start.left now.left old new result
     by_fault e result b same text front read =
-        let f = fault_ends (spent words amount to) spent_closes new e result (as_replies old e b) same text front read in
-        on_status (WritesBy job reads start.left now.left old new) result
-        (λ s. absurd (subst AfterFault s f.among))
-        (λ s. absurd (subst AfterFault s f.among))
-        (λ s. (f.malformed s, λ takes. absurd takes))
-        (λ s. (f.truncated s, f.truncated_end s))
-        (λ s. λ feed. f.read s)
-        (λ s. f.write s)
-        (λ s. absurd (subst AfterFault s f.among))
-        (λ s. absurd (subst AfterFault s f.among))
-        (λ s. absurd (subst AfterFault s f.among))
-        (λ s. absurd (subst AfterFault s f.among))
-        (λ s. absurd (subst AfterFault s f.among))
-        (λ s. (f.too_long s, f.too_long_end s))
-        (λ s. absurd (subst AfterFault s f.among))
-        (λ s. absurd (subst AfterFault s f.among))
-        (λ s. absurd (subst AfterFault s f.among))
-        (λ s. absurd (subst AfterFault s f.among))
+        fault_by nothing (spend_run words amount to) spent_closes (WritesBy job reads start.left now.left old new) result
+        (fault_ends (λ input. run_text (spend_run words amount to input)) (text_closes nothing (spend_run words amount to) spent_closes) new e result (as_replies old e b) same text front read)
+        (λ h. h) (λ h. h) (λ h. h) (λ h feed. h) (λ h. h)
 
   -- memory was refused before the feed's end
   pub by_memory : (reads before after old : Option (List ℕ)) → WritesBy job reads before after old old status.Memory
-  by_memory reads before after old = if_all before _ (λ input. (spent words amount to input, wrote_none old (spent words amount to input)))
+  by_memory reads before after old = if_all before _ (λ input. (run_text (spend_run words amount to input), wrote_none old (run_text (spend_run words amount to input))))
 
   -- ---- a whole feed
 
@@ -120,31 +116,34 @@ module _ (words : List (List ℕ)) (amount to : ℕ) where
         ∙ ap (λ (r : Result ReadBlock BlockFault). spend_with words amount to r (head_of engine.profile engine.bits all.genesis.bytes) all.messages) all.spelled
         ∙ ap (λ (l : List ReadBlock). Some (spend_over words amount to engine.profile l)) (sym all.kept_is)
 
-    spent_is : spent words amount to (given ++ rest) ≡ spend_text (over engine)
-    unfolding spent
-    spent_is = ap (λ (e : End). spent_at (text_or_none (spend_fed words amount to (given ++ rest))) e) ends_whole ∙ ap text_or_none spend_is
+    run_is : spend_run words amount to (given ++ rest) ≡ spent_run (Whole rest) (Some (over engine))
+    unfolding spend_run
+    run_is = ap (λ (e : End). spent_run e (spend_fed words amount to (given ++ rest))) ends_whole ∙ ap (spent_run (Whole rest)) spend_is
+
+    text_is : run_text (spend_run words amount to (given ++ rest)) ≡ spend_text (over engine)
+    text_is = ap run_text run_is ∙ spent_line (over engine)
 
   module _ {start now : Moment} (old new : Option (List ℕ)) {engine : Ledger} (b : Brought start now (Ok engine)) where
-    -- a status that says something of the spend
-    told : (P : Option Spent → Type 0) → Appends old new (spend_text (over engine)) → P (Some (over engine)) → IfSome start.left (λ input. Appends old new (spent words amount to input) × (EndsWhole (fed input).end × P (spend_fed words amount to input)))
-    told P took is = with_input (λ input. Appends old new (spent words amount to input) × (EndsWhole (fed input).end × P (spend_fed words amount to input))) start.left now.left b.given b.took.consumed (λ rest e. (
-      subst (λ (t : List ℕ). Appends old new t) (sym (spent_is b.says rest)) took,
-      (subst EndsWhole (sym (ends_whole b.says rest)) tt, subst P (sym (spend_is b.says rest)) is),
-    ))
+    -- the status of the spend
+    told : (s : Status) → Appends old new (spend_text (over engine)) → s ≡ last_status (spent_fault (Some (over engine))) → IfSome start.left (λ input. Ended (spend_run words amount to input) s old new)
+    told s took is = with_input (λ input. Ended (spend_run words amount to input) s old new) start.left now.left b.given b.took.consumed (λ rest e. record {
+      status = is ∙ sym (ap run_status (run_is b.says rest));
+      took = subst (λ (t : List ℕ). Appends old new t) (sym (text_is b.says rest)) took;
+    })
 
     left : IfSome start.left (λ input. now.left ≡ Some (rest_behind (fed input).end))
     left = with_input (λ input. now.left ≡ Some (rest_behind (fed input).end)) start.left now.left b.given b.took.consumed (λ rest e. e ∙ ap (λ (x : End). Some (rest_behind x)) (sym (ends_whole b.says rest)))
 
-    front : AppendsFront old new (spend_text (over engine)) → IfSome start.left (λ input. AppendsFront old new (spent words amount to input))
-    front h = with_input (λ input. AppendsFront old new (spent words amount to input)) start.left now.left b.given b.took.consumed (λ rest e. subst (λ (t : List ℕ). AppendsFront old new t) (sym (spent_is b.says rest)) h)
+    front : AppendsFront old new (spend_text (over engine)) → IfSome start.left (λ input. AppendsFront old new (run_text (spend_run words amount to input)))
+    front h = with_input (λ input. AppendsFront old new (run_text (spend_run words amount to input))) start.left now.left b.given b.took.consumed (λ rest e. subst (λ (t : List ℕ). AppendsFront old new t) (sym (text_is b.says rest)) h)
 
     -- the engine has all blocks, and the spend out of them was written
     pub by_spend : (reads : Option (List ℕ)) (s : Status) → WritesSpend (spend_over words amount to engine.profile engine.kept) old new s → WritesBy job reads start.left now.left old new s
-    by_spend reads status.Done w = (told IsSpend w.0 w.1, left)
+    by_spend reads status.Done w = (told status.Done w.0 (spent_done (over engine) w.1), left)
     by_spend reads status.WriteFault w = front w
     by_spend reads status.Memory w = front w
-    by_spend reads status.Poor w = (told IsPoorBy w.0 w.1, left)
-    by_spend reads status.Large w = (told IsLargeBy w.0 w.1, left)
+    by_spend reads status.Poor w = (told status.Poor w.0 (sym (ap (λ (o : Option Spent). last_status (spent_fault o)) w.1.1)), left)
+    by_spend reads status.Large w = (told status.Large w.0 (sym (ap (λ (o : Option Spent). last_status (spent_fault o)) w.1.1)), left)
     by_spend reads status.Usage w = absurd w
     by_spend reads status.Malformed w = absurd w
     by_spend reads status.Truncated w = absurd w

@@ -1,16 +1,12 @@
 -- What the top call says of a run with a journal, and of one that wasn't begun for want of memory.
 use Rattle.std.proofs.Common.{◌≡◌, ℕ, true, false, List, Option, Some, None, IfSome, IsNone, IsSome, refl, sym, subst}
 use Rattle.sp_disk.specs.Moments.{IsMoment, Lasts, Leaves, Moment}
-use Rattle.sp_io.specs.Whole.{AppendsFront}
-use Rattle.sp_io.proofs.Writing.{wrote_none}
 use Rattle.sp_journal.specs.Creation.{HoldsJournal, IsSynced}
 use Rattle.sp_journal.specs.Records.{records}
-use Rattle.spectre.specs.Chains.{EndsAtHead}
 use Rattle.spectre.specs.Crashes.{HoldsOnward, Recovery}
 use Rattle.spectre.specs.Ends.{Comes}
-use Rattle.spectre.specs.Faults.{IsOtherChain}
 use Rattle.spectre.specs.JobEnds.{JobEnds, WritesBy}
-use Rattle.spectre.specs.Output.{disk_told, due_of, input_told, OnDisk, OnInput, OnKeep, output_by}
+use Rattle.spectre.specs.Output.{disk_told, due_of, input_told, OnDisk, OnInput, OnKeep}
 use Rattle.spectre.specs.Taken.{TakesFeedFor}
 use Rattle.spectre.specs.declared.job.Job.{Job}
 use Rattle.spectre.specs.declared.job.Job.TheVariants as jobs
@@ -19,7 +15,7 @@ use Rattle.spectre.specs.declared.status.Status.TheVariants as status
 use Rattle.sp_disk.proofs.Lasting.{looks_same}
 use Rattle.spectre.proofs.Lasting.{looked_lasts}
 use Rattle.spectre.proofs.Onward.{looked_stays}
-use Rattle.spectre.proofs.KeptExits.{exit_early, nothing_headed, nothing_taken_for, silent_memory}
+use Rattle.spectre.proofs.KeptExits.{exit_early, nothing_taken_for, silent_memory}
 
 -- what holds by a status
 pub ends_at : {job : Option Job} {reads before after old new : Option (List ℕ)} {first last : Moment} {s : Status} (t : Status) → s ≡ t → JobEnds job reads before after old new first last s → WritesBy job reads before after old new t
@@ -51,11 +47,6 @@ on_status P status.Refuted done usage malformed truncated read write disk no_jou
 on_status P status.Poor done usage malformed truncated read write disk no_journal other memory damaged long no_pair refuted poor large = poor refl
 on_status P status.Large done usage malformed truncated read write disk no_journal other memory damaged long no_pair refuted poor large = large refl
 
--- a run that takes nothing leaves all of it
-pub left_whole : (o : Option (List ℕ)) → IfSome o (λ input. o ≡ Some input)
-left_whole None = tt
-left_whole (Some input) = refl
-
 pub if_all : (o : Option (List ℕ)) (P : List ℕ → Type 0) → ((x : List ℕ) → P x) → IfSome o P
 if_all None P f = tt
 if_all (Some x) P f = f x
@@ -66,17 +57,9 @@ on_all job reads P f = if_all (disk_told job reads) P f
 pub in_all : (job : Option Job) (left : Option (List ℕ)) (P : List ℕ → Type 0) → ((input : List ℕ) → P input) → OnInput job left P
 in_all job left P f = if_all (input_told job left) P f
 
--- nothing was written
-pub nothing_written : (job : Option Job) (left reads a : Option (List ℕ)) → OnInput job left (λ input. OnDisk job reads (λ bytes. AppendsFront a a (output_by job bytes input)))
-nothing_written job left reads a = in_all job left _ (λ input. on_all job reads _ (λ bytes. (output_by job bytes input, wrote_none a (output_by job bytes input))))
-
--- nor taken
+-- nothing was taken
 pub nothing_fed : (job : Option Job) (left reads a : Option (List ℕ)) → OnDisk job reads (λ bytes. TakesFeedFor (due_of job bytes) left left a a)
 nothing_fed job left reads a = on_all job reads _ (λ bytes. nothing_taken_for (due_of job bytes) left a)
-
--- nor behind a head
-pub nothing_behind : (job : Option Job) (left reads : Option (List ℕ)) → OnInput job left (λ input. OnDisk job reads (λ bytes. IsOtherChain job bytes input → EndsAtHead left left status.Memory))
-nothing_behind job left reads = in_all job left _ (λ input. on_all job reads _ (λ bytes other. nothing_headed left status.Memory tt))
 
 -- nor asked of the disk
 pub nothing_asked : (job : Option Job) (left a : Option (List ℕ)) (m : Moment) → IsMoment m → OnKeep job (λ fresh. IfSome left (λ input. IfSome m.reads (λ bytes. Recovery fresh bytes input left a a m m status.Memory)))

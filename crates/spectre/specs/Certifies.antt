@@ -9,7 +9,7 @@ use Rattle.sp_cert.specs.declared.fault.CertifyFault.{CertifyFault}
 use Rattle.sp_cert.specs.declared.fault.CertifyFault.TheVariants.{NoPair, Memory}
 use Rattle.sp_engine.specs.Arrivals.{kept_by_all}
 use Rattle.sp_engine.specs.Blocks.{block_in}
-use Rattle.sp_feed.specs.Feed.{End, Feed, Malformed, TooLong, Truncated, Whole}
+use Rattle.sp_feed.specs.Feed.{Feed}
 use Rattle.sp_feed.specs.Format.{Head}
 use Rattle.sp_feed.specs.Kinds.{Said}
 use Rattle.sp_model.specs.declared.profile.Profile.{Profile}
@@ -18,7 +18,7 @@ use Rattle.sp_model.specs.declared.word.Word.TheVariants as words
 use Rattle.sp_model.specs.Votes.{word}
 use Rattle.sp_node.specs.Answers.{arrivals_of}
 use Rattle.sp_pool.specs.Kept.{graph_in, present}
-use Rattle.spectre.specs.Replay.{end_text, fed}
+use Rattle.spectre.specs.Replay.{fed}
 
 -- `fault no-pair`
 unfoldable pub no_pair_text : List ℕ
@@ -61,21 +61,6 @@ certified_by x y f = certified_under x y f.head f.messages
 -- the certificate over the blocks that are kept of a feed
 unfoldable pub certified_fed : ℕ → ℕ → List ℕ → Option Certified
 certified_fed x y input = certified_by x y (fed input)
-
-abbrev pub text_or_none : Option Certified → List ℕ
-text_or_none None = []
-text_or_none (Some c) = certified_text c
-
--- so it is with a feed that ends by its frame `E`; else the line of its fault stands alone
-abbrev pub certified_at : List ℕ → End → List ℕ
-certified_at text (Whole rest) = text
-certified_at text (Malformed at) = end_text (Malformed at)
-certified_at text (Truncated at) = end_text (Truncated at)
-certified_at text (TooLong taken) = end_text (TooLong taken)
-
--- what `certify X Y` writes for an input
-unfoldable pub certified : ℕ → ℕ → List ℕ → List ℕ
-certified x y input = certified_at (text_or_none (certified_fed x y input)) (fed input).end
 
 -- ---- how it ends
 

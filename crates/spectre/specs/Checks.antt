@@ -1,8 +1,8 @@
 -- What `check` writes for a certificate.
-use Rattle.std.specs.Prelude.{◌≡◌, ℕ, List, [], ◌∷◌, ◌++◌, codes, Option, Some, None}
+use Rattle.std.specs.Prelude.{ℕ, List, [], ◌∷◌, ◌++◌, codes, Option, Some, None}
 use Rattle.std.specs.Fmt.{decimal}
 use Rattle.sp_cert.specs.Certificate.{Certificate}
-use Rattle.sp_cert.specs.Format.{Malformed, Said, said, Truncated, Whole}
+use Rattle.sp_cert.specs.Format.{Malformed, Said, Truncated, Whole}
 use Rattle.sp_cert.specs.Refusals.{refusal}
 use Rattle.sp_cert.specs.declared.fault.CheckFault.{CheckFault}
 use Rattle.sp_cert.specs.declared.fault.CheckFault.TheVariants.{Parent, Pair, World, Vote, Sum, Memory}
@@ -33,24 +33,3 @@ abbrev pub said_text : Said → List ℕ
 said_text (Whole cert) = judged_text cert (refusal cert)
 said_text (Malformed at) = malformed_text at
 said_text (Truncated at) = truncated_text at
-
--- what `check` writes for an input
-unfoldable pub checked : List ℕ → List ℕ
-checked input = said_text (said input)
-
--- ---- how it ends
-
--- the bytes say a certificate, which nothing refuses
-abbrev pub SaysShown : List ℕ → Type 0
-SaysShown input = (cert : Certificate) × (said input ≡ Whole cert) × (refusal cert ≡ None)
-
--- or which this refuses
-abbrev pub SaysRefuted : List ℕ → CheckFault → Type 0
-SaysRefuted input fault = (cert : Certificate) × (said input ≡ Whole cert) × (refusal cert ≡ Some fault)
-
--- they say none, by the place that this tells
-abbrev pub SaysMalformed : List ℕ → Type 0
-SaysMalformed input = (at : ℕ) × (said input ≡ Malformed at)
-
-abbrev pub SaysTruncated : List ℕ → Type 0
-SaysTruncated input = (at : ℕ) × (said input ≡ Truncated at)

@@ -1,8 +1,7 @@
 -- What the commands with a file write, over what the disk reads before the run.
-use Rattle.std.specs.Prelude.{◌≡◌, ◌≢◌, ◌⊎◌, ℕ, ◌==◌, ◌&&◌, ◌||◌, if◌then◌else◌, Bool, true, false, List, [], ◌∷◌, ◌++◌, length, codes, Option, Some, None, Result, Ok, Err}
+use Rattle.std.specs.Prelude.{◌≡◌, ◌≢◌, ◌⊎◌, ℕ, ◌==◌, ◌&&◌, ◌||◌, Bool, true, false, List, [], ◌∷◌, ◌++◌, length, codes, Option, Some, None, Result, Ok, Err}
 use Rattle.std.specs.Fmt.{decimal}
 use Rattle.std.specs.Str.{bytes_eq}
-use Rattle.sp_ids.specs.Digest.{sha256_number}
 use Rattle.sp_block.specs.Block.{ReadBlock}
 use Rattle.sp_block.specs.declared.fault.BlockFault.{BlockFault}
 use Rattle.sp_model.specs.declared.profile.Profile.{Profile}
@@ -16,7 +15,7 @@ use Rattle.sp_names.specs.Labels.{no_labels}
 use Rattle.sp_report.specs.Naming.{hex_label}
 use Rattle.sp_report.specs.Texts.{report_text}
 use Rattle.spectre.specs.Exports.{exported}
-use Rattle.spectre.specs.Replay.{fed, replayed}
+use Rattle.spectre.specs.Replay.{fed}
 use Rattle.spectre.specs.declared.shape.Shape.{Shape}
 use Rattle.spectre.specs.declared.shape.Shape.TheVariants.{Report, Feed}
 
@@ -45,25 +44,9 @@ recovered_text count = codes "recovered " ++ decimal count ++ 10 ∷ []
 abbrev pub is_chain_of : Contents → Head → Bool
 is_chain_of c head = (c.bits == head.bits) && (bytes_eq c.genesis head.genesis && (number c.profile == number head.profile))
 
--- the answers over the journal's blocks, but where the head is of another chain
-abbrev pub chained : Contents → Option Head → List ℕ → List ℕ
-chained c None input = replayed c.blocks input
-chained c (Some head) input =
-    if is_chain_of c head then replayed c.blocks input
-    else other_chain_text c.bits (sha256_number c.genesis) c.profile head.bits (sha256_number head.genesis) head.profile
-
 -- a journal may be made: there are no bytes, or it was asked for
 abbrev pub may_be_new : Bool → List ℕ → Bool
 may_be_new fresh disk = fresh || (length disk == 0)
-
-abbrev pub kept_by : Bool → List ℕ → Records → List ℕ → List ℕ
-kept_by fresh disk NoJournal input = if may_be_new fresh disk then replayed [] input else not_journal_text
-kept_by fresh disk (Damaged at) input = damaged_text at
-kept_by fresh disk (Found c) input = chained c (fed input).head input
-
--- what `node` writes
-unfoldable pub kept_output : Bool → List ℕ → List ℕ → List ℕ
-kept_output fresh disk input = kept_by fresh disk (records disk) input
 
 abbrev pub report_by : Contents → Result ReadBlock BlockFault → List ℕ
 report_by c (Ok genesis) = report_text c.profile no_labels (kept_by_all c.bits genesis c.blocks)

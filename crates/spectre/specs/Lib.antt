@@ -38,3 +38,6 @@ pub mod LastLine
 pub mod Ends
 pub mod Rests
 pub mod Talks
+pub mod Fault
+pub mod Run
+pub mod RunOf

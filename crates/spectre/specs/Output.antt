@@ -1,25 +1,18 @@
--- The defined output: what the program writes for these words, what the disk reads before the run, and this input, if
--- nothing fails.
-use Rattle.std.specs.Prelude.{ℕ, Bool, if◌then◌else◌, List, [], length, nat_le, Option, Some, None, IfSome}
-use Rattle.sp_make.specs.Made.{made}
+-- What a text writes that is taken from a source, and what is said of a job's input and of what its disk reads.
+use Rattle.std.specs.Prelude.{ℕ, Bool, if◌then◌else◌, List, [], length, nat_le, Option, Some, IfSome}
 use Rattle.sp_play.specs.Scene.{scene}
 use Rattle.sp_play.specs.Source.{scenario_limit}
 use Rattle.sp_report.specs.Lines.{too_long_text}
-use Rattle.spectre.specs.Certifies.{certified}
-use Rattle.spectre.specs.Checks.{checked}
 use Rattle.spectre.specs.Gossips.{gossiped}
-use Rattle.spectre.specs.Jobs.{job_in}
-use Rattle.spectre.specs.Journals.{found_blocks, kept_output, shown_output}
-use Rattle.spectre.specs.Replay.{replayed, replied}
-use Rattle.spectre.specs.Scenes.{drilled, scene_output}
-use Rattle.spectre.specs.Spends.{spent}
-use Rattle.spectre.specs.Watches.{watch_replied, watched}
+use Rattle.spectre.specs.Journals.{found_blocks}
+use Rattle.spectre.specs.Replay.{replied}
+use Rattle.spectre.specs.Scenes.{scene_output}
+use Rattle.spectre.specs.Watches.{watch_replied}
 use Rattle.spectre.specs.declared.job.Job.{Job}
 use Rattle.spectre.specs.declared.job.Job.TheVariants as jobs
 use Rattle.spectre.specs.declared.purpose.Purpose.TheVariants.{Play, Build}
 use Rattle.spectre.specs.declared.purpose.Task.{Task}
 use Rattle.spectre.specs.declared.purpose.Task.TheVariants.{Scenario, Gossip}
-use Rattle.spectre.specs.declared.shape.Shape.TheVariants.{Report, Feed}
 
 abbrev pub is_too_long : List ℕ → Bool
 is_too_long input = nat_le scenario_limit (length input)
@@ -33,26 +26,6 @@ task_output Gossip input = gossiped input
 abbrev pub source_output : Task → List ℕ → List ℕ
 source_output task input =
     if is_too_long input then too_long_text scenario_limit else task_output task input
-
--- what a job writes over this disk for this input; words that are no job write nothing
-abbrev pub output_by : Option Job → List ℕ → List ℕ → List ℕ
-output_by None disk input = []
-output_by (Some jobs.Replay) disk input = replayed [] input
-output_by (Some (jobs.Keep path fresh)) disk input = kept_output fresh disk input
-output_by (Some (jobs.Show path)) disk input = shown_output Report disk
-output_by (Some (jobs.Export path profile)) disk input = shown_output (Feed profile) disk
-output_by (Some jobs.Play) disk input = source_output (Scenario Play) input
-output_by (Some jobs.Build) disk input = source_output (Scenario Build) input
-output_by (Some (jobs.Make n seed width)) disk input = made n seed width
-output_by (Some (jobs.Drill n seed width)) disk input = drilled (scene (made n seed width))
-output_by (Some (jobs.Certify x y)) disk input = certified x y input
-output_by (Some jobs.Check) disk input = checked input
-output_by (Some jobs.Gossip) disk input = source_output Gossip input
-output_by (Some (jobs.Spend amount to words)) disk input = spent words amount to input
-output_by (Some (jobs.Watch items)) disk input = watched items input
-
-abbrev pub output : List (List ℕ) → List ℕ → List ℕ → List ℕ
-output words disk input = output_by (job_in words) disk input
 
 -- the disk's bytes, where it tells them; for a job that names no file none
 abbrev pub disk_told : Option Job → Option (List ℕ) → Option (List ℕ)

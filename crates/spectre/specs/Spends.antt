@@ -10,7 +10,7 @@ use Rattle.sp_pool.specs.Kept.{present}
 use Rattle.sp_engine.specs.Arrivals.{kept_by_all}
 use Rattle.sp_engine.specs.Blocks.{block_in}
 use Rattle.sp_engine.specs.Transactions.{ledger_by_id}
-use Rattle.sp_feed.specs.Feed.{End, Feed, Malformed, TooLong, Truncated, Whole}
+use Rattle.sp_feed.specs.Feed.{Feed}
 use Rattle.sp_feed.specs.Format.{Head}
 use Rattle.sp_feed.specs.Kinds.{Said}
 use Rattle.sp_node.specs.Answers.{arrivals_of}
@@ -18,7 +18,7 @@ use Rattle.sp_wallet.specs.Keys.{keys_of}
 use Rattle.sp_wallet.specs.Spend.{spend_of}
 use Rattle.sp_wallet.specs.declared.fault.SpendFault.{SpendFault}
 use Rattle.sp_wallet.specs.declared.fault.SpendFault.TheVariants.{Poor, Large, Memory}
-use Rattle.spectre.specs.Replay.{end_text, fed}
+use Rattle.spectre.specs.Replay.{fed}
 
 -- `fault poor N`
 unfoldable pub poor_text : ℕ → List ℕ
@@ -59,21 +59,6 @@ spend_by words amount to f = spend_under words amount to f.head f.messages
 -- the spend over the blocks that are kept of a feed
 unfoldable pub spend_fed : List (List ℕ) → ℕ → ℕ → List ℕ → Option Spent
 spend_fed words amount to input = spend_by words amount to (fed input)
-
-abbrev pub text_or_none : Option Spent → List ℕ
-text_or_none None = []
-text_or_none (Some s) = spend_text s
-
--- a feed that ends by its frame `E` is spent of; else the line of its fault stands alone
-abbrev pub spent_at : List ℕ → End → List ℕ
-spent_at text (Whole rest) = text
-spent_at text (Malformed at) = end_text (Malformed at)
-spent_at text (Truncated at) = end_text (Truncated at)
-spent_at text (TooLong taken) = end_text (TooLong taken)
-
--- what `spend AMOUNT to WORD from WORD ..` writes for an input
-unfoldable pub spent : List (List ℕ) → ℕ → ℕ → List ℕ → List ℕ
-spent words amount to input = spent_at (text_or_none (spend_fed words amount to input)) (fed input).end
 
 -- ---- how a spend ends
 

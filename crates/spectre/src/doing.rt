@@ -4,10 +4,10 @@ ghost use Rattle.std.specs.Prelude.{◌≡◌, ◌≢◌, Some};
 ghost use Rattle.sp_disk.specs.Moments.{Looks};
 ghost use Rattle.sp_io.specs.Causes.{Rose};
 ghost use Rattle.spectre.specs.Ends.{Comes, EndsByDisk};
-ghost use Rattle.spectre.specs.Faults.{IsDiskAtFault};
 ghost use Rattle.spectre.specs.JobEnds.{JobEnds};
 ghost use Rattle.spectre.specs.Jobs.{IsJob, NamesFile, Shows, TakesNothing, WritesLast};
 ghost use Rattle.spectre.specs.Output.{OnDisk};
+ghost use Rattle.spectre.specs.RunOf.{EndsAtDisk};
 
 use crate::certify::certify;
 use crate::check::check;
@@ -38,7 +38,7 @@ pub fn do_job<S: Source, K: Sink, D: Disk>(
     ensures ends { JobEnds (Some job.now) (D.now disk.old).reads (S.left source.old) (S.left source.new)
         (K.taken sink.old) (K.taken sink.new) (D.now disk.old) (D.now disk.new) result }
     ensures disk_first { OnDisk (Some job.now) (D.now disk.old).reads (λ bytes.
-        IsDiskAtFault (Some job.now) bytes → EndsByDisk result × (source.new ≡ source.old)) }
+        EndsAtDisk (Some job.now) bytes → EndsByDisk result × (source.new ≡ source.old)) }
     ensures no_input { TakesNothing (Some job.now) → source.new ≡ source.old }
     ensures read_fault { result ≡ Status.ReadFault → WritesLast (Some job.now) → sink.new ≡ sink.old }
     ensures disk_fault_shown { result ≡ Status.DiskFault → Shows (Some job.now) → sink.new ≡ sink.old }

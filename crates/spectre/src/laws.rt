@@ -5,6 +5,7 @@ ghost use Rattle.std.specs.Prelude.{ℕ, List, Option};
 ghost use Rattle.sp_form.specs.Bytes.{IsBytes};
 ghost use Rattle.spectre.specs.Exports.{ExportIsRead};
 ghost use Rattle.spectre.specs.Rests.{KeptAgree};
+ghost use Rattle.spectre.specs.RunOf.{RunsAreLines};
 ghost use Rattle.spectre.specs.Talks.{JobAgrees, Talk, TalksAnswerAlike};
 ghost use Rattle.spectre.specs.declared.job.Job.{Job};
 
@@ -35,4 +36,10 @@ pub fn talks_are_alike()
 #[tactic(auto, using(crate::proofs::Exported::export_is_read))]
 pub fn exports_are_read()
     ensures { ExportIsRead }
+{}
+
+/// What a run writes before the line of its fault are whole lines.
+#[tactic(auto, using(crate::proofs::RunLines::run_lines))]
+pub fn runs_are_lines()
+    ensures { RunsAreLines }
 {}

@@ -1,8 +1,8 @@
 //! The answering of a feed: message by message up to its end or its first fault, each line written
 //! before a byte of the next message is taken.
 
-ghost use Rattle.std.specs.Prelude.{◌≡◌, ◌≢◌, ◌≤◌, ◌∷◌, [], ℕ, true, false, drop, length, Err, IfErr, IfOk, IfSome, IsErrOf, IsTrue, List, None, Ok, Option, Some};
-ghost use Rattle.std.specs.Io.KnownBytes.{Appends, Consumes};
+ghost use Rattle.std.specs.Prelude.{◌≡◌, ◌≢◌, ◌≤◌, ◌∷◌, [], ℕ, true, false, length, Err, IfErr, IfOk, IsErrOf, IsTrue, List, None, Ok, Option, Some};
+ghost use Rattle.std.specs.Io.KnownBytes.{Appends};
 ghost use Rattle.sp_io.specs.Causes.{Rose};
 ghost use Rattle.sp_io.specs.Whole.{AppendsFront};
 ghost use Rattle.sp_journal.specs.Settled.{SameTold};
@@ -11,11 +11,13 @@ ghost use Rattle.sp_feed.specs.Calls.{GivesHead};
 ghost use Rattle.sp_feed.specs.Reader.{Behind, head_in, is_open};
 ghost use Rattle.sp_feed.specs.Reads.{Moment, moment};
 ghost use Rattle.spectre.specs.Ends.{Replays};
-ghost use Rattle.spectre.specs.Faults.{EndsMalformed, EndsTooLong, EndsTruncated, EndsWhole, feed_fault_text, rest_behind, status_of};
-ghost use Rattle.spectre.specs.Replay.{fed, feed_limit, replayed, replied};
+ghost use Rattle.spectre.specs.Faults.{feed_fault_text, status_of};
+ghost use Rattle.spectre.specs.JobEnds.{WritesBy};
+ghost use Rattle.spectre.specs.Replay.{feed_limit};
 ghost use Rattle.spectre.specs.Replaying.{Answering, HasWriteCause, Replies};
 ghost use Rattle.spectre.specs.Running.{RestReplies};
 ghost use Rattle.spectre.specs.Taken.{TakesFeed};
+ghost use Rattle.spectre.specs.declared.job.Job.TheVariants as jobs;
 
 use crate::genesis::node_of;
 use crate::no_disk::NoDisk;
@@ -233,39 +235,15 @@ pub fn write_fault<K: Sink>(fault: FeedFault, sink: &mut K) -> Status
 /// one. What follows the frame `E` stays unread. It takes about the time of the engine for each
 /// block. The memory that the answered blocks take isn't given back: it goes with the process.
 pub fn replay<S: Source, K: Sink>(alloc: Global, source: &mut S, sink: &mut K) -> Status
-    ensures done { result ≡ Status.Done → IfSome (S.left source.old) (λ input.
-        Appends (K.taken sink.old) (K.taken sink.new) (replayed [] input) × EndsWhole (fed input).end) }
-    ensures done_end { result ≡ Status.Done → IfSome (S.left source.old) (λ input.
-        S.left source.new ≡ Some (rest_behind (fed input).end)) }
-
-    ensures malformed { result ≡ Status.Malformed → IfSome (S.left source.old) (λ input.
-        Appends (K.taken sink.old) (K.taken sink.new) (replayed [] input)
-        × EndsMalformed (fed input).end) }
-    ensures truncated { result ≡ Status.Truncated → IfSome (S.left source.old) (λ input.
-        Appends (K.taken sink.old) (K.taken sink.new) (replayed [] input)
-        × EndsTruncated (fed input).end) }
-    ensures truncated_end { result ≡ Status.Truncated → IfSome (S.left source.old) (λ input.
-        S.left source.new ≡ Some []) }
-    ensures too_long { result ≡ Status.TooLong → IfSome (S.left source.old) (λ input.
-        Appends (K.taken sink.old) (K.taken sink.new) (replayed [] input)
-        × EndsTooLong (fed input).end) }
-    ensures too_long_end { result ≡ Status.TooLong → IfSome (S.left source.old) (λ input.
-        S.left source.new ≡ Some (drop feed_limit input)) }
+    // Whatever a disk reads, since none is asked for anything.
+    ensures by { (reads : Option (List ℕ)) → WritesBy (Some jobs.Replay) reads
+        (S.left source.old) (S.left source.new) (K.taken sink.old) (K.taken sink.new) result }
     ensures taken { TakesFeed []
         (S.left source.old) (S.left source.new) (K.taken sink.old) (K.taken sink.new) }
-
-    ensures read_fault { result ≡ Status.ReadFault → (given : List ℕ)
-        × Consumes (S.left source.old) (S.left source.new) given
-        × Appends (K.taken sink.old) (K.taken sink.new) (replied [] given) }
-    ensures write_fault { result ≡ Status.WriteFault → IfSome (S.left source.old) (λ input.
-        AppendsFront (K.taken sink.old) (K.taken sink.new) (replayed [] input)) }
-    ensures memory { result ≡ Status.Memory → IfSome (S.left source.old) (λ input.
-        AppendsFront (K.taken sink.old) (K.taken sink.new) (replayed [] input)) }
     ensures read_cause { result ≡ Status.ReadFault → Rose (S.faults source.old) (S.faults source.new) }
     ensures write_cause { result ≡ Status.WriteFault → Rose (K.faults sink.old) (K.faults sink.new) }
     ensures read_quiet { result ≢ Status.ReadFault → S.faults source.new ≡ S.faults source.old }
     ensures write_quiet { result ≢ Status.WriteFault → K.faults sink.new ≡ K.faults sink.old }
-
     ensures among { Replays result }
 {
     match answer_messages(alloc, source, sink) {

@@ -1,4 +1,4 @@
-use Rattle.std.proofs.Common.{◌≡◌, ◌∙◌, List, ℕ, Option, Some, Ok, Err, IfSome, refl, subst, sym}
+use Rattle.std.proofs.Common.{◌≡◌, ◌∙◌, List, ℕ, Option, Some, Ok, Err, IfSome, ap, refl, subst, sym}
 use Rattle.std.specs.Io.KnownBytes.{Appends}
 use Rattle.sp_io.specs.Whole.{AppendsFront}
 use Rattle.sp_node.specs.Stored.{Tells}
@@ -6,10 +6,11 @@ use Rattle.sp_journal.specs.Records.{Damaged, Found, NoJournal}
 use Rattle.sp_journal.specs.declared.fault.JournalFault.TheVariants as opening
 use Rattle.spectre.specs.Journals.{damaged_text, HasNoJournal, not_journal_text}
 use Rattle.spectre.specs.Ends.{EndsByDisk}
+use Rattle.spectre.specs.Run.{run_status, run_text}
 use Rattle.spectre.specs.declared.status.Status.TheVariants as status
 use Rattle.spectre.proofs.DiskFirst.{stored_first}
 use Rattle.spectre.proofs.KeptExits.{ends_on, exit_early, exit_line, line_ends, on_map, silent_disk, silent_memory}
-use Rattle.spectre.proofs.KeptRuns.{at_one, damaged_says, none_says}
+use Rattle.spectre.proofs.KeptRuns.{at_one, damaged_misfits, damaged_run, none_misfits, none_run, on_one}
 use Rattle.spectre.proofs.TopCall.{if_all}
 use Rattle.spectre.proofs.keep.keep.Goals as goal
 
@@ -35,9 +36,9 @@ returns-in-NotJournal-clause-ends g c = λ path.
     let says : (disk : List ℕ) → first.reads ≡ Some disk → HasNoJournal fresh disk = λ disk r. (let t = at_one (λ (d : List ℕ). Tells fresh d (Err (opening.NotJournal c.in-NotJournal.gate))) r e in record { none = t.0.none; some = t.1; old = t.2 }) in
     exit_line path fresh left old first (now c.open.new.disk) (g.met.D.Disk.is_moment c.args.disk.now) (g.met.D.Disk.is_moment c.open.new.disk) c.in-Err.ensures.looks new not_journal_text status.NotJournal c.end_with.result c.end_with.ensures.status
     (λ h. subst (λ (t : List ℕ). Appends old new t) c.not_journal_line.ensures (c.end_with.ensures.text h)) (subst (λ (t : List ℕ). AppendsFront old new t) c.not_journal_line.ensures c.end_with.ensures.front)
-    (λ disk input r. none_says fresh disk input (says disk r))
+    (λ disk input r. (ap run_text (none_run fresh disk input (says disk r)), none_misfits fresh disk input (says disk r)))
     (λ disk c r is. (let no : NoJournal ≡ Found c = sym (says disk r).none ∙ is in cc))
-    (λ h. on_map left first.reads _ _ (λ disk input l r x. (x, says disk r)) h)
+    (λ h. (on_map left first.reads _ _ (λ disk input l r x. record { status = sym (ap run_status (none_run fresh disk input (says disk r))); took = x }) h, on_one left _ (λ input l. l)))
 
 pub returns-in-Damaged-clause-ends : goal.returns-in-Damaged-clause-ends
 returns-in-Damaged-clause-ends g c = λ path.
@@ -51,9 +52,9 @@ returns-in-Damaged-clause-ends g c = λ path.
     let at = c.in-Damaged.at in
     exit_line path fresh left old first (now c.open.new.disk) (g.met.D.Disk.is_moment c.args.disk.now) (g.met.D.Disk.is_moment c.open.new.disk) c.in-Err.ensures.looks new (damaged_text at) status.Damaged c.end_with-in-Damaged.result c.end_with-in-Damaged.ensures.status
     (λ h. subst (λ (t : List ℕ). Appends old new t) c.damaged_line.ensures (c.end_with-in-Damaged.ensures.text h)) (subst (λ (t : List ℕ). AppendsFront old new t) c.damaged_line.ensures c.end_with-in-Damaged.ensures.front)
-    (λ disk input r. damaged_says fresh disk input at (at_one (λ (d : List ℕ). Tells fresh d (Err (opening.Damaged at))) r e))
+    (λ disk input r. (let is = at_one (λ (d : List ℕ). Tells fresh d (Err (opening.Damaged at))) r e in (ap run_text (damaged_run fresh disk input at is), damaged_misfits fresh disk input at is)))
     (λ disk c r is. (let no : Damaged at ≡ Found c = sym (at_one (λ (d : List ℕ). Tells fresh d (Err (opening.Damaged at))) r e) ∙ is in cc))
-    (λ h. on_map left first.reads _ _ (λ disk input l r x. (x, (at, at_one (λ (d : List ℕ). Tells fresh d (Err (opening.Damaged at))) r e))) h)
+    (λ h. (on_map left first.reads _ _ (λ disk input l r x. record { status = sym (ap run_status (damaged_run fresh disk input at (at_one (λ (d : List ℕ). Tells fresh d (Err (opening.Damaged at))) r e))); took = x }) h, on_one left _ (λ input l. l)))
 
 pub returns-in-DiskFault-clause-ends : goal.returns-in-DiskFault-clause-ends
 returns-in-DiskFault-clause-ends g c = λ path.
