@@ -38,6 +38,10 @@ run_all (Some job) left reads P f = in_all (Some job) left _ (λ input. on_all (
 pub nothing_cut : (job : Option Job) (left reads a : Option (List ℕ)) → OnRun job left reads (λ run. AppendsFront a a (run_text run))
 nothing_cut job left reads a = run_all job left reads _ (λ run. (run_text run, wrote_none a (run_text run)))
 
+-- so too where the sink is as it was
+pub silent_cut : (job : Option Job) (left reads old new : Option (List ℕ)) → new ≡ old → OnRun job left reads (λ run. AppendsFront old new (run_text run))
+silent_cut job left reads old new e = subst (λ (o : Option (List ℕ)). OnRun job left reads (λ run. AppendsFront old o (run_text run))) (sym e) (nothing_cut job left reads old)
+
 -- ---- by the status
 
 module _ (job : Option Job) (reads before after old new : Option (List ℕ)) where
@@ -50,6 +54,8 @@ module _ (job : Option Job) (reads before after old new : Option (List ℕ)) whe
   own_ends s own by = by
 
   cut_ends : (s : Status) → IsCutShort s → WritesBy job reads before after old new s → WritesFront job reads before old new
+  cut_ends status.ReadFault short by = by.1
+  cut_ends status.DiskFault short by = by.1
   cut_ends status.WriteFault short by = by
   cut_ends status.Memory short by = by
   cut_ends other short by = absurd short

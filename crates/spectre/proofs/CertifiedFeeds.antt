@@ -68,8 +68,8 @@ module _ (x y : ℕ) where
         → AppendsFront old new (feed_fault_text e) → (e ≡ faults.ReadFault → result ≡ status.ReadFault) → WritesBy job reads start.left now.left old new result
     by_fault e result b same text front read =
         fault_by nothing (certify_run x y) certified_closes (WritesBy job reads start.left now.left old new) result
-        (fault_ends (λ input. run_text (certify_run x y input)) (text_closes nothing (certify_run x y) certified_closes) new e result (as_replies old e b) same text front read)
-        (λ h. h) (λ h. h) (λ h. h) (λ h feed. h) (λ h. h)
+        (fault_ends (λ input. run_text (certify_run x y input)) (text_closes nothing (certify_run x y) certified_closes) (λ input. (run_text (certify_run x y input), refl)) new e result (as_replies old e b) same text front read)
+        (λ h. h) (λ h. h) (λ h. h) (λ h front. ((λ feed. h), front)) (λ h. h)
 
   -- memory was refused before the feed's end
   pub by_memory : (reads before after old : Option (List ℕ)) → WritesBy job reads before after old old status.Memory

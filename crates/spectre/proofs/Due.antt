@@ -20,7 +20,7 @@ use Rattle.spectre.specs.Run.{Ended, last_status, ran, Run, run_status, run_text
 use Rattle.spectre.specs.RunOf.{behind, closing_run, feed_fault, is_cut, is_early}
 use Rattle.spectre.specs.Taken.{AreNeeded, TakesFeedFor}
 use Rattle.spectre.specs.declared.replay.ReplayFault.{ReplayFault}
-use Rattle.spectre.specs.declared.replay.ReplayFault.TheVariants.{Feed, WriteFault, Memory}
+use Rattle.spectre.specs.declared.replay.ReplayFault.TheVariants.{DiskFault, Feed, WriteFault, Memory}
 use Rattle.spectre.specs.declared.status.Status.{Status}
 use Rattle.spectre.specs.declared.status.Status.TheVariants as status
 use Rattle.spectre.proofs.FeedRuns.{feed_line, long_status, malformed_status, truncated_status}
@@ -58,6 +58,17 @@ front_due due whole begins input h =
       },
     )
 
+-- nothing more was written
+pub front_on : {old new : Option (List ℕ)} (mid : Option (List ℕ)) (whole : List ℕ) → AppendsFront old mid whole → Appends mid new [] → AppendsFront old new whole
+front_on {old = old} {new = new} mid whole h none = (
+  h.0,
+  record {
+    front = h.1.front;
+    appended = subst (λ (t : List ℕ). Appends old new t) (append-nil h.1.front) (appends_then old mid new h.1.front [] h.1.appended none);
+    split = h.1.split;
+  },
+)
+
 module _ {due but : List ℕ → List ℕ} {start now : Moment} {old new : Option (List ℕ)} where
   -- the end was read
   pub done_end : RepliesFor due but start now old new (Ok tt) → IfSome start.left (λ input. Appends old new (due input) × EndsWhole (fed input).end)
@@ -69,6 +80,10 @@ module _ {due but : List ℕ → List ℕ} {start now : Moment} {old new : Optio
       let s = r.says rest in e ∙ ap (λ (x : End). Some (rest_behind x)) (sym s.1))
 
   -- a message wasn't answered
+  -- the disk failed
+  pub disk_front : (whole : List ℕ → List ℕ) → Begins due whole → RepliesFor due but start now old new (Err DiskFault) → IfSome start.left (λ input. AppendsFront old new (whole input))
+  disk_front whole begins r = with_input (λ input. AppendsFront old new (whole input)) start.left now.left r.given r.took.consumed (λ rest e. front_due due whole begins (r.given ++ rest) (r.says.1 rest))
+
   pub write_front : (whole : List ℕ → List ℕ) → Begins due whole → RepliesFor due but start now old new (Err WriteFault) → IfSome start.left (λ input. AppendsFront old new (whole input))
   write_front whole begins r = with_input (λ input. AppendsFront old new (whole input)) start.left now.left r.given r.took.consumed (λ rest e. front_due due whole begins (r.given ++ rest) (r.says rest))
 
@@ -255,6 +270,7 @@ pub record FaultEnds (due whole : List ℕ → List ℕ) (before after old new :
   pub too_long : s ≡ status.TooLong → IfSome before (λ input. Appends old new (whole input) × EndsTooLong (fed input).end)
   pub too_long_end : s ≡ status.TooLong → IfSome before (λ input. after ≡ Some (drop feed_limit input))
   pub read : s ≡ status.ReadFault → (given : List ℕ) × Consumes before after given × Appends old new (due given)
+  pub read_front : s ≡ status.ReadFault → IfSome before (λ input. AppendsFront old new (whole input))
   pub write : s ≡ status.WriteFault → IfSome before (λ input. AppendsFront old new (whole input))
 
 module _ {due but : List ℕ → List ℕ} {start now : Moment} {old mid : Option (List ℕ)} where
@@ -263,9 +279,14 @@ module _ {due but : List ℕ → List ℕ} {start now : Moment} {old mid : Optio
   read_due new faults.ReadFault r is none = subst (λ (t : List ℕ). Appends old new t) (append-nil (due r.given)) (appends_then old mid new (due r.given) [] r.says.0 none)
   read_due new other r is none = absurd cc
 
-  pub fault_ends : (whole : List ℕ → List ℕ) → Closes due whole → (new : Option (List ℕ)) (e : FeedFault) (result : Status) → RepliesFor due but start now old mid (Err (Feed e)) → (result ≢ status.WriteFault → result ≡ status_of e)
+  -- so the sink took a front of all that is due
+  pub read_begun : (whole : List ℕ → List ℕ) → Begins due whole → (new : Option (List ℕ)) (e : FeedFault) (r : RepliesFor due but start now old mid (Err (Feed e))) → e ≡ faults.ReadFault → Appends mid new (feed_fault_text e) → IfSome start.left (λ input. AppendsFront old new (whole input))
+  read_begun whole begins new faults.ReadFault r is none = with_input (λ input. AppendsFront old new (whole input)) start.left now.left r.given r.took.consumed (λ rest e. front_due due whole begins (r.given ++ rest) (front_on mid (due (r.given ++ rest)) (r.says.2 rest) none))
+  read_begun whole begins new other r is none = absurd cc
+
+  pub fault_ends : (whole : List ℕ → List ℕ) → Closes due whole → Begins due whole → (new : Option (List ℕ)) (e : FeedFault) (result : Status) → RepliesFor due but start now old mid (Err (Feed e)) → (result ≢ status.WriteFault → result ≡ status_of e)
       → (result ≢ status.WriteFault → Appends mid new (feed_fault_text e)) → AppendsFront mid new (feed_fault_text e) → (e ≡ faults.ReadFault → result ≡ status.ReadFault) → FaultEnds due whole start.left now.left old new result
-  fault_ends whole closes new e result r same text front read = record {
+  fault_ends whole closes begins new e result r same text front read = record {
     among = after_fault e result same;
     malformed = fault_line_whole whole closes new e result status.Malformed EndsMalformed (is_malformed e) (λ h. cc) (λ h. cc) r same text;
     malformed_end = λ is. malformed_left e r (by_status e result status.Malformed (λ h. cc) same is);
@@ -277,6 +298,10 @@ module _ {due but : List ℕ → List ℕ} {start now : Moment} {old mid : Optio
         let failed = is_read_fault e (by_status e result status.ReadFault (λ h. cc) same is) in
         let written : result ≢ status.WriteFault = λ h. (let no : status.ReadFault ≡ status.WriteFault = sym is ∙ h in cc) in
         (r.given, r.took.consumed, read_due new e r failed (text written));
+    read_front = λ is.
+        let failed = is_read_fault e (by_status e result status.ReadFault (λ h. cc) same is) in
+        let written : result ≢ status.WriteFault = λ h. (let no : status.ReadFault ≡ status.WriteFault = sym is ∙ h in cc) in
+        read_begun whole begins new e r failed (text written);
     write = fault_line_cut whole closes new e result r front read;
   }
 
@@ -311,11 +336,11 @@ module _ (due : List ℕ → List ℕ) (run : List ℕ → Run) (closes : RunClo
   pub fault_by : {before after old new : Option (List ℕ)} (P : Status → Type 0) (s : Status) → FaultEnds due (λ input. run_text (run input)) before after old new s → (IfSome before (λ input. Ended (run input) status.Malformed old new) × IfSome before (λ input. after ≡ Some (behind is_early [] input)) → P status.Malformed)
       → (IfSome before (λ input. Ended (run input) status.Truncated old new) × IfSome before (λ input. after ≡ Some []) → P status.Truncated)
       → (IfSome before (λ input. Ended (run input) status.TooLong old new) × IfSome before (λ input. after ≡ Some (drop feed_limit input)) → P status.TooLong)
-      → ((given : List ℕ) × Consumes before after given × Appends old new (due given) → P status.ReadFault) → (IfSome before (λ input. AppendsFront old new (run_text (run input))) → P status.WriteFault) → P s
+      → ((given : List ℕ) × Consumes before after given × Appends old new (due given) → IfSome before (λ input. AppendsFront old new (run_text (run input))) → P status.ReadFault) → (IfSome before (λ input. AppendsFront old new (run_text (run input))) → P status.WriteFault) → P s
   fault_by {before = before} {old = old} {new = new} P status.Malformed f malformed truncated long read write = malformed (ended before old new status.Malformed EndsMalformed malformed_stops malformed_status (f.malformed refl), f.malformed_end refl)
   fault_by {before = before} {old = old} {new = new} P status.Truncated f malformed truncated long read write = truncated (ended before old new status.Truncated EndsTruncated truncated_stops truncated_status (f.truncated refl), f.truncated_end refl)
   fault_by {before = before} {old = old} {new = new} P status.TooLong f malformed truncated long read write = long (ended before old new status.TooLong EndsTooLong long_stops long_status (f.too_long refl), f.too_long_end refl)
-  fault_by {before = before} {old = old} {new = new} P status.ReadFault f malformed truncated long read write = read (f.read refl)
+  fault_by {before = before} {old = old} {new = new} P status.ReadFault f malformed truncated long read write = read (f.read refl) (f.read_front refl)
   fault_by {before = before} {old = old} {new = new} P status.WriteFault f malformed truncated long read write = write (f.write refl)
   fault_by {before = before} {old = old} {new = new} P other f malformed truncated long read write = absurd f.among
 

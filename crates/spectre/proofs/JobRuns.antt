@@ -23,8 +23,8 @@ use Rattle.spectre.specs.declared.replay.ReplayFault.TheVariants.{Feed}
 use Rattle.sp_feed.specs.Reads.{Moment}
 use Rattle.sp_feed.specs.declared.fault.FeedFault.{FeedFault}
 use Rattle.sp_feed.specs.declared.fault.FeedFault.TheVariants as faults
-use Rattle.spectre.proofs.Due.{fault_by, fault_ends, RunCloses, text_closes}
-use Rattle.spectre.specs.Run.{Ended, last_status, ran, Run, run_status, run_text}
+use Rattle.spectre.proofs.Due.{Begins, fault_by, fault_ends, RunCloses, text_closes}
+use Rattle.spectre.specs.Run.{Ended, last_line, last_status, ran, Run, run_status, run_text}
 use Rattle.spectre.specs.RunOf.{build_run, drill_run, feed_fault, feed_run, gossip_fault, gossip_run, make_run, play_run, replay_run, scenario_fault, show_run, shown_run, text_run}
 use Rattle.spectre.specs.Scenes.{drilled}
 use Rattle.spectre.specs.declared.purpose.Purpose.TheVariants.{Build, Play}
@@ -65,13 +65,18 @@ replay_closes : RunCloses (replied []) replay_run
 unfolding replay_run
 replay_closes input end e stops = ap (feed_run (replied [] input)) e
 
+-- what is due comes first in any case
+replay_begins : Begins (replied []) (λ input. run_text (replay_run input))
+unfolding replay_run
+replay_begins input = (last_line (feed_fault (fed input).end), refl)
+
 -- a feed's fault, of which the line was written
 pub replay_by_fault : (reads : Option (List ℕ)) {start now : Moment} {old mid : Option (List ℕ)} (new : Option (List ℕ)) (e : FeedFault) (result : Status) → Replies [] start now old mid (Err (Feed e)) → (result ≢ status.WriteFault → result ≡ status_of e) → (result ≢ status.WriteFault → Appends mid new (feed_fault_text e))
     → AppendsFront mid new (feed_fault_text e) → (e ≡ faults.ReadFault → result ≡ status.ReadFault) → WritesBy (Some jobs.Replay) reads start.left now.left old new result
 replay_by_fault reads {start = start} {now = now} {old = old} new e result r same text front read =
     fault_by (replied []) replay_run replay_closes (WritesBy (Some jobs.Replay) reads start.left now.left old new) result
-    (fault_ends (λ input. run_text (replay_run input)) (text_closes (replied []) replay_run replay_closes) new e result r same text front read)
-    (λ h. h) (λ h. h) (λ h. h) (λ h feed. h) (λ h. h)
+    (fault_ends (λ input. run_text (replay_run input)) (text_closes (replied []) replay_run replay_closes) replay_begins new e result r same text front read)
+    (λ h. h) (λ h. h) (λ h. h) (λ h front. ((λ feed. h), front)) (λ h. h)
 
 -- ---- a scenario
 

@@ -52,7 +52,7 @@ use Rattle.spectre.proofs.FeedRuns.{long_status, malformed_status, truncated_sta
 use Rattle.spectre.proofs.Keeping.{none_ends}
 use Rattle.spectre.proofs.Lasting.{answered_lasts, looked_lasts}
 use Rattle.spectre.proofs.Onward.{answered_stays, looked_stays}
-use Rattle.spectre.proofs.Replayed.{done_rest, done_text, Ends, fault_front, fault_written, is_malformed, is_too_long, is_truncated, limit_taken, malformed_left, memory_text, nothing_left, takes, takes_then, with_input, write_text}
+use Rattle.spectre.proofs.Replayed.{disk_text, done_rest, done_text, Ends, fault_front, fault_written, is_malformed, is_too_long, is_truncated, limit_taken, malformed_left, memory_text, nothing_left, read_text, takes, takes_then, with_input, write_text}
 use Rattle.spectre.proofs.Replies.{appends_none, fault_says, lines_are}
 use Rattle.spectre.proofs.RunFirst.{chain_of}
 use Rattle.spectre.proofs.Running.{whole_front}
@@ -276,13 +276,16 @@ exit_amiss : (path : List ℕ) (fresh : Bool) (gate : Gate) {start now : Moment}
     → IsUntried (Empty gate) start now old new first last (Err DiskFault)
     → JobEnds (Some (jobs.Keep path fresh)) first.reads start.left now.left old new first last status.DiskFault
 exit_amiss path fresh gate {start = start} {now = now} old first last law last_law tells {new = new} u = record {
-  by = λ _. same_found fresh (Empty gate) start.left first.reads tells
-      (λ (l : List (List ℕ)). (given : List ℕ) × Consumes start.left now.left given × Appends old new (replied_but_last l given)) (
-        u.given,
-        u.took.consumed,
-        subst (λ (x : List ℕ). Appends old new x) (sym (amiss_silent fresh first last law last_law old u.given u.headed u.why))
-            (appends_same old new u.silent),
-      );
+  by = (
+    (λ _. same_found fresh (Empty gate) start.left first.reads tells
+        (λ (l : List (List ℕ)). (given : List ℕ) × Consumes start.left now.left given × Appends old new (replied_but_last l given)) (
+          u.given,
+          u.took.consumed,
+          subst (λ (x : List ℕ). Appends old new x) (sym (amiss_silent fresh first last law last_law old u.given u.headed u.why))
+              (appends_same old new u.silent),
+        )),
+    front_none start.left first.reads old new (λ disk input. run_text (node_run fresh disk input)) u.silent,
+  );
   taken = λ takes. absurd takes;
   taken_fed = λ _.
       subst (λ (o : Option (List ℕ)). IfSome first.reads (λ disk. TakesFeed (found_blocks disk) start.left now.left old o)) (sym u.silent)
@@ -304,9 +307,12 @@ pub exit_disk : (path : List ℕ) (fresh : Bool) (stored : Stored) {start now : 
     → KeepAnswers stored start now old new first last (Err DiskFault)
     → JobEnds (Some (jobs.Keep path fresh)) first.reads start.left now.left old new first last status.DiskFault
 exit_disk path fresh stored {start = start} {now = now} old first last law last_law tells {new = new} (inr t) = record {
-  by = λ _. same_found fresh stored start.left first.reads tells
-      (λ (l : List (List ℕ)). (given : List ℕ) × Consumes start.left now.left given × Appends old new (replied_but_last l given))
-      (t.0.given, t.0.took.consumed, t.0.says.0);
+  by = (
+    (λ _. same_found fresh stored start.left first.reads tells
+        (λ (l : List (List ℕ)). (given : List ℕ) × Consumes start.left now.left given × Appends old new (replied_but_last l given))
+        (t.0.given, t.0.took.consumed, t.0.says.0)),
+    front_of_text fresh stored start.left first.reads tells old new (fitting fresh stored start.left first.reads tells t.1.fits) (disk_text (bytes_of stored) t.0),
+  );
   taken = λ takes. absurd takes;
   taken_fed = λ _. feed_taken fresh stored start.left first.reads tells now.left old new (takes t.0);
   onward = answered_stays fresh stored first last law tells {result = Err DiskFault} (inr t);
@@ -334,12 +340,15 @@ feed_replies stored {start = start} {now = now} {old = old} {mid = mid} {first =
       says = by e u.why;
     })
   where
+    nothing_begun : (more : List ℕ) → AppendsFront old old (replied (bytes_of stored) (u.given ++ more))
+    nothing_begun more = (replied (bytes_of stored) (u.given ++ more), wrote_none old (replied (bytes_of stored) (u.given ++ more)))
+
     by : (e : FeedFault) → UntriedBy stored start now u.given first last (Err (Feed e))
         → SaysReply (bytes_of stored) start now old old u.given (Err (replays.Feed e))
-    by (faults.Malformed at) w = fault_says (bytes_of stored) start now old old u.given None [] (faults.Malformed at) w.0 (appends_none old)
-    by (faults.Truncated at) w = fault_says (bytes_of stored) start now old old u.given None [] (faults.Truncated at) (w.0, w.1) (appends_none old)
-    by faults.ReadFault w = fault_says (bytes_of stored) start now old old u.given None [] faults.ReadFault (w.0, w.1) (appends_none old)
-    by (faults.TooLong taken) w = fault_says (bytes_of stored) start now old old u.given None [] (faults.TooLong taken) w.0 (appends_none old)
+    by (faults.Malformed at) w = fault_says (bytes_of stored) start now old old u.given None [] (faults.Malformed at) w.0 (appends_none old) nothing_begun
+    by (faults.Truncated at) w = fault_says (bytes_of stored) start now old old u.given None [] (faults.Truncated at) (w.0, w.1) (appends_none old) nothing_begun
+    by faults.ReadFault w = fault_says (bytes_of stored) start now old old u.given None [] faults.ReadFault (w.0, w.1) (appends_none old) nothing_begun
+    by (faults.TooLong taken) w = fault_says (bytes_of stored) start now old old u.given None [] (faults.TooLong taken) w.0 (appends_none old) nothing_begun
 
 -- the head is none, or that of the chain
 headless : (stored : Stored) (start now : Moment) (given : List ℕ) (first last : DiskMoment) (e : FeedFault) → (e ≡ faults.ReadFault → ⊥)
@@ -408,6 +417,15 @@ module _ (path : List ℕ) (fresh : Bool) (stored : Stored) {start now : Moment}
       → OnBoth start.left first.reads (λ disk input. Ended (node_run fresh disk input) s old new)
   written other b s is = whole_run fresh stored start.left first.reads tells old new s (Ends e) is (accepted other) (fault_written (bytes_of stored) new e r other b)
 
+  -- a read failed, of which no line is written
+  read_front : e ≡ faults.ReadFault → Appends mid new (feed_fault_text e) → OnBoth start.left first.reads (λ disk input. AppendsFront old new (run_text (node_run fresh disk input)))
+  read_front is b = elim a [
+    | inr t ↦ front_of_text fresh stored start.left first.reads tells old new (fitting fresh stored start.left first.reads tells t.1.fits) (read_text (bytes_of stored) new e r is b)
+    | inl u ↦ on_both start.left first.reads _ (λ disk input l x.
+        let none : Appends old new [] = subst (λ (o : Option (List ℕ)). Appends o new []) u.silent (subst (λ (f : FeedFault). Appends mid new (feed_fault_text f)) is b) in
+        (run_text (node_run fresh disk input), record { front = []; appended = none; split = refl }))
+  ]
+
   -- by the fault
   by_fault : (f : FeedFault) → e ≡ f → Appends mid new (feed_fault_text e)
       → WritesBy (Some (jobs.Keep path fresh)) first.reads start.left now.left old new (status_of f)
@@ -421,13 +439,16 @@ module _ (path : List ℕ) (fresh : Bool) (stored : Stored) {start now : Moment}
         (λ end h. truncated_status end (is_truncated e end (ap status_of is) h)),
     nothing_left e r (ap status_of is),
   )
-  by_fault faults.ReadFault is b = λ _.
-      let t = subst (λ (f : FeedFault). Replies (bytes_of stored) start now old mid (Err (replays.Feed f))) is r in
-      let none = subst (λ (f : FeedFault). Appends mid new (feed_fault_text f)) is b in
-      let lines = replied (bytes_of stored) t.given in
-      same_found fresh stored start.left first.reads tells
-      (λ (l : List (List ℕ)). (given : List ℕ) × Consumes start.left now.left given × Appends old new (replied l given))
-      (t.given, t.took.consumed, subst (λ (x : List ℕ). Appends old new x) (append-nil lines) (appends_then old mid new lines [] t.says.0 none))
+  by_fault faults.ReadFault is b = (
+    (λ _.
+        let t = subst (λ (f : FeedFault). Replies (bytes_of stored) start now old mid (Err (replays.Feed f))) is r in
+        let none = subst (λ (f : FeedFault). Appends mid new (feed_fault_text f)) is b in
+        let lines = replied (bytes_of stored) t.given in
+        same_found fresh stored start.left first.reads tells
+        (λ (l : List (List ℕ)). (given : List ℕ) × Consumes start.left now.left given × Appends old new (replied l given))
+        (t.given, t.took.consumed, subst (λ (x : List ℕ). Appends old new x) (append-nil lines) (appends_then old mid new lines [] t.says.0 none))),
+    read_front is b,
+  )
   by_fault (faults.TooLong taken) is b = (
     written (λ h. let no : faults.TooLong taken ≡ faults.ReadFault = sym is ∙ h in cc) b status.TooLong
         (λ end h. long_status end (is_too_long e end (ap status_of is) h)),
@@ -685,7 +706,7 @@ module _ (path : List ℕ) (fresh : Bool) (left old : Option (List ℕ)) (first 
   no_lines before = appends_none old
 
   pub silent_disk : WritesBy (Some (jobs.Keep path fresh)) first.reads left left old old status.DiskFault
-  silent_disk = λ _. on_one first.reads _ (λ disk r. ([], none left, no_lines (found_blocks disk)))
+  silent_disk = ((λ _. on_one first.reads _ (λ disk r. ([], none left, no_lines (found_blocks disk)))), silent_memory)
     where
       none : (o : Option (List ℕ)) → Consumes o o []
       none None = tt

@@ -11,7 +11,7 @@ use Rattle.spectre.specs.Faults.{EndsWhole, feed_fault_text, status_of}
 use Rattle.spectre.specs.Replay.{end_text, fed, replayed, replied}
 use Rattle.spectre.specs.Replaying.{Replies}
 use Rattle.spectre.specs.Taken.{TakesFeed}
-use Rattle.spectre.specs.declared.replay.ReplayFault.TheVariants.{Feed, WriteFault, Memory}
+use Rattle.spectre.specs.declared.replay.ReplayFault.TheVariants.{DiskFault, Feed, WriteFault, Memory}
 use Rattle.spectre.specs.declared.status.Status.{Status}
 use Rattle.spectre.specs.declared.status.Status.TheVariants as status
 use Rattle.spectre.proofs.Due.{Begins, Closes, takes_line}
@@ -42,6 +42,9 @@ module _ (before : List (List ℕ)) {start now : Moment} {old new : Option (List
   pub write_text : Replies before start now old new (Err WriteFault) → IfSome start.left (λ input. AppendsFront old new (replayed before input))
   write_text r = due.write_front (replayed before) (begins before) r
 
+  pub disk_text : Replies before start now old new (Err DiskFault) → IfSome start.left (λ input. AppendsFront old new (replayed before input))
+  disk_text r = due.disk_front (replayed before) (begins before) r
+
   pub memory_text : Replies before start now old new (Err Memory) → IfSome start.left (λ input. AppendsFront old new (replayed before input))
   memory_text r = due.memory_front (replayed before) (begins before) r
 
@@ -52,6 +55,10 @@ takes_then arrived before after old mid new line t h = takes_line (replied arriv
 module _ (before : List (List ℕ)) {start now : Moment} {old mid : Option (List ℕ)} where
   pub fault_written : (new : Option (List ℕ)) (e : FeedFault) → Replies before start now old mid (Err (Feed e)) → (e ≡ faults.ReadFault → ⊥) → Appends mid new (feed_fault_text e) → IfSome start.left (λ input. Appends old new (replayed before input) × Ends e (fed input).end)
   fault_written new e r other b = due.fault_written (replayed before) (closes before) new e r other b
+
+  -- a read failed
+  pub read_text : (new : Option (List ℕ)) (e : FeedFault) → Replies before start now old mid (Err (Feed e)) → e ≡ faults.ReadFault → Appends mid new (feed_fault_text e) → IfSome start.left (λ input. AppendsFront old new (replayed before input))
+  read_text new e r is none = due.read_begun (replayed before) (begins before) new e r is none
 
   pub fault_front : (new : Option (List ℕ)) (e : FeedFault) → Replies before start now old mid (Err (Feed e)) → (e ≡ faults.ReadFault → ⊥) → AppendsFront mid new (feed_fault_text e) → IfSome start.left (λ input. AppendsFront old new (replayed before input))
   fault_front new e r other b = due.fault_front (replayed before) (closes before) new e r other b

@@ -135,20 +135,36 @@ at_end {start = start} {now = now} {old = old} {new = new} {terms = terms} befor
 
 -- a fault of the feed, or of its source
 pub fault_says : (before : List (List ℕ)) (start now : Moment) (old new : Option (List ℕ)) (given : List ℕ) (head : Option Head) (messages : List Said) (e : FeedFault)
-    → SaysFault (feed feed_limit) (λ end. record { head = head; messages = messages; end = end }) start now given e → Appends old new (lines_under before head messages) → SaysReply before start now old new given (Err (Feed e))
-fault_says before start now old new given head messages (faults.Malformed at) s w = λ more. (
+    → SaysFault (feed feed_limit) (λ end. record { head = head; messages = messages; end = end }) start now given e → Appends old new (lines_under before head messages) → ((more : List ℕ) → AppendsFront old new (replied before (given ++ more))) → SaysReply before start now old new given (Err (Feed e))
+fault_says before start now old new given head messages (faults.Malformed at) s w begun = λ more. (
   subst (λ (t : List ℕ). Appends old new t) (sym (replied_is before (given ++ more) _ (s more))) w,
   ap (λ (f : FeedOf). f.end) (s more),
 )
-fault_says before start now old new given head messages (faults.Truncated at) s w = (
+fault_says before start now old new given head messages (faults.Truncated at) s w begun = (
   (subst (λ (t : List ℕ). Appends old new t) (sym (replied_is before given _ s.0)) w, ap (λ (f : FeedOf). f.end) s.0),
   s.1,
 )
-fault_says before start now old new given head messages faults.ReadFault s w = (subst (λ (t : List ℕ). Appends old new t) (sym (replied_is before given _ s.0)) w, s.1)
-fault_says before start now old new given head messages (faults.TooLong taken) s w = λ more. (
+fault_says before start now old new given head messages faults.ReadFault s w begun = (subst (λ (t : List ℕ). Appends old new t) (sym (replied_is before given _ s.0)) w, s.1, begun)
+fault_says before start now old new given head messages (faults.TooLong taken) s w begun = λ more. (
   subst (λ (t : List ℕ). Appends old new t) (sym (replied_is before (given ++ more) _ (s more))) w,
   ap (λ (f : FeedOf). f.end) (s more),
 )
+
+-- whatever follows what was read so far, the answers so far come first
+pub begun_with : {start mid : Moment} {old new : Option (List ℕ)} {terms : Terms} {kept : List ReadBlock} (before : List (List ℕ)) (a : Answering before start mid old new terms kept) (more : List ℕ) → AppendsFront old new (replied before (a.so_far.given ++ more))
+begun_with {mid = mid} {terms = terms} before a more =
+    let head = head_of terms.profile terms.bits a.genesis.bytes in
+    let rest = rest_of feed_limit mid.taken more in
+    let behind : List ℕ = answers no_labels a.genesis terms (before ++ flat_map arrivals_of a.messages) rest.messages in (
+      behind,
+      record {
+        front = answers no_labels a.genesis terms before a.messages;
+        appended = a.wrote;
+        split = replied_is before (a.so_far.given ++ more) _ (a.so_far.says more) ∙ ap (λ (l : List Said). lines_under before (Some head) (l ++ rest.messages)) (sym a.so_far.seen)
+            ∙ lines_are before a.genesis terms (a.messages ++ rest.messages) a.spelled
+            ∙ answers-append no_labels a.genesis terms before a.messages rest.messages;
+      },
+    )
 
 unfoldable pub at_fault : {start mid now : Moment} {old new : Option (List ℕ)} {terms : Terms} {kept : List ReadBlock} {X : Type 0} {view : X → Option Said} {e : FeedFault} (before : List (List ℕ))
     → Answering before start mid old new terms kept → GivesNext feed_limit mid now view (Err e) → Replies before start now old new (Err (Feed e))
@@ -161,7 +177,8 @@ at_fault {start = start} {mid = mid} {now = now} {old = old} {new = new} {terms 
       answered = answered_next before a g;
       says = fault_says before start now old new (a.so_far.given ++ g.given) (Some head) a.so_far.messages e
           (fault_onto feed_limit start mid now head a.so_far.messages a.so_far.given g.given e a.so_far.took.later a.so_far.says g.says)
-          (subst (λ (t : List ℕ). Appends old new t) (sym (ap (lines_under before (Some head)) (sym a.so_far.seen) ∙ lines_are before a.genesis terms a.messages a.spelled)) a.wrote);
+          (subst (λ (t : List ℕ). Appends old new t) (sym (ap (lines_under before (Some head)) (sym a.so_far.seen) ∙ lines_are before a.genesis terms a.messages a.spelled)) a.wrote)
+          (λ more. subst (λ (l : List ℕ). AppendsFront old new (replied before l)) (sym (append_assoc a.so_far.given g.given more)) (begun_with before a (g.given ++ more)));
     }
 
 -- nothing was written
@@ -191,7 +208,7 @@ head_fault {start = start} {now = now} before old (heads.Feed e) g = record {
   took = g.took;
   needed = head_needed g;
   answered = head_answered before old g;
-  says = fault_says before start now old old g.given None [] e g.says (appends_none old);
+  says = fault_says before start now old old g.given None [] e g.says (appends_none old) (λ more. (replied before (g.given ++ more), wrote_none old (replied before (g.given ++ more))));
 }
 head_fault before old heads.Memory g = nothing_behind_head before old g
 

@@ -48,7 +48,7 @@ says_nothing : (start now : Moment) (old : Option (List ℕ)) (given : List ℕ)
     → SaysFault (feed feed_limit) (λ end. record { head = head; messages = messages; end = end }) start now given e → SaysDue nothing nothing start now old old given (Err (Feed e))
 says_nothing start now old given head messages (faults.Malformed at) s = λ more. (appends_none old, ap (λ (f : FeedOf). f.end) (s more))
 says_nothing start now old given head messages (faults.Truncated at) s = ((appends_none old, ap (λ (f : FeedOf). f.end) s.0), s.1)
-says_nothing start now old given head messages faults.ReadFault s = (appends_none old, s.1)
+says_nothing start now old given head messages faults.ReadFault s = (appends_none old, s.1, λ more. ([], wrote_none old []))
 says_nothing start now old given head messages (faults.TooLong taken) s = λ more. (appends_none old, ap (λ (f : FeedOf). f.end) (s more))
 
 -- what was read of it, as the answering of a feed that writes nothing
@@ -92,8 +92,8 @@ module _ (words : List (List ℕ)) (amount to : ℕ) where
         → AppendsFront old new (feed_fault_text e) → (e ≡ faults.ReadFault → result ≡ status.ReadFault) → WritesBy job reads start.left now.left old new result
     by_fault e result b same text front read =
         fault_by nothing (spend_run words amount to) spent_closes (WritesBy job reads start.left now.left old new) result
-        (fault_ends (λ input. run_text (spend_run words amount to input)) (text_closes nothing (spend_run words amount to) spent_closes) new e result (as_replies old e b) same text front read)
-        (λ h. h) (λ h. h) (λ h. h) (λ h feed. h) (λ h. h)
+        (fault_ends (λ input. run_text (spend_run words amount to input)) (text_closes nothing (spend_run words amount to) spent_closes) (λ input. (run_text (spend_run words amount to input), refl)) new e result (as_replies old e b) same text front read)
+        (λ h. h) (λ h. h) (λ h. h) (λ h front. ((λ feed. h), front)) (λ h. h)
 
   -- memory was refused before the feed's end
   pub by_memory : (reads before after old : Option (List ℕ)) → WritesBy job reads before after old old status.Memory

@@ -21,8 +21,9 @@ use Rattle.spectre.specs.declared.replay.ReplayFault.{ReplayFault}
 use Rattle.spectre.specs.declared.replay.ReplayFault.TheVariants.{Feed, Memory, WriteFault}
 use Rattle.spectre.specs.declared.status.Status.{Status}
 use Rattle.spectre.specs.declared.status.Status.TheVariants as status
-use Rattle.spectre.proofs.Due.{fault_by, fault_ends, RunCloses, Stops, text_closes, with_input}
+use Rattle.spectre.proofs.Due.{Begins, fault_by, fault_ends, RunCloses, Stops, text_closes, with_input}
 use Rattle.spectre.proofs.RunTexts.{watch_text}
+use Rattle.spectre.proofs.WatchedFeeds.{watched_begins}
 
 -- ---- the run of a watch
 
@@ -70,6 +71,10 @@ module _ (items : List Item) where
     pub by_memory : (reads : Option (List ℕ)) → Watches items start now old new (Err Memory) → WritesBy job reads start.left now.left old new status.Memory
     by_memory reads w = with_input (λ input. AppendsFront old new (run_text (watch_run items input))) start.left now.left w.given w.took.consumed (λ rest e. subst (λ (t : List ℕ). AppendsFront old new t) (sym (watch_text items (w.given ++ rest))) (w.says rest))
 
+  -- what is due comes first in any case
+  watch_begins : Begins (watch_replied items) (λ input. run_text (watch_run items input))
+  watch_begins input = let b = watched_begins items input in (b.0, watch_text items input ∙ b.1)
+
   module _ (reads : Option (List ℕ)) {start now : Moment} {old mid : Option (List ℕ)} (new : Option (List ℕ)) where
     -- the feed is at fault, whatever was held
     as_replies : (e : FeedFault) → Watches items start now old mid (Err (Feed e)) → FollowsFor items start now old mid (Err (Feed e))
@@ -80,5 +85,5 @@ module _ (items : List Item) where
         → AppendsFront mid new (feed_fault_text e) → (e ≡ faults.ReadFault → result ≡ status.ReadFault) → WritesBy job reads start.left now.left old new result
     by_fault e result w same text front read =
         fault_by (watch_replied items) (watch_run items) (watch_closes items) (WritesBy job reads start.left now.left old new) result
-        (fault_ends (λ input. run_text (watch_run items input)) (text_closes (watch_replied items) (watch_run items) (watch_closes items)) new e result (as_replies e w) same text front read)
-        (λ h. h) (λ h. h) (λ h. h) (λ h feed. h) (λ h. h)
+        (fault_ends (λ input. run_text (watch_run items input)) (text_closes (watch_replied items) (watch_run items) (watch_closes items)) watch_begins new e result (as_replies e w) same text front read)
+        (λ h. h) (λ h. h) (λ h. h) (λ h front. ((λ feed. h), front)) (λ h. h)

@@ -170,17 +170,17 @@ module _ (items : List Item) {start mid : Moment} {old seen : Option (List ℕ)}
 
 -- a fault of the feed, or of its source
 fault_says : (items : List Item) (start now : Moment) (old new : Option (List ℕ)) (given : List ℕ) (head : Option Head) (messages : List Said) (e : FeedFault)
-    → SaysFault (feed feed_limit) (λ end. record { head = head; messages = messages; end = end }) start now given e → Appends old new (watch_lines_under items head messages) → SaysDue (watch_replied items) none_due start now old new given (Err (Feed e))
-fault_says items start now old new given first messages (faults.Malformed at) s w = λ more. (
+    → SaysFault (feed feed_limit) (λ end. record { head = head; messages = messages; end = end }) start now given e → Appends old new (watch_lines_under items head messages) → ((more : List ℕ) → AppendsFront old new (watch_replied items (given ++ more))) → SaysDue (watch_replied items) none_due start now old new given (Err (Feed e))
+fault_says items start now old new given first messages (faults.Malformed at) s w begun = λ more. (
   subst (λ (t : List ℕ). Appends old new t) (sym (replied_is items (given ++ more) _ (s more))) w,
   ap (λ (f : FeedOf). f.end) (s more),
 )
-fault_says items start now old new given first messages (faults.Truncated at) s w = (
+fault_says items start now old new given first messages (faults.Truncated at) s w begun = (
   (subst (λ (t : List ℕ). Appends old new t) (sym (replied_is items given _ s.0)) w, ap (λ (f : FeedOf). f.end) s.0),
   s.1,
 )
-fault_says items start now old new given first messages faults.ReadFault s w = (subst (λ (t : List ℕ). Appends old new t) (sym (replied_is items given _ s.0)) w, s.1)
-fault_says items start now old new given first messages (faults.TooLong taken) s w = λ more. (
+fault_says items start now old new given first messages faults.ReadFault s w begun = (subst (λ (t : List ℕ). Appends old new t) (sym (replied_is items given _ s.0)) w, s.1, begun)
+fault_says items start now old new given first messages (faults.TooLong taken) s w begun = λ more. (
   subst (λ (t : List ℕ). Appends old new t) (sym (replied_is items (given ++ more) _ (s more))) w,
   ap (λ (f : FeedOf). f.end) (s more),
 )
@@ -188,6 +188,22 @@ fault_says items start now old new given first messages (faults.TooLong taken) s
 stop_says : (items : List Item) (stop : Stop) (start now : Moment) (old new : Option (List ℕ)) (given : List ℕ) → ((more : List ℕ) → AppendsFront old new (watch_replied items (given ++ more))) → SaysDue (watch_replied items) none_due start now old new given (Err (of_stop stop))
 stop_says items stops.WriteFault start now old new given h = h
 stop_says items stops.Memory start now old new given h = h
+
+module _ (items : List Item) {start mid : Moment} {old seen : Option (List ℕ)} {terms : Terms} {kept : List ReadBlock} {w : Watched} (a : Following items start mid old seen terms kept w) where
+  -- whatever follows what was read so far, the lines so far come first
+  begun_with : (more : List ℕ) → AppendsFront old seen (watch_replied items (a.so_far.given ++ more))
+  begun_with more =
+      let rest = rest_of feed_limit mid.taken more in
+      let behind : List ℕ = watch_replies a.genesis terms items (flat_map arrivals_of a.messages) rest.messages in (
+        behind,
+        record {
+          front = told items a;
+          appended = a.wrote;
+          split = replied_is items (a.so_far.given ++ more) _ (a.so_far.says more) ∙ ap (λ (l : List Said). watch_lines_under items (Some (head items a)) (l ++ rest.messages)) (sym a.so_far.seen)
+              ∙ lines_are items a.genesis terms (a.messages ++ rest.messages) a.spelled
+              ∙ replies-append a.genesis terms items [] a.messages rest.messages;
+        },
+      )
 
 module _ (items : List Item) {start mid now : Moment} {old seen : Option (List ℕ)} {terms : Terms} {kept : List ReadBlock} {w : Watched} (a : Following items start mid old seen terms kept w) {X : Type 0} {view : X → Option Said} where
   pub at_fault : {e : FeedFault} (v : Watched) → GivesNext feed_limit mid now view (Err e) → Follows items start now old seen v (Err (Feed e))
@@ -199,7 +215,8 @@ module _ (items : List Item) {start mid now : Moment} {old seen : Option (List �
       answered = told_next items a g;
       says = fault_says items start now old seen (a.so_far.given ++ g.given) (Some (head items a)) a.so_far.messages e
           (fault_onto feed_limit start mid now (head items a) a.so_far.messages a.so_far.given g.given e a.so_far.took.later a.so_far.says g.says)
-          (subst (λ (t : List ℕ). Appends old seen t) (sym (ap (watch_lines_under items (Some (head items a))) (sym a.so_far.seen) ∙ lines_are items a.genesis terms a.messages a.spelled)) a.wrote);
+          (subst (λ (t : List ℕ). Appends old seen t) (sym (ap (watch_lines_under items (Some (head items a))) (sym a.so_far.seen) ∙ lines_are items a.genesis terms a.messages a.spelled)) a.wrote)
+          (λ more. subst (λ (l : List ℕ). AppendsFront old seen (watch_replied items l)) (sym (append_assoc a.so_far.given g.given more)) (begun_with items a (g.given ++ more)));
     };
     held = tt;
   }
@@ -255,7 +272,7 @@ module _ (items : List Item) {start now : Moment} {old : Option (List ℕ)} wher
     took = g.took;
     needed = head_needed g;
     answered = head_told items old g;
-    says = fault_says items start now old old g.given None [] e g.says (appends_none old);
+    says = fault_says items start now old old g.given None [] e g.says (appends_none old) (λ more. (watch_replied items (g.given ++ more), wrote_none old (watch_replied items (g.given ++ more))));
   }
   head_fault heads.Memory g = nothing_behind_head g
 

@@ -37,7 +37,8 @@ abbrev pub SaysDue : (List ℕ → List ℕ) → (List ℕ → List ℕ) → Mom
 SaysDue due but_last start now old new given (Ok u) = RepliesAll due old new given (λ more. Whole more)
 SaysDue due but_last start now old new given (Err (Feed (faults.Malformed at))) = RepliesAll due old new given (λ more. Malformed at)
 SaysDue due but_last start now old new given (Err (Feed (faults.Truncated at))) = RepliesTo due old new given (Truncated at) × IsAtEnd now.left
-SaysDue due but_last start now old new given (Err (Feed faults.ReadFault)) = Appends old new (due given) × Rose start.faults now.faults
+SaysDue due but_last start now old new given (Err (Feed faults.ReadFault)) =
+    Appends old new (due given) × Rose start.faults now.faults × ((more : List ℕ) → AppendsFront old new (due (given ++ more)))
 SaysDue due but_last start now old new given (Err (Feed (faults.TooLong taken))) = RepliesAll due old new given (λ more. TooLong taken)
 SaysDue due but_last start now old new given (Err WriteFault) = (more : List ℕ) → AppendsFront old new (due (given ++ more))
 SaysDue due but_last start now old new given (Err DiskFault) =

@@ -57,7 +57,7 @@ pub fn run<S: Source, K: Sink, D: Disk>(
         Ended run result (K.taken sink.old) (K.taken sink.new)) }
     ensures whole_lines { RunsAreLines }
     ensures rest { LeavesRest (asked words.now) (S.left source.old) (S.left source.new) result }
-    // Where a write failed or memory was refused, the sink took a front of that text.
+    // Where a read, a write or the disk failed, or memory was refused, the sink took a front of that text.
     ensures cut_short { IsCutShort result → OnRun (asked words.now) (S.left source.old) (D.now disk.old).reads (λ run.
         AppendsFront (K.taken sink.old) (K.taken sink.new) (run_text run)) }
     // Where no count rose, the run ends so, or memory was refused.

@@ -31,3 +31,6 @@ returns-in-Err-Truncated-clause-by g c = λ reads.
 
 pub returns-in-Err-Memory-clause-by : goal.returns-in-Err-Memory-clause-by
 returns-in-Err-Memory-clause-by g c = λ reads. by_memory reads (g.S.Source.left c.args.source.now) (g.S.Source.left c.read_cert.new.source) (g.K.Sink.taken c.args.sink.now)
+
+pub returns-in-Err-ReadFault-clause-by : goal.returns-in-Err-ReadFault-clause-by
+returns-in-Err-ReadFault-clause-by g c = λ reads. ((λ fed. absurd fed), by_memory reads (g.S.Source.left c.args.source.now) (g.S.Source.left c.read_cert.new.source) (g.K.Sink.taken c.args.sink.now))

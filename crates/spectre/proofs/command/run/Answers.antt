@@ -50,13 +50,13 @@ returns-in-Ok-clause-disk_counted g c = ((λ s. (c.do_job.ensures.disk_cause s).
 pub returns-in-Ok-clause-read_fault : goal.returns-in-Ok-clause-read_fault
 returns-in-Ok-clause-read_fault g c = λ s. (
   (λ takes. c.do_job.ensures.read_fault s (subst WritesLast c.in-Ok.ensures.job takes)),
-  ends_at status.ReadFault s (asked_ends c.in-Ok.ensures.job c.do_job.ensures.ends),
+  (ends_at status.ReadFault s (asked_ends c.in-Ok.ensures.job c.do_job.ensures.ends)).0,
 )
 
 pub returns-in-Ok-clause-disk_fault : goal.returns-in-Ok-clause-disk_fault
 returns-in-Ok-clause-disk_fault g c = λ s. (
   (λ shows. c.do_job.ensures.disk_fault_shown s (subst Shows c.in-Ok.ensures.job shows)),
-  ends_at status.DiskFault s (asked_ends c.in-Ok.ensures.job c.do_job.ensures.ends),
+  (ends_at status.DiskFault s (asked_ends c.in-Ok.ensures.job c.do_job.ensures.ends)).0,
 )
 
 pub returns-in-Ok-clause-taken : goal.returns-in-Ok-clause-taken

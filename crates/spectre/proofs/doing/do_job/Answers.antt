@@ -6,6 +6,7 @@ use Rattle.spectre.specs.JobEnds.{JobEnds, WritesBy}
 use Rattle.spectre.specs.declared.job.Job.{Job}
 use Rattle.spectre.specs.declared.job.Job.TheVariants as jobs
 use Rattle.spectre.specs.declared.shape.Shape.TheVariants.{Feed, Report}
+use Rattle.spectre.proofs.AsDefined.{silent_cut}
 use Rattle.spectre.proofs.DiskFirst.{first_of, no_fault, shown_first, shown_journal}
 use Rattle.spectre.proofs.JobRuns.{build_runs, drill_done, drill_faulty, drill_front, gossip_runs, make_ended, make_front, play_runs, show_damaged, show_done, show_front, show_no_journal}
 use Rattle.spectre.proofs.RunFirst.{chain_of, disk_of}
@@ -63,7 +64,7 @@ returns-in-Show-clause-ends g c =
           (λ s. absurd (subst Shows s e.among))
           (λ s. absurd (subst Shows s e.among))
           (λ s. show_front Report first.reads old new (e.write_fault s))
-          (λ s. λ fed. absurd fed)
+          (λ s. ((λ fed. absurd fed), silent_cut (Some job) before first.reads old new (ap g.K.Sink.taken (e.disk_fault s))))
           (λ s. (show_no_journal Report first.reads old new (e.not_journal s), if_all before _ (λ input. tt)))
           (λ s. absurd (subst Shows s e.among))
           (λ s. show_front Report first.reads old new (e.memory s))
@@ -103,7 +104,7 @@ returns-in-Export-clause-ends g c =
           (λ s. absurd (subst Shows s e.among))
           (λ s. absurd (subst Shows s e.among))
           (λ s. show_front (Feed c.in-Export.profile) first.reads old new (e.write_fault s))
-          (λ s. λ fed. absurd fed)
+          (λ s. ((λ fed. absurd fed), silent_cut (Some job) before first.reads old new (ap g.K.Sink.taken (e.disk_fault s))))
           (λ s. (show_no_journal (Feed c.in-Export.profile) first.reads old new (e.not_journal s), if_all before _ (λ input. tt)))
           (λ s. absurd (subst Shows s e.among))
           (λ s. show_front (Feed c.in-Export.profile) first.reads old new (e.memory s))
@@ -142,7 +143,7 @@ returns-in-Play-clause-ends g c =
           (λ s. absurd (subst Plays s e.among))
           (λ s. (r.malformed (e.malformed s), e.malformed_end s))
           (λ s. absurd (subst Plays s e.among))
-          (λ s. λ fed. absurd fed)
+          (λ s. ((λ fed. absurd fed), silent_cut (Some job) before first.reads old new (ap g.K.Sink.taken (e.read_fault s))))
           (λ s. r.front (e.write_fault s))
           (λ s. absurd (subst Plays s e.among))
           (λ s. absurd (subst Plays s e.among))
@@ -183,7 +184,7 @@ returns-in-Build-clause-ends g c =
           (λ s. absurd (subst Plays s e.among))
           (λ s. (r.malformed (e.malformed s), e.malformed_end s))
           (λ s. absurd (subst Plays s e.among))
-          (λ s. λ fed. absurd fed)
+          (λ s. ((λ fed. absurd fed), silent_cut (Some job) before first.reads old new (ap g.K.Sink.taken (e.read_fault s))))
           (λ s. r.front (e.write_fault s))
           (λ s. absurd (subst Plays s e.among))
           (λ s. absurd (subst Plays s e.among))
@@ -310,7 +311,7 @@ returns-in-Gossip-clause-ends g c =
           (λ s. absurd (subst Plays s e.among))
           (λ s. (r.malformed (e.malformed s), e.malformed_end s))
           (λ s. absurd (subst Plays s e.among))
-          (λ s. λ fed. absurd fed)
+          (λ s. ((λ fed. absurd fed), silent_cut (Some job) before first.reads old new (ap g.K.Sink.taken (e.read_fault s))))
           (λ s. r.front (e.write_fault s))
           (λ s. absurd (subst Plays s e.among))
           (λ s. absurd (subst Plays s e.among))
