@@ -248,6 +248,7 @@ impl Engine {
     /// The present blocks by number, in the order in which they became so.
     pub fn dag(&self) -> &Dag
         ensures dag { result.now ≡ self.now.numbered }
+        ensures profile { result.now.profile ≡ self.now.profile }
         ensures numbered { IsNumbered result.now }
         ensures ids { result.now.ids ≡ order_of self.now.kept }
         ensures blocks { AreNumbered self.now.kept result.now }
