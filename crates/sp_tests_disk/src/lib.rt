@@ -1,8 +1,8 @@
-//! Tests of the disks, by their public calls. They stand in a crate of their own because a crate with
-//! tests is proved twice.
+//! Tests of the disks and of the journal, by their public calls. They stand in a crate of their own because a
+//! crate with tests is proved twice.
 //!
-//! `memory` has the disk in memory, `rows` its table, `file` a disk over a file, and `asked` what that
-//! asks of the system.
+//! `memory` has the disk in memory, `memory_rows` its table, `file` a disk over a file, and `asked` what that
+//! asks of the system; `journal` has the journal. `rows` judges a table's row.
 #![tactic(auto)]
 
 #[cfg(test)]
@@ -10,6 +10,10 @@ mod asked;
 #[cfg(test)]
 mod file;
 #[cfg(test)]
+mod journal;
+#[cfg(test)]
 mod memory;
+#[cfg(test)]
+mod memory_rows;
 #[cfg(test)]
 mod rows;

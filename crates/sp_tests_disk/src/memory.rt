@@ -1,6 +1,6 @@
 //! What a disk in memory answers to rows of calls, and what a crash leaves behind them.
 
-use crate::rows::{Answer, Plan, ROWS, Row, Try};
+use crate::memory_rows::{Answer, Plan, ROWS, Row, Try};
 use sp_disk::{Disk, MemDisk, Pick};
 use sp_io::{Calls, Fails};
 use std::alloc::{AllocError, Global};

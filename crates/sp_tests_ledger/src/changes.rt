@@ -8,7 +8,7 @@ ghost use Rattle.sp_accept.specs.Changes.{TellsChanges};
 ghost use Rattle.sp_accept.specs.Changes as asked;
 ghost use Rattle.sp_engine.specs.Engine.{numbers};
 
-use crate::plain::votes_of_first;
+use crate::voted::votes_of_first;
 use sp_carry::Carriers;
 use sp_ids::Memory;
 use sp_plain::{Matrix, Plain};

@@ -16,11 +16,6 @@ pub fn engine_of(alloc: Global, genesis: &[u8], bits: u8) -> Result<Engine, Fail
     Ok(Engine::new(alloc, genesis_of(alloc, genesis)?, bits, Profile::One)?)
 }
 
-/// An engine of genesis alone in either profile, which takes no work.
-pub fn engine_in(alloc: Global, profile: Profile, genesis: &[u8]) -> Result<Engine, Fail> {
-    Ok(Engine::new(alloc, genesis_of(alloc, genesis)?, 0, profile)?)
-}
-
 /// An answer, without the id of the block that came.
 #[derive(Clone, Copy, PartialEq, Eq)]
 pub enum Told {

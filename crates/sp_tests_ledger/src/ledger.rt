@@ -5,8 +5,7 @@ ghost use Rattle.std.specs.Prelude.{◌≡◌, ◌+◌, ℕ, List, OnOk, OnErr};
 ghost use Rattle.sp_dag.specs.Numbered.{AreInOrder, IsNumbered, with_next};
 
 use crate::changes::{carriers_below, changed};
-use crate::plain::votes_of_first;
-use crate::voted::VotedOrder;
+use crate::voted::{VotedOrder, votes_of_first};
 use sp_accept::Accepted;
 use sp_carry::{Carriers, Flip};
 use sp_fixtures::graph::check_new;

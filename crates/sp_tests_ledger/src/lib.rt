@@ -1,24 +1,22 @@
-//! Tests of the transactions that blocks carry, of which are accepted, and of the engine, by public
-//! calls. They stand in a crate of their own because a crate with tests is proved twice.
+//! Tests of the transactions that blocks carry, of which are accepted, of what is left, and of an engine to
+//! which blocks come, by public calls. They stand in a crate of their own because a crate with tests is
+//! proved twice.
 //!
 //! `rivals` tests which carriers conflict, `collisions` and `id_crowds` that outpoints and ids which crowd a
 //! table by hash don't make the look-ups of carriers slow, and `told` that carriers are the same where the ids
 //! of their transactions are told. `turns` tests which transactions turn as blocks come.
-//! `votes` tests what an engine says of each two blocks, `settled` what it says where blocks settle ties,
-//! `vectors` what it says of graphs whose words were worked out apart, and `shared_rows` the rows that its
-//! views share.
-//! `arrivals`, `refusals` and `full_engine` test what an engine says of the bytes that come, and
-//! `acceptance` which transactions it accepts. `purse` tests what is left as transactions are accepted
-//! and taken back, by the purse itself, and `balances` what an engine says is left. `spent_twice` tests
-//! both after each arrival of drawn feeds, `contested` that acceptance by what changed is right where rivals
-//! stand in each other's way, and `long_chain` that a long chain of spends turns.
+//! `arrivals`, `refusals` and `full_engine` test what an engine says of the bytes that come, `memory_refused`
+//! that one to which memory was refused is as it was, and `acceptance` which transactions an engine accepts.
+//! `purse` tests what is left as transactions are accepted and taken back, by the purse itself, and `balances`
+//! what an engine says is left. `spent_twice` tests both after each arrival of drawn feeds, `contested` that
+//! acceptance by what changed is right where rivals stand in each other's way, and `long_chain` that a long
+//! chain of spends turns.
 //!
 //! `arrival_rows`, `acceptance_rows`, `balance_rows`, `purse_rows` and `turn_rows` are tables of these.
-//! `engine` makes an engine and runs it, `beside` asks a ledger beside it, `plain` asks the plain votes,
-//! `feeds` draws what the blocks of a drawn graph carry, `blocks` makes blocks that carry
-//! transactions, `payments` makes transactions, `left` compares what is left under each lock, and `rows`
-//! judges a table's row. `ledger` decides on carriers, in the order that `voted` has from the votes, and
-//! `changes` says what it is told.
+//! `engine` makes an engine and runs it, `beside` asks a ledger beside it, `feeds` draws what the blocks of a
+//! drawn graph carry, `blocks` makes blocks that carry transactions, `payments` makes transactions, `left`
+//! compares what is left under each lock, and `rows` judges a table's row. `ledger` decides on carriers, in
+//! the order that `voted` has from the plain votes, and `changes` says what it is told.
 #![tactic(auto)]
 
 #[cfg(test)]
@@ -58,9 +56,9 @@ mod left;
 #[cfg(test)]
 mod long_chain;
 #[cfg(test)]
-mod payments;
+mod memory_refused;
 #[cfg(test)]
-mod plain;
+mod payments;
 #[cfg(test)]
 mod purse;
 #[cfg(test)]
@@ -72,10 +70,6 @@ mod rivals;
 #[cfg(test)]
 mod rows;
 #[cfg(test)]
-mod settled;
-#[cfg(test)]
-mod shared_rows;
-#[cfg(test)]
 mod spent_twice;
 #[cfg(test)]
 mod told;
@@ -84,8 +78,4 @@ mod turn_rows;
 #[cfg(test)]
 mod turns;
 #[cfg(test)]
-mod vectors;
-#[cfg(test)]
 mod voted;
-#[cfg(test)]
-mod votes;

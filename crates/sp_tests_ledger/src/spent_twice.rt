@@ -8,7 +8,6 @@ use crate::engine::{engine_of, offer};
 use crate::feeds::feed;
 use crate::ledger::Ledger;
 use crate::rows::holds;
-use crate::votes::engine_of_scene;
 use sp_engine::Engine;
 use sp_feed::Message;
 use sp_fixtures::drawn::{Shape, order};
@@ -124,6 +123,12 @@ fn comes_to(alloc: Global, engine: &mut Engine, scene: &Scene) -> Result<u16, Fa
     let came = scene_comes(alloc, engine, &mut ledger, scene);
     drop(ledger);
     came
+}
+
+/// The engine of a scene's genesis block, which takes no work.
+fn engine_of_scene(alloc: Global, scene: &Scene) -> Result<Engine, Fail> {
+    let head = scene.head()?;
+    engine_of(alloc, head.genesis.bytes.as_slice(), 0)
 }
 
 fn comes_anew(alloc: Global, scene: &Scene) -> Result<u16, Fail> {

@@ -1,13 +1,27 @@
-//! The order of the blocks of a graph that their plain votes give.
+//! The plain votes of the first blocks of a graph, and the order of all its blocks that their votes give.
 
-ghost use Rattle.std.specs.Prelude.{◌≡◌, ◌<◌, negsuc};
+ghost use Rattle.std.specs.Prelude.{◌≡◌, ◌≤◌, ◌<◌, negsuc, length, IfOk};
+ghost use Rattle.std.specs.List.{range_with_len};
 ghost use Rattle.std.specs.Ordering.{int_eq};
-ghost use Rattle.sp_plain.specs.Virts.{entry};
+ghost use Rattle.sp_dag.specs.Numbered.{graph_of};
+ghost use Rattle.sp_plain.specs.Virts.{HasVirts, entry};
 
 use sp_accept::Order;
 use sp_dag::Dag;
-use sp_plain::Matrix;
+use sp_ids::Memory;
+use sp_plain::{Matrix, Plain, first_blocks};
 use std::marker::Model;
+
+/// The virtual votes of the first blocks, as many as the count, on each two of all.
+pub fn votes_of_first(plain: &mut Plain, count: u16) -> Result<Matrix, Memory>
+    requires { count ≤ length plain.old.parents }
+    ensures same { plain.new ≡ plain.old }
+    ensures votes { IfOk result (HasVirts (graph_of plain.old) (range_with_len 0 count)
+        (length plain.old.parents)) }
+{
+    let members = first_blocks(plain.dag(), count);
+    plain.votes(&members)
+}
 
 /// Whether a vote puts x before y.
 fn is_first(votes: &Matrix, x: u16, y: u16) -> bool

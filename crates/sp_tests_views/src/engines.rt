@@ -10,13 +10,24 @@ use sp_view::View;
 use std::alloc::Global;
 use std::test::Fail;
 
+/// An engine of these bytes' genesis block alone, which takes no work.
+pub(crate) fn engine_in(alloc: Global, profile: Profile, genesis: &[u8]) -> Result<Engine, Fail> {
+    Ok(Engine::new(alloc, genesis_of(alloc, genesis)?, 0, profile)?)
+}
+
 /// An engine of genesis alone.
 pub(crate) fn engine_of(
     alloc: Global,
     blocks: &Numbered,
     profile: Profile,
 ) -> Result<Engine, Fail> {
-    Ok(Engine::new(alloc, genesis_of(alloc, blocks.text(0))?, 0, profile)?)
+    engine_in(alloc, profile, blocks.text(0))
+}
+
+/// Bytes come to an engine, whatever it answers.
+pub(crate) fn offer(engine: &mut Engine, bytes: &[u8]) -> Result<(), Fail> {
+    let _answer = engine.offer(bytes)?;
+    Ok(())
 }
 
 /// A block comes to an engine, whose parents are all present.

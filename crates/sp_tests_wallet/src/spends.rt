@@ -1,6 +1,6 @@
 //! What is paid with which outputs, or why nothing is.
 
-use crate::played::played;
+use crate::played::{SIDE_BY_SIDE, SIDE_BY_SIDE_2, played};
 use sp_engine::Engine;
 use sp_ids::Lock;
 use sp_tx::{Tx, read_tx, write_tx};
@@ -32,14 +32,6 @@ const DUST: &[u8] =
 
 const TWO_GRANTS_2: &[u8] = b"profile 2\ngrant g 100 to alice\ngrant h 50 to alice\nblock A on G";
 
-/// Two payments of one grant side by side, and a block on both, which finds a tie and keeps it.
-const TIE: &[u8] =
-    b"grant g 100 to alice\ntx p spends g.0 pays 100 to bob\ntx q spends g.0 pays 100 to carol\nblock A on G carries p\nblock B on G carries q\nblock C on A B";
-
-/// The same in profile 2, where it votes for the block of the smaller salt.
-const TIE_2: &[u8] =
-    b"profile 2\ngrant g 100 to alice\ntx p spends g.0 pays 100 to bob\ntx q spends g.0 pays 100 to carol\nblock A on G carries p\nblock B on G carries q\nblock C on A B";
-
 /// How many bytes the transaction has, how many inputs, and the amounts that it pays; or the fault.
 type Told = Result<(usize, usize, &'static [u64]), SpendFault>;
 
@@ -68,10 +60,10 @@ const ROWS: &[Row] = &[
     (DUST, &[b"w"], 17, Err(SpendFault::Poor { reach: 16 })),
     (TWO_GRANTS_2, &[b"alice"], 120, Ok((160, 2, &[120, 30]))),
     (TWO_GRANTS_2, &[b"alice"], 151, Err(SpendFault::Poor { reach: 150 })),
-    (TIE, &[b"alice"], 100, Ok((81, 1, &[100]))),
-    (TIE, &[b"bob", b"carol"], 1, Err(SpendFault::Poor { reach: 0 })),
-    (TIE_2, &[b"alice"], 1, Err(SpendFault::Poor { reach: 0 })),
-    (TIE_2, &[b"carol", b"bob"], 100, Ok((79, 1, &[100]))),
+    (SIDE_BY_SIDE, &[b"alice"], 100, Ok((81, 1, &[100]))),
+    (SIDE_BY_SIDE, &[b"bob", b"carol"], 1, Err(SpendFault::Poor { reach: 0 })),
+    (SIDE_BY_SIDE_2, &[b"alice"], 1, Err(SpendFault::Poor { reach: 0 })),
+    (SIDE_BY_SIDE_2, &[b"carol", b"bob"], 100, Ok((79, 1, &[100]))),
 ];
 
 fn words_of(alloc: Global, words: &[&[u8]]) -> Result<Preimages, Fail> {
