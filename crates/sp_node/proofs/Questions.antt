@@ -1,8 +1,9 @@
 -- What a question leaves as it was.
-use Rattle.std.proofs.Common.{inl, ◌≡◌, ◌≢◌, ◌∙◌, ℕ, Bool, false, List, Bor, Option, Some, None, Result, Ok, Err, refl, sym, ap}
+use Rattle.std.proofs.Common.{inl, ◌≡◌, ◌≢◌, ◌∙◌, ℕ, Bool, false, List, Bor, Option, Some, None, Result, Ok, Err, refl, sym, ap, subst}
 use Rattle.std.specs.Prelude.{IfErr, IfSome, OnOk}
 use Rattle.sp_io.specs.Causes.{Rose}
 use Rattle.sp_block.specs.Block.{ReadBlock}
+use Rattle.sp_engine.specs.Engine.{IsRefused, Ledger}
 use Rattle.sp_disk.specs.Moments.{IsMoment, Moment}
 use Rattle.sp_disk.proofs.Runs.{started}
 use Rattle.sp_feed.specs.Kinds.{Said, SaysBlock, SaysVote, SaysTx, SaysBalance, SaysPairs, SaysReport}
@@ -12,7 +13,7 @@ use Rattle.sp_feed.specs.declared.message.Message.TheVariants.{Block, Vote, Tx, 
 use Rattle.sp_journal.specs.Writer.{Writer}
 use Rattle.sp_node.specs.Answers.{IsQuestion, kept_then}
 use Rattle.sp_node.specs.Journalled.{HoldsThen, IsKeptOn, LeavesOn}
-use Rattle.sp_node.specs.Node.{HasNodeCause, State, stops}
+use Rattle.sp_node.specs.Node.{HasNodeCause, IsAsItWas, State, stops}
 use Rattle.sp_node.specs.Terms.{Terms}
 use Rattle.sp_node.specs.declared.fault.NodeFault.{NodeFault}
 use Rattle.sp_node.specs.declared.fault.NodeFault.TheVariants.{WriteFault, DiskFault, Memory}
@@ -62,6 +63,16 @@ question_cause (Err WriteFault) before now disk_before disk_now never rose = ros
 question_cause (Err DiskFault) before now disk_before disk_now never rose = absurd (never refl)
 question_cause (Err Memory) before now disk_before disk_now never rose = tt
 
+-- what stayed the same is as a refused offer leaves it
+unrefused : {before now : Ledger} → now ≡ before → IsRefused before now
+unrefused {before} {now} same = subst (λ (l : Ledger). IsRefused before l) (sym same) (record { profile = refl; bits = refl; kept = refl; numbered = refl; votes = record { frozen = refl; views = refl; since = refl; rows = record { live = refl; counts = λ _. refl; places = λ _ _. refl }; sums = refl } })
+
 -- a question for which there was no memory leaves a node as it was that isn't stopped
-pub as_before : {X : Type 0} (before now : State) (r : Result X NodeFault) → before.stopped ≡ false → now ≡ record before { stopped = stops r } → r ≡ Err Memory → now ≡ before
-as_before before now r live state is = state ∙ ap (λ (b : Bool). record before { stopped = b }) (ap stops is ∙ sym live)
+pub as_before : {X : Type 0} (before now : State) (r : Result X NodeFault) → before.stopped ≡ false → now ≡ record before { stopped = stops r } → r ≡ Err Memory → IsAsItWas before now
+as_before before now r live state is = record {
+  terms = ap (λ (s : State). s.terms) state;
+  kept = ap (λ (s : State). s.kept) state;
+  stopped = ap (λ (s : State). s.stopped) state ∙ ap stops is ∙ sym live;
+  journal = ap (λ (s : State). s.journal) state;
+  engine = unrefused (ap (λ (s : State). s.engine) state);
+}

@@ -12,7 +12,7 @@ ghost use Rattle.sp_journal.specs.Recovery.{bytes_in};
 ghost use Rattle.sp_journal.specs.Settled.{SameTold};
 ghost use Rattle.sp_node.specs.Answers.{IsQuestion, kept_then, reply_of};
 ghost use Rattle.sp_node.specs.Journalled.{FitsKept, HoldsThen, IsKeptOn, LeavesOn};
-ghost use Rattle.sp_node.specs.Node.{HasNodeCause, stops};
+ghost use Rattle.sp_node.specs.Node.{HasNodeCause, IsAsItWas, stops};
 ghost use Rattle.sp_node.specs.Stored.{IsFound, IsOfSame, IsReady, LeavesStarted, NamesBoth, stored_blocks};
 ghost use Rattle.sp_node.specs.declared.start.StartFault.TheVariants as starts;
 
@@ -32,7 +32,8 @@ use std::alloc::Global;
 use std::marker::Model;
 
 /// A node that keeps its blocks in memory, and in a journal where it has one. Contracts see the
-/// profile and the bits of work, the kept blocks, whether it is stopped, and the journal.
+/// profile and the bits of work, the kept blocks, whether it is stopped, the journal, and what they see
+/// of the engine.
 pub struct Node {
     alloc: Global,
     engine: Engine,
@@ -48,7 +49,7 @@ impl Model for Node {
 
     ghost Value = { State };
 
-    ghost view = { λ n. record { terms = terms_in n.engine; kept = n.engine.kept; stopped = n.stopped; journal = n.journal } };
+    ghost view = { λ n. record { terms = terms_in n.engine; kept = n.engine.kept; stopped = n.stopped; journal = n.journal; engine = n.engine } };
 
     ghost invariant = { λ n. n.stopped ≡ false
         → FitsOn (terms_in n.engine) n.engine.kept n.journal };
@@ -68,7 +69,7 @@ impl Drop for Node {
 }
 
 impl Node {
-    ghost use Rattle.sp_node.specs.Node.{state};
+    ghost use Rattle.sp_node.specs.Node.{IsPlainNode};
     ghost use Rattle.sp_node.specs.Terms.{terms_in, terms_of};
 
     /// A node without a journal, which keeps the genesis block of the feed.
@@ -77,7 +78,7 @@ impl Node {
     ///
     /// `Memory` where there was none for the engine.
     pub fn plain(alloc: Global, head: FeedHead) -> Result<Node, Memory>
-        ensures { IfOk result (λ node. node ≡ state (terms_of head.profile head.bits) (head.genesis ∷ [])) }
+        ensures { IfOk result (IsPlainNode (terms_of head.profile head.bits) (head.genesis ∷ [])) }
     {
         let FeedHead {
             profile,
@@ -150,7 +151,7 @@ impl Node {
     // A node of an engine and the journal of its kept blocks.
     fn with_journal(alloc: Global, engine: Engine, journal: Journal) -> Node
         requires { FitsKept (terms_in engine) engine.kept journal }
-        ensures { result ≡ record { terms = terms_in engine; kept = engine.kept; stopped = false; journal = Some journal } }
+        ensures { result ≡ record { terms = terms_in engine; kept = engine.kept; stopped = false; journal = Some journal; engine = engine } }
     {
         Node {
             alloc,
@@ -239,9 +240,9 @@ impl Node {
             → result ≢ Err NodeFault.Memory }
         ensures later { K.faults sink.old ≤ K.faults sink.new }
 
-        // The sink or the disk failed. Where memory was refused, all is as it was.
+        // The sink or the disk failed. Where memory was refused, all is as it was, in the engine too.
         ensures stopped { self.new.stopped ≡ stops result }
-        ensures refused { result ≡ Err NodeFault.Memory → self.new ≡ self.old }
+        ensures refused { result ≡ Err NodeFault.Memory → IsAsItWas self.old self.new }
     {
         match message {
             Message::Block(bytes) => self.arrive(bytes, naming, sink, disk),
@@ -258,6 +259,7 @@ impl Node {
 
     /// The engine.
     pub fn engine(&self) -> &Engine
+        ensures ledger { result.now ≡ self.now.engine }
         ensures profile { result.now.profile ≡ self.now.terms.profile }
         ensures bits { result.now.bits ≡ self.now.terms.bits }
         ensures kept { result.now.kept ≡ self.now.kept }

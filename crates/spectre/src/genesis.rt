@@ -7,7 +7,7 @@ ghost use Rattle.sp_io.specs.Causes.{Rose};
 ghost use Rattle.sp_journal.specs.Recovery.{bytes_in};
 ghost use Rattle.sp_journal.specs.Settled.{SameTold};
 ghost use Rattle.sp_node.specs.Journalled.{IsKeptOn};
-ghost use Rattle.sp_node.specs.Node.{state};
+ghost use Rattle.sp_node.specs.Node.{IsPlainNode};
 ghost use Rattle.sp_node.specs.Terms.{terms_of};
 ghost use Rattle.sp_node.specs.Stored.{IsFound, IsOfSame, IsReady, LeavesStarted, NamesBoth, stored_blocks};
 ghost use Rattle.sp_node.specs.declared.start.StartFault.TheVariants as starts;
@@ -20,7 +20,7 @@ use std::alloc::Global;
 
 /// A node on the head of a feed, whose genesis block is the one that its bytes spell.
 pub fn node_of(alloc: Global, head: FeedHead) -> Result<Node, Memory>
-    ensures node { IfOk result (λ node. node ≡ state (terms_of head.profile head.bits) (head.genesis ∷ [])) }
+    ensures node { IfOk result (IsPlainNode (terms_of head.profile head.bits) (head.genesis ∷ [])) }
     ensures genesis { block_in true head.genesis.bytes ≡ Ok head.genesis }
 {
     let FeedHead {

@@ -12,7 +12,7 @@ ghost use Rattle.sp_report.specs.Texts.{text_of};
 ghost use Rattle.sp_journal.specs.Settled.{SameTold};
 ghost use Rattle.sp_node.specs.Answers.{IsQuestion, IsTextOf, kept_then, reply_of};
 ghost use Rattle.sp_node.specs.Journalled.{HoldsThen, IsKeptOn, LeavesOn};
-ghost use Rattle.sp_node.specs.Node.{HasNodeCause, stops};
+ghost use Rattle.sp_node.specs.Node.{HasNodeCause, IsAsItWas, stops};
 
 use crate::arrival::keep_on;
 use crate::fault::{KeepFault, NodeFault};
@@ -65,7 +65,7 @@ impl Node {
         ensures disk_later { (D.now disk.old).faults ≤ (D.now disk.new).faults }
         ensures later { K.faults sink.old ≤ K.faults sink.new }
         ensures stopped { self.new.stopped ≡ stops result }
-        ensures refused { result ≡ Err NodeFault.Memory → self.new ≡ self.old }
+        ensures refused { result ≡ Err NodeFault.Memory → IsAsItWas self.old self.new }
     {
         match keep_on(&mut self.engine, &mut self.journal, disk, bytes) {
             Ok(answer) => match answer_line(&answer, naming, sink) {

@@ -1,4 +1,4 @@
-use Rattle.std.proofs.Common.{[], ap}
+use Rattle.std.proofs.Common.{[]}
 use Rattle.std.proofs.lemmas.Result.{err_from_is_err_and}
 use Rattle.spectre.proofs.Replies.{at_head, nothing_behind_head}
 use Rattle.spectre.proofs.replay.answer_behind.Goals as goal
@@ -9,10 +9,10 @@ returns-in_err-node-clause-replies g c = λ start z gives.
     rw (p.1, p.2) (nothing_behind_head [] (g.K.Sink.taken c.args.sink.now) gives)
 
 pub answer_rest-answered-requires-clause-live : goal.answer_rest-answered-requires-clause-live
-answer_rest-answered-requires-clause-live g c = ap (λ n. n.stopped) c.in_ok-node.ensures.node
+answer_rest-answered-requires-clause-live g c = c.in_ok-node.ensures.node.live
 
 pub returns-clause-replies : goal.returns-clause-replies
 returns-clause-replies g c = λ start z gives.
     let old = g.K.Sink.taken c.args.sink.now in
     (c.answer_rest-answered.ensures.replies [] start old
-    (at_head [] old z gives c.in_ok-node.ensures.genesis (ap (λ n. n.terms) c.in_ok-node.ensures.node) (ap (λ n. n.kept) c.in_ok-node.ensures.node))).0
+    (at_head [] old z gives c.in_ok-node.ensures.genesis c.in_ok-node.ensures.node.terms_are c.in_ok-node.ensures.node.kept_are)).0

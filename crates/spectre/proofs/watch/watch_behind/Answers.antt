@@ -27,7 +27,7 @@ returns-in_err-watch_rest-clause-watches g c = λ start z gives.
     let old = g.K.Sink.taken c.args.sink.now in
     let n = c.in_ok-node.ensures.node in
     let first = starts_so c.in_ok-watch.ensures c.engine.ensures.profile c.as_slice.ensures c.engine.ensures.kept in
-    let head = at_head c.args.items.now old z gives c.in_ok-node.ensures.genesis (ap (λ s. s.terms) n) (ap (λ s. s.kept) n) first in
+    let head = at_head c.args.items.now old z gives c.in_ok-node.ensures.genesis n.terms_are n.kept_are first in
     let e = c.in_err-watch_rest.ensures in
     rw (p.1, p.2) (broken c.args.items.now c.in_err-watch_rest.field-0.0 (λ d. e.undisked (ap (λ t. Err t) d)) (e.follows c.args.items.now start old head))
 
@@ -36,7 +36,7 @@ returns-in-Ok-clause-watches g c = λ start z gives.
     let old = g.K.Sink.taken c.args.sink.now in
     let n = c.in_ok-node.ensures.node in
     let first = starts_so c.in_ok-watch.ensures c.engine.ensures.profile c.as_slice.ensures c.engine.ensures.kept in
-    let head = at_head c.args.items.now old z gives c.in_ok-node.ensures.genesis (ap (λ s. s.terms) n) (ap (λ s. s.kept) n) first in
+    let head = at_head c.args.items.now old z gives c.in_ok-node.ensures.genesis n.terms_are n.kept_are first in
     held_written c.args.items.now (c.in_ok-watch_rest.ensures.follows c.args.items.now start old head) c.in-Ok.ensures.ok
 
 pub returns-clause-watches : goal.returns-clause-watches
@@ -44,5 +44,5 @@ returns-clause-watches g c = λ start z gives.
     let old = g.K.Sink.taken c.args.sink.now in
     let n = c.in_ok-node.ensures.node in
     let first = starts_so c.in_ok-watch.ensures c.engine.ensures.profile c.as_slice.ensures c.engine.ensures.kept in
-    let head = at_head c.args.items.now old z gives c.in_ok-node.ensures.genesis (ap (λ s. s.terms) n) (ap (λ s. s.kept) n) first in
+    let head = at_head c.args.items.now old z gives c.in_ok-node.ensures.genesis n.terms_are n.kept_are first in
     held_cut c.args.items.now (c.in_ok-watch_rest.ensures.follows c.args.items.now start old head) c.in-Err.ensures.err
