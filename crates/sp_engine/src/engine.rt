@@ -146,8 +146,9 @@ impl Engine {
     /// known, else there is no room for it, else it is kept, and waits or is present.
     ///
     /// A block that becomes present takes the time of its own votes and of those that it changes. An
-    /// arrival that makes blocks present takes eight counts for each pair besides, which tell the votes
-    /// that turned, and the time of the carriers that these and the new blocks may turn.
+    /// arrival that makes blocks present takes a few steps for each pair besides, which compare the sums
+    /// from before with those of now and so tell the votes that turned, and the time of the carriers that
+    /// these and the new blocks may turn.
     ///
     /// # Errors
     ///
@@ -252,6 +253,7 @@ impl Engine {
         ensures numbered { IsNumbered result.now }
         ensures ids { result.now.ids ≡ order_of self.now.kept }
         ensures blocks { AreNumbered self.now.kept result.now }
+        ensures profile { result.now.profile ≡ self.now.profile }
     {
         &self.dag
     }

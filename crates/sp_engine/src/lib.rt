@@ -4,8 +4,8 @@
 //! The engine joins the pool of kept blocks, the graph of the present ones, their votes, their
 //! transactions and which of these are accepted. All but the pool speak in numbers of presence; here
 //! the answers become those of ids, by the laws that other keys change no vote and no acceptance.
-//! Contracts see the bits of work, the kept blocks, and whether memory was refused. The lines of
-//! answers and the node stand on this crate.
+//! Contracts see the profile, the bits of work, the kept blocks, and the present ones by number with
+//! their votes. The lines of answers, the node, certificates and wallets stand on this crate.
 #![tactic(auto)]
 
 mod acceptance;
