@@ -253,7 +253,6 @@ impl Engine {
         ensures numbered { IsNumbered result.now }
         ensures ids { result.now.ids ≡ order_of self.now.kept }
         ensures blocks { AreNumbered self.now.kept result.now }
-        ensures profile { result.now.profile ≡ self.now.profile }
     {
         &self.dag
     }
