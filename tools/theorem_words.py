@@ -72,6 +72,7 @@ LIBRARY: dict[str, dict[str, str]] = {
         "Result": "`Ok` with a value, or `Err` with a fault",
         "Ok": "",
         "Err": "",
+        "is_none": "whether there is none",
         "is_some": "whether there is a value",
         "is_ok": "whether it is an `Ok`",
         "unwrap_or": "`unwrap_or o d`: the value, or d where there is none",
