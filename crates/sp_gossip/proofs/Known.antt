@@ -19,7 +19,7 @@ use Rattle.sp_engine.specs.Causes.{IsKnown}
 use Rattle.sp_engine.specs.declared.answer.Answer.{Answer}
 use Rattle.sp_engine.specs.declared.answer.Answer.TheVariants as answer
 use Rattle.sp_engine.proofs.Judgements.{known_is_caused}
-use Rattle.sp_node.proofs.Changes.{told_changes}
+use Rattle.sp_report.proofs.Arrived.{told_changes}
 use Rattle.sp_gossip.specs.Network.{answers_to}
 use Rattle.sp_gossip.specs.Pieces.{StandForAll, StandsFor, TakesPiece, TakesPieces}
 use Rattle.sp_gossip.specs.declared.piece.Piece.{Piece}

@@ -17,8 +17,8 @@ use Rattle.sp_gossip.specs.Gossip.{bytes_of, bytes_or_none, others}
 use Rattle.sp_gossip.specs.Pieces.{StandForAll, StandsFor}
 use Rattle.sp_gossip.specs.Peer.{Keeper}
 use Rattle.sp_gossip.specs.declared.piece.Piece.{Piece}
-use Rattle.sp_node.specs.Journalled.{kept_id}
-use Rattle.sp_node.proofs.Changes.{Joins, told_changes, told_joins}
+use Rattle.sp_report.specs.KeptIds.{kept_id}
+use Rattle.sp_report.proofs.Arrived.{Joins, told_changes, told_joins}
 
 -- ---- the ids that it tells
 

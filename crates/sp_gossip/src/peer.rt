@@ -8,8 +8,8 @@ ghost use Rattle.sp_engine.specs.Causes.{IsKnown};
 ghost use Rattle.sp_gossip.specs.Gossip.{bytes_of, held, missing, others};
 ghost use Rattle.sp_gossip.specs.Pieces.{StandForAll, StandsFor, TakesPiece, TakesPieces};
 ghost use Rattle.sp_model.specs.Graph.{has};
-ghost use Rattle.sp_node.specs.Journalled as journalled;
 ghost use Rattle.sp_pool.specs.Kept.{ids_of};
+ghost use Rattle.sp_report.specs.KeptIds as meant;
 
 use crate::piece::Piece;
 use sp_block::{Block, check_work, read_block};
@@ -57,7 +57,7 @@ impl Drop for Peer {
 
 // The id of the block that is kept now, where one is.
 fn kept_id(answer: &Answer) -> Option<BlockId>
-    ensures { result ≡ journalled.kept_id answer.now }
+    ensures { result ≡ meant.kept_id answer.now }
 {
     match answer {
         Answer::Kept { id, .. } | Answer::Held { id } => Some(*id),

@@ -4,8 +4,6 @@ use Rattle.sp_block.specs.Block.{ReadBlock}
 use Rattle.sp_disk.specs.Images.{Among}
 use Rattle.sp_disk.specs.Moments.{Leaves, Moment}
 use Rattle.sp_engine.specs.Arrivals.{kept_after}
-use Rattle.sp_engine.specs.declared.answer.Answer.{Answer}
-use Rattle.sp_engine.specs.declared.answer.Answer.TheVariants.{Kept, Held, Known, Refused, Full}
 use Rattle.sp_feed.specs.Kinds.{Said}
 use Rattle.sp_journal.specs.Journal.{Contents, contents}
 use Rattle.sp_journal.specs.Prefixes.{journal_of}
@@ -19,14 +17,6 @@ use Rattle.sp_node.specs.Terms.{Terms}
 abbrev pub journal_in : Terms → List ReadBlock → Contents
 journal_in terms [] = contents terms.profile terms.bits [] []
 journal_in terms (genesis ∷ others) = journal_of terms.profile terms.bits genesis others
-
--- the id of the block that is kept now, where one is
-abbrev pub kept_id : Answer → Option ℕ
-kept_id (Kept id present) = Some id
-kept_id (Held id) = Some id
-kept_id (Known id) = None
-kept_id (Refused refusal) = None
-kept_id Full = None
 
 -- the journal may take a further record, and has one for each kept block but genesis
 pub record FitsKept (terms : Terms) (kept : List ReadBlock) (w : Writer) : Type 0 where

@@ -7,7 +7,7 @@ ghost use Rattle.sp_engine.specs.Arrivals.{answer_of, kept_after};
 ghost use Rattle.sp_engine.specs.Engine.{IsRefused};
 ghost use Rattle.sp_journal.specs.Settled.{IsTold, SameTold};
 ghost use Rattle.sp_node.specs.Journalled.{FitsKept, FitsOn, HoldsBeforeOrAfter, IsKeptOn, LeavesOn, StandsForKept};
-ghost use Rattle.sp_node.specs.Journalled as meant;
+ghost use Rattle.sp_report.specs.KeptIds as meant;
 ghost use Rattle.sp_node.specs.Terms.{terms_in};
 ghost use Rattle.sp_node.specs.declared.fault.KeepFault.TheVariants.{DiskFault, Memory};
 

@@ -3,3 +3,4 @@ pub mod Reasons
 pub mod Lines
 pub mod Asks
 pub mod Texts
+pub mod KeptIds

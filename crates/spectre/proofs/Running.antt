@@ -18,9 +18,11 @@ use Rattle.sp_journal.specs.Settled.{SameTold}
 use Rattle.sp_journal.specs.Writer.{HoldsOrAdded, Writer}
 use Rattle.sp_journal.proofs.Fronts.{run_goes_on, run_starts}
 use Rattle.sp_node.specs.Answers.{arrivals_of, kept_then}
-use Rattle.sp_node.specs.Journalled.{HoldsBeforeOrAfter, HoldsThen, IsKeptOn, journal_in, kept_id, LeavesOn}
+use Rattle.sp_node.specs.Journalled.{HoldsBeforeOrAfter, HoldsThen, IsKeptOn, journal_in, LeavesOn}
 use Rattle.sp_node.proofs.AnswerLists.{kept_by_messages}
-use Rattle.sp_node.proofs.Changes.{Changes, changes, now_holds}
+use Rattle.sp_node.proofs.Changes.{now_holds}
+use Rattle.sp_report.proofs.Arrived.{Changes, changes}
+use Rattle.sp_report.specs.KeptIds.{kept_id}
 use Rattle.sp_pool.specs.Kept.{AreKept, kept_by, standing_of}
 use Rattle.sp_pool.specs.declared.answers.Standing.{Standing}
 use Rattle.sp_pool.specs.declared.answers.Standing.TheVariants as standing

@@ -12,7 +12,8 @@ use Rattle.sp_engine.specs.Arrivals.{kept_after}
 use Rattle.sp_node.specs.Journalled.{HoldsBeforeOrAfter, journal_in}
 use Rattle.sp_node.specs.Terms.{Terms, terms_in}
 use Rattle.sp_node.proofs.Started.{same_terms}
-use Rattle.sp_node.proofs.Changes.{Changes, fits_more, fits_same, found_now, has_room, ids_known, is_new, is_other, looked_up, not_missing, now_holds, one_contents, told_changes, told_joins, work}
+use Rattle.sp_report.proofs.Arrived.{Changes, told_changes, told_joins}
+use Rattle.sp_node.proofs.Changes.{fits_more, fits_same, found_now, has_room, ids_known, is_new, is_other, looked_up, not_missing, now_holds, one_contents, work}
 use Rattle.sp_node.proofs.arrival.keep.Goals as goal
 
 pub returns-in_default-clause-acknowledged : goal.returns-in_default-clause-acknowledged
