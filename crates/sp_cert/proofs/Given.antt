@@ -1,38 +1,9 @@
--- What an engine says of its present blocks, in its profile, and the certificate that it gives.
-use Rattle.std.proofs.Common.{◌≡◌, Bool, true, false, cond, ◌&&◌, not, List, inl, inr, refl, sym, ap, ◌∙◌}
+-- What the answer of an engine's certificate is, and the blocks that have none.
+use Rattle.std.proofs.Common.{◌≡◌, Bool, true, false, cond, ◌&&◌, not, inl, inr, refl}
 use Rattle.std.specs.Prelude.{IfOk, Result, Ok, Err, ℤ, pos, negsuc, zero, suc}
-use Rattle.sp_block.specs.Block.{ReadBlock}
-use Rattle.sp_model.specs.declared.profile.Profile.{Profile}
 use Rattle.sp_model.specs.declared.word.Word.TheVariants.{Absent, After, Before, Same, Tie}
 use Rattle.sp_model.specs.Votes.{word_of}
-use Rattle.sp_dag.specs.Numbered.{IsNumbered, Numbered}
-use Rattle.sp_engine.specs.Engine.{AreNumbered}
-use Rattle.sp_cert.specs.Refusals.{IsNoPair, numbered_of}
-
--- the same blocks in another profile
-abbrev pub in_profile : Profile → Numbered → Numbered
-in_profile profile dag = record { profile = profile; ids = dag.ids; salts = dag.salts; parents = dag.parents }
-
-pub numbered_in : (profile : Profile) (dag : Numbered) → IsNumbered dag → IsNumbered (in_profile profile dag)
-numbered_in profile dag is = record {
-  some = is.some;
-  small = is.small;
-  long = is.long;
-  salts_long = is.salts_long;
-  distinct = is.distinct;
-  order = is.order;
-  genesis = is.genesis;
-  rooted = is.rooted;
-}
-
-pub kept_in : (profile : Profile) (kept : List ReadBlock) (dag : Numbered) → AreNumbered kept dag → AreNumbered kept (in_profile profile dag)
-kept_in profile kept dag are = record {
-  there = are.there;
-  closed = are.closed;
-  others = are.others;
-  parents = are.parents;
-  salts = are.salts;
-}
+use Rattle.sp_cert.specs.Refusals.{IsNoPair}
 
 pub IfOk-both : {X E : Type 0} (P Q : X → Type 0) (r : Result X E) → IfOk r P → IfOk r Q → IfOk r (λ x. P x × Q x)
 IfOk-both P Q (Ok x) p q = (p, q)
@@ -41,10 +12,6 @@ IfOk-both P Q (Err e) p q = p
 pub IfOk-to : {X E : Type 0} {P Q : X → Type 0} (r : Result X E) → ((x : X) → P x → Q x) → IfOk r P → IfOk r Q
 IfOk-to (Ok x) f p = f x p
 IfOk-to (Err e) f p = p
-
--- a graph of blocks in a profile is that in its own
-pub in_own : (profile : Profile) (blocks : List ReadBlock) (dag : Numbered) → dag ≡ numbered_of profile blocks → dag ≡ numbered_of dag.profile blocks
-in_own profile blocks dag is = is ∙ ap (λ (p : Profile). numbered_of p blocks) (sym (ap (λ (d : Numbered). d.profile) is))
 
 -- ---- blocks that have no certificate
 

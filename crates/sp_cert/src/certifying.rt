@@ -15,7 +15,7 @@ ghost use Rattle.sp_cert.specs.declared.fault.CertifyFault.TheVariants.{NoPair};
 
 use crate::cert::Cert;
 use crate::fault::CertifyFault;
-use crate::placed::{placed, two_of};
+use crate::placed::two_of;
 use crate::present::present_blocks;
 use crate::tally::{sign_of, sum_of};
 use crate::tell::told_worlds;
@@ -23,8 +23,7 @@ use crate::world::{World, Worlds};
 use sp_block::{Block, Blocks};
 use sp_dag::Dag;
 use sp_engine::Engine;
-use sp_ids::{BlockId, Memory};
-use sp_model::Profile;
+use sp_ids::BlockId;
 use std::alloc::Global;
 
 // The sign of the sum of the first world.
@@ -85,21 +84,9 @@ pub(crate) fn certificate(
     })
 }
 
-/// The graph of blocks of which each stands behind its parents.
-fn graph(alloc: Global, profile: Profile, blocks: &[Block]) -> Result<Dag, Memory>
-    requires { AreListed blocks.now }
-    ensures { IfOk result (λ dag. dag ≡ numbered_of profile blocks.now) }
-{
-    match placed(alloc, profile, blocks) {
-        Ok(dag) => Ok(dag),
-        // Nothing but want of memory refuses them.
-        Err(_) => Err(Memory),
-    }
-}
-
 /// The certificate of what an engine's present blocks say of two of them; `check` takes it. It copies
-/// the blocks, which it reads off their bytes anew, makes their graph as `check` does, and then takes a
-/// few counts over rows for each entry.
+/// the blocks, which it reads off their bytes anew, and then takes a few counts over rows of the engine's
+/// own graph for each entry.
 ///
 /// # Errors
 ///
@@ -133,13 +120,12 @@ pub fn certify(
     ensures no_pair { IsNoPair
         (word (kept.graph_in engine.now.profile engine.now.kept) (present engine.now.kept) x.now y.now) → IsErr result }
 {
-    // Tells the proof which blocks are present.
+    // Tell the proof which blocks are present, and that they are kept.
     let _present = engine.present();
     let _kept = engine.kept_count();
-    let _numbered = engine.dag();
     // And that the ids fit their fields.
     let (_x, _y) = (x.as_bytes(), y.as_bytes());
+    let dag = engine.dag();
     let blocks = present_blocks(alloc, engine)?;
-    let dag = graph(alloc, engine.profile(), &blocks)?;
-    certificate(alloc, &dag, blocks, x, y)
+    certificate(alloc, dag, blocks, x, y)
 }

@@ -1,76 +1,81 @@
 use Rattle.std.proofs.Common.{◌≡◌, ◌<◌, ◌∙◌, Bool, false, ◌&&◌, not, ap, sym, subst, ℕ, List, eqb}
 use Rattle.std.specs.Prelude.{All, ◌^◌, is_err}
 use Rattle.sp_block.specs.Block.{IsBlock, ReadBlock}
-use Rattle.sp_dag.specs.Numbered.{Numbered}
 use Rattle.sp_model.specs.declared.profile.Profile.{Profile}
 use Rattle.sp_model.specs.Graph.{has}
 use Rattle.sp_model.specs.Votes.{virt}
 use Rattle.sp_pool.specs.Kept.{graph_in, ids_of, present}
 use Rattle.sp_cert.specs.Certificate.{AreListed}
 use Rattle.sp_cert.specs.Made.{certificate_of}
-use Rattle.sp_cert.specs.Refusals.{are_two, numbered_of}
+use Rattle.sp_cert.specs.Refusals.{are_two}
 use Rattle.sp_cert.proofs.Determined.{certificate_is}
-use Rattle.sp_cert.proofs.Given.{IfOk-both, IfOk-to, in_own, in_profile, kept_in, not_two, numbered_in}
-use Rattle.sp_cert.proofs.Listing.{all_placed, are_listed, each_block, sign_of_kept}
+use Rattle.sp_cert.proofs.Given.{IfOk-both, IfOk-to, not_two}
+use Rattle.sp_cert.proofs.Listing.{all_placed, are_listed, each_block, sign_of_kept, tables_are}
 use Rattle.sp_cert.proofs.WrittenCerts.{written_is_read}
 use Rattle.sp_cert.proofs.certifying.certify.Goals as goal
 
-pub graph-requires : goal.graph-requires
-graph-requires c =
-    let ids = c.in_ok-blocks.ensures.ids ∙ sym c.dag-numbered.ensures.ids in
-    subst (λ (l : List ReadBlock). AreListed l) (sym c.deref.ensures.value)
-    (are_listed c.args.engine.now.kept c.dag-numbered.result.now c.in_ok-blocks.blocks.items c.kept_count-kept.ensures.blocks c.dag-numbered.ensures.numbered c.dag-numbered.ensures.blocks
-    ids c.in_ok-blocks.ensures.kept)
-
 pub certificate-requires-clause-listed : goal.certificate-requires-clause-listed
 certificate-requires-clause-listed c =
-    let ids = c.in_ok-blocks.ensures.ids ∙ sym c.dag-numbered.ensures.ids in
-    are_listed c.args.engine.now.kept c.dag-numbered.result.now c.in_ok-blocks.blocks.items c.kept_count-kept.ensures.blocks c.dag-numbered.ensures.numbered c.dag-numbered.ensures.blocks
+    let ids = c.in_ok-blocks.ensures.ids ∙ sym c.dag-dag.ensures.ids in
+    are_listed c.args.engine.now.kept c.dag-dag.result.now c.in_ok-blocks.blocks.items c.kept_count-kept.ensures.blocks c.dag-dag.ensures.numbered c.dag-dag.ensures.blocks
+    ids c.in_ok-blocks.ensures.kept
+
+pub certificate-requires-clause-numbered : goal.certificate-requires-clause-numbered
+certificate-requires-clause-numbered c =
+    let ids = c.in_ok-blocks.ensures.ids ∙ sym c.dag-dag.ensures.ids in
+    tables_are c.args.engine.now.kept c.dag-dag.result.now c.in_ok-blocks.blocks.items c.kept_count-kept.ensures.blocks c.dag-dag.ensures.numbered c.dag-dag.ensures.blocks
     ids c.in_ok-blocks.ensures.kept
 
 pub certificate-requires-clause-placed : goal.certificate-requires-clause-placed
 certificate-requires-clause-placed c =
-    let ids = c.in_ok-blocks.ensures.ids ∙ sym c.dag-numbered.ensures.ids in
-    all_placed c.args.engine.now.kept c.dag-numbered.result.now c.in_ok-blocks.blocks.items c.kept_count-kept.ensures.blocks c.dag-numbered.ensures.numbered c.dag-numbered.ensures.blocks
+    let ids = c.in_ok-blocks.ensures.ids ∙ sym c.dag-dag.ensures.ids in
+    all_placed c.args.engine.now.kept c.dag-dag.result.now c.in_ok-blocks.blocks.items c.kept_count-kept.ensures.blocks c.dag-dag.ensures.numbered c.dag-dag.ensures.blocks
     ids c.in_ok-blocks.ensures.kept
 
 pub returns-clause-sign : goal.returns-clause-sign
 returns-clause-sign c =
     let kept = c.args.engine.now.kept in
-    let profile = c.args.engine.now.profile in
-    let own = in_profile profile c.dag-numbered.result.now in
-    let ids = c.in_ok-blocks.ensures.ids ∙ sym c.dag-numbered.ensures.ids in
-    let of = ap (λ (d : Numbered). d.profile) c.in_ok-dag.ensures ∙ c.profile.ensures in
+    let dag = c.dag-dag.result.now in
+    let x = c.args.x.now in
+    let y = c.args.y.now in
+    let ids = c.in_ok-blocks.ensures.ids ∙ sym c.dag-dag.ensures.ids in
     let e = c.certificate.ensures in
-    IfOk-to c.certificate.result
-    (λ cert h. sign_of_kept kept own c.in_ok-blocks.blocks.items c.kept_count-kept.ensures.blocks (numbered_in profile c.dag-numbered.result.now c.dag-numbered.ensures.numbered)
-    (kept_in profile kept c.dag-numbered.result.now c.dag-numbered.ensures.blocks) ids c.in_ok-blocks.ensures.kept
-    cert c.args.x.now c.args.y.now (λ id. ap (λ (l : List ℕ). has l id) c.dag-numbered.ensures.ids ∙ c.present-present.ensures.order id) h.0 (h.1.0 ∙ of) h.1.1.0 h.1.1.1.0 h.1.1.1.1.0 h.1.1.1.1.1)
-    (IfOk-both _ _ c.certificate.result e.shown (IfOk-both _ _ c.certificate.result e.profile (IfOk-both _ _ c.certificate.result e.blocks (IfOk-both _ _ c.certificate.result e.two (IfOk-both _ _ c.certificate.result e.x e.y)))))
+    let r = c.certificate.result in
+    IfOk-to r
+    (λ cert h. subst (λ (p : Profile). cert.sign ≡ virt (graph_in p kept) (present kept) x y) c.dag-dag.ensures.profile
+    (sign_of_kept kept dag c.in_ok-blocks.blocks.items c.kept_count-kept.ensures.blocks c.dag-dag.ensures.numbered c.dag-dag.ensures.blocks ids c.in_ok-blocks.ensures.kept
+    cert x y (λ id. ap (λ (l : List ℕ). has l id) c.dag-dag.ensures.ids ∙ c.present-present.ensures.order id) h.0 h.1.0 h.1.1.0 h.1.1.1.0 h.1.1.1.1.0 h.1.1.1.1.1))
+    (IfOk-both _ _ r e.shown (IfOk-both _ _ r e.profile (IfOk-both _ _ r e.blocks (IfOk-both _ _ r e.two (IfOk-both _ _ r e.x e.y)))))
 
 pub returns-clause-made : goal.returns-clause-made
 returns-clause-made c =
     let kept = c.args.engine.now.kept in
-    let profile = c.args.engine.now.profile in
     let blocks = c.in_ok-blocks.blocks.items in
-    let dag = c.in_ok-dag.dag in
-    let of : dag.profile ≡ profile = ap (λ (d : Numbered). d.profile) c.in_ok-dag.ensures ∙ c.profile.ensures in
+    let dag = c.dag-dag.result.now in
+    let of = c.dag-dag.ensures.profile in
+    let x = c.args.x.now in
+    let y = c.args.y.now in
+    let ids = c.in_ok-blocks.ensures.ids ∙ sym c.dag-dag.ensures.ids in
     let e = c.certificate.ensures in
     let r = c.certificate.result in
     IfOk-to r
-    (λ cert h. subst (λ (p : Profile). cert ≡ certificate_of p kept c.args.x.now c.args.y.now) of
-    (certificate_is kept blocks dag cert c.args.x.now c.args.y.now c.in_ok-blocks.ensures.ids c.in_ok-blocks.ensures.kept
-    (in_own c.profile.result blocks dag (c.in_ok-dag.ensures ∙ ap (numbered_of c.profile.result) c.deref.ensures.value)) h.0 h.1.0 h.1.1.0 h.1.1.1.0
-    (h.1.1.1.1.0 ∙ ap (λ (p : Profile). virt (graph_in p kept) (present kept) c.args.x.now c.args.y.now) (sym of)) h.1.1.1.1.1))
+    (λ cert h. subst (λ (p : Profile). cert ≡ certificate_of p kept x y) of
+    (certificate_is kept blocks dag cert x y c.in_ok-blocks.ensures.ids c.in_ok-blocks.ensures.kept
+    (tables_are kept dag blocks c.kept_count-kept.ensures.blocks c.dag-dag.ensures.numbered c.dag-dag.ensures.blocks ids c.in_ok-blocks.ensures.kept) h.0 h.1.0 h.1.1.0 h.1.1.1.0
+    (h.1.1.1.1.0 ∙ ap (λ (p : Profile). virt (graph_in p kept) (present kept) x y) (sym of)) h.1.1.1.1.1))
     (IfOk-both _ _ r e.profile (IfOk-both _ _ r e.blocks (IfOk-both _ _ r e.x (IfOk-both _ _ r e.y (IfOk-both _ _ r (returns-clause-sign c) e.worlds)))))
+
+pub returns-clause-profile : goal.returns-clause-profile
+returns-clause-profile c =
+    IfOk-to c.certificate.result (λ cert h. h ∙ c.dag-dag.ensures.profile) c.certificate.ensures.profile
 
 pub returns-clause-read : goal.returns-clause-read
 returns-clause-read c =
     let kept = c.args.engine.now.kept in
     let blocks = c.in_ok-blocks.blocks.items in
-    let ids = c.in_ok-blocks.ensures.ids ∙ sym c.dag-numbered.ensures.ids in
+    let ids = c.in_ok-blocks.ensures.ids ∙ sym c.dag-dag.ensures.ids in
     let all : All IsBlock blocks =
-    each_block kept c.dag-numbered.result.now blocks c.kept_count-kept.ensures.blocks c.dag-numbered.ensures.numbered c.dag-numbered.ensures.blocks ids c.in_ok-blocks.ensures.kept in
+    each_block kept c.dag-dag.result.now blocks c.kept_count-kept.ensures.blocks c.dag-dag.ensures.numbered c.dag-dag.ensures.blocks ids c.in_ok-blocks.ensures.kept in
     let e = c.certificate.ensures in
     let r = c.certificate.result in
     IfOk-to r
