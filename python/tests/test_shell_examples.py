@@ -1,4 +1,4 @@
-"""The examples of the shell in python/README.md, each run in an empty folder."""
+"""The examples of the shell in python/README.md and docs/ROLLOVER.md, each run in an empty folder."""
 
 from __future__ import annotations
 
@@ -13,17 +13,18 @@ import pytest
 
 from samples import ROOT, raw
 
-TEXTS = [(ROOT / name).read_text(encoding="utf-8") for name in ("python/README.md",)]
+TEXTS = [(ROOT / name).read_text(encoding="utf-8") for name in ("python/README.md", "docs/ROLLOVER.md")]
 BLOCKS: List[str] = [each for text in TEXTS for each in re.findall(r"^```sh\n(.*?)^```", text, re.MULTILINE | re.DOTALL)]
 COMMANDS = {
     "spectre": "",
     "zorimarl-ledger": "zorimarl.command",
     "zorimarl-sync": "zorimarl.sync_command",
+    "zorimarl-rollover": "zorimarl.rollover_command",
 }
 
 
 def test_each_is_here() -> None:
-    assert len(BLOCKS) == 1
+    assert len(BLOCKS) == 2
 
 
 def parts(text: str) -> List[Tuple[str, str]]:
