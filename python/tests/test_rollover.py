@@ -13,7 +13,7 @@ from hypothesis import given, settings
 from hypothesis import strategies as st
 
 from drawn import Drawn, ledgers
-from samples import A, B, G, GRANT, ID_A, ID_B, START, TO_BOB, TO_CAROL, ran
+from samples import A, B, G, GRANT, ID_A, ID_B, ROOT, START, TO_BOB, TO_CAROL, ran
 from sync_world import made
 from zorimarl import errors, rollover_errors
 from zorimarl.blocks import Coin, Tx, block, genesis, lock_of, locked, sha256, transaction
@@ -225,6 +225,7 @@ def test_command(tmp_path: pathlib.Path) -> None:
     assert done.returncode == 1 and "OtherGenesis" in done.stderr
     done = ask(file, "--despite", TO_BOB.id.hex(), "--despite", TO_CAROL.id.hex())
     assert done.returncode == 0 and "exposed 1 total 100" in done.stdout
-    for words in ([str(tmp_path / "no such")], [file, "--at", "xy"], [file, "--check", opening], [str(COMMAND[0])], []):
+    wrong: List[List[str]] = [[str(tmp_path / "no such")], [file, "--at", "xy"], [file, "--check", opening], [str(ROOT / "README.md")], []]
+    for words in wrong:
         assert ask(*words).returncode == 2
     assert "Refused are payments" in ask("--help").stdout
