@@ -14,11 +14,14 @@ The environment variable SPECTRE names another program than `bin/spectre`. The l
 `N passed, M failed`. The status is 1 where something differs, and 2 where a SCENARIO can't be read.
 """
 
+from __future__ import annotations
+
 import os
 import pathlib
 import re
 import subprocess
 import sys
+from typing import Collection, Dict, Iterable, Iterator, List, Mapping, Tuple, Union
 
 HERE = pathlib.Path(__file__).resolve().parent
 PROGRAM = os.environ.get("SPECTRE", str(HERE.parent / "bin" / "spectre"))
@@ -26,13 +29,13 @@ DIGITS = re.compile("[0-9a-f]{64}")
 OTHER_WAY = {"before": "after", "after": "before"}
 
 
-def run(command, given):
+def run(command: str, given: bytes) -> Tuple[bytes, int]:
     """What a command writes for these bytes, and its status."""
     done = subprocess.run([PROGRAM, command], input=given, stdout=subprocess.PIPE)
     return done.stdout, done.returncode
 
 
-def lists(lines):
+def lists(lines: Iterable[str]) -> Iterator[Union[str, List[str]]]:
     """The lines, those behind `pairs N`, `accepted N` and `balances N` put together as one list."""
     rest = list(lines)
     while rest:
@@ -45,19 +48,19 @@ def lists(lines):
             rest = rest[size:]
 
 
-def named(line, names):
+def named(line: str, names: Mapping[str, str]) -> str:
     """A line with the name in place of each 64 digits, as far as it is known."""
     return " ".join(names.get(word, word) for word in line.split(" "))
 
 
-def learn(line, other, names):
+def learn(line: str, other: str, names: Dict[str, str]) -> None:
     """Takes the names of a line's digits from the same line with names."""
     for word, digits in zip(line.split(" "), other.split(" ")):
         if DIGITS.fullmatch(digits) and not DIGITS.fullmatch(word):
             names.setdefault(digits, word)
 
 
-def turned(line):
+def turned(line: str) -> str:
     """The line of a pair with its two blocks exchanged."""
     words = line.split(" ")
     if words[0] != "vote":
@@ -65,7 +68,7 @@ def turned(line):
     return " ".join(["vote", words[2], words[1], OTHER_WAY.get(words[3], words[3])])
 
 
-def known(line, names):
+def known(line: str, names: Collection[str]) -> str:
     """A list's line with `?` for each label that stands in no single line, where names are learnt."""
     words = line.split(" ")
     labels = (1, 2) if words[0] == "vote" else (1,)
@@ -74,7 +77,7 @@ def known(line, names):
     return " ".join(words)
 
 
-def same_lists(ours, theirs, names):
+def same_lists(ours: List[str], theirs: List[str], names: Mapping[str, str]) -> bool:
     """Whether two lists have the same lines, in whatever order."""
     labels = set(names.values())
     left = [known(line, labels) for line in ours]
@@ -83,9 +86,10 @@ def same_lists(ours, theirs, names):
     return sides[0] == sides[1]
 
 
-def alike(played, replayed):
+def alike(played: List[str], replayed: List[str]) -> Tuple[bool, str]:
     """Whether two texts say the same, and the first place where they don't."""
-    ours, theirs, names = list(lists(played)), list(lists(replayed)), {}
+    ours, theirs = list(lists(played)), list(lists(replayed))
+    names: Dict[str, str] = {}
     if len(ours) != len(theirs):
         return False, "they have different numbers of lines"
     for line, other in zip(ours, theirs):
@@ -97,12 +101,12 @@ def alike(played, replayed):
         if isinstance(line, list) and isinstance(other, list):
             if not same_lists(line, other, names):
                 return False, "the lists differ: %s and %s" % (line, other)
-        elif named(other, names) != line:
+        elif isinstance(line, list) or isinstance(other, list) or named(other, names) != line:
             return False, "%s and %s" % (line, other)
     return True, ""
 
 
-def check(text):
+def check(text: bytes) -> str:
     """Compares one scenario, and answers what is wrong, or nothing."""
     played, ended = run("play", text)
     built, status = run("build", text)
@@ -117,7 +121,7 @@ def check(text):
     return alike(played.decode().splitlines(), replayed.decode().splitlines())[1]
 
 
-def main(words):
+def main(words: List[str]) -> int:
     paths = [pathlib.Path(word) for word in words] or sorted(HERE.glob("*.txt"))
     try:
         texts = [path.read_bytes() for path in paths]

@@ -10,8 +10,11 @@ those of the ledger, and that the first of the two carries the payment, is looke
 those of docs/FORMATS.md.
 """
 
+from __future__ import annotations
+
 import pathlib
 import sys
+from typing import Iterator, List
 
 sys.dont_write_bytecode = True
 
@@ -27,11 +30,11 @@ TWO = spelled(2, 0, [sha256(G)], [RIVAL.text])
 THREE = spelled(3, 0, [sha256(ONE)])
 
 
-def feed():
+def feed() -> bytes:
     return head(G) + b"".join(frame(b"B", block) for block in (ONE, TWO, THREE)) + frame(b"E")
 
 
-def look(certificate):
+def look(certificate: bytes) -> Iterator[str]:
     """Whether genesis is the ledger's, and which of the two blocks carry the payment."""
     cursor = Cursor(certificate)
     cursor.take(len(b"SPCTRC01") + 1)  # the profile stands behind the name
@@ -43,7 +46,7 @@ def look(certificate):
     yield f"payment in {' and '.join(name for name, has in zip(('first', 'second'), carries) if has) or 'neither'}"
 
 
-def main(words):
+def main(words: List[str]) -> None:
     if words == ["feed"]:
         sys.stdout.buffer.write(feed())
     elif words == ["pair"]:

@@ -17,11 +17,14 @@ pair is shown. Where the answers don't fit the scenario the status is 2.
 `run` plays with `bin/spectre`, or with the program that the environment names as SPECTRE.
 """
 
+from __future__ import annotations
+
 import argparse
 import os
 import pathlib
 import subprocess
 import sys
+from typing import List, Optional, Sequence, Union
 
 sys.dont_write_bytecode = True
 
@@ -29,22 +32,23 @@ import package  # noqa: F401
 from drawing.answers import play
 from drawing.graph import graph_of
 from drawing.svg import drawing
-from zorimarl.explore.scenario import Misfit, check_text, lines_of, with_questions
+from zorimarl.errors import Misfit
+from zorimarl.explore.scenario import check_text, lines_of, with_questions
 
 PROGRAM = pathlib.Path(__file__).resolve().parent.parent / "bin" / "spectre"
 
 
-def read_text(path):
+def read_text(path: str) -> str:
     """A file's text, or that of standard input where the path is `-`; each byte is one letter."""
     data = sys.stdin.buffer.read() if path == "-" else pathlib.Path(path).read_bytes()
     return data.decode("latin-1")
 
 
-def write_text(text):
+def write_text(text: str) -> None:
     sys.stdout.buffer.write(text.encode("latin-1"))
 
 
-def answers_of(program, scenario):
+def answers_of(program: Union[str, pathlib.Path], scenario: str) -> str:
     """What the program writes for a scenario. Its status may say that the scenario has a fault."""
     run = subprocess.run([program, "play"], input=scenario.encode("latin-1"), stdout=subprocess.PIPE)
     if run.returncode not in (0, 2):
@@ -52,11 +56,11 @@ def answers_of(program, scenario):
     return run.stdout.decode("latin-1")
 
 
-def draw(scenario, answers, pair):
+def draw(scenario: str, answers: str, pair: Optional[Sequence[str]]) -> None:
     write_text(drawing(graph_of(play(lines_of(scenario), answers), pair)))
 
 
-def commands():
+def commands() -> argparse.ArgumentParser:
     parser = argparse.ArgumentParser(
         prog="draw.py", description="Draws the blocks of a scenario and what the program answers about them."
     )
@@ -74,7 +78,7 @@ def commands():
     return parser
 
 
-def main(words):
+def main(words: List[str]) -> int:
     job = commands().parse_args(words)
     try:
         scenario = read_text(job.scenario)

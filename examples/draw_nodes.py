@@ -10,11 +10,14 @@ the script the status is 2.
 The script is played with `bin/spectre`, or with the program that the environment names as SPECTRE.
 """
 
+from __future__ import annotations
+
 import os
 import pathlib
 import re
 import subprocess
 import sys
+from typing import Dict, List, Sequence, Tuple
 
 sys.dont_write_bytecode = True
 
@@ -22,14 +25,15 @@ import package  # noqa: F401
 from drawing.answers import ARRIVAL, COUNT, Answers, answers_to
 from drawing.graph import Block, Graph
 from drawing.svg import drawing, element
-from zorimarl.explore.scenario import GENESIS, MAKES, Line, Misfit, check_text, lines_of, parents_and_carried
+from zorimarl.errors import Misfit
+from zorimarl.explore.scenario import GENESIS, MAKES, Line, check_text, lines_of, parents_and_carried
 
 PROGRAM = pathlib.Path(__file__).resolve().parent.parent / "bin" / "spectre"
 GAP = 18
 HEAD = 26  # the height of a node's name
 
 
-def blocks_in(lines):
+def blocks_in(lines: Sequence[Line]) -> Dict[str, Block]:
     """The blocks that a scenario makes, none of which has arrived, and genesis with the grants."""
     blocks = {GENESIS: Block(GENESIS, [], [line.words[1] for line in lines if line.words[0] == "grant"], "present")}
     for line in lines:
@@ -42,13 +46,13 @@ def blocks_in(lines):
 class Nodes:
     """What each node keeps, as the answers say it, and the pictures of its reports."""
 
-    def __init__(self, scenario, count):
+    def __init__(self, scenario: Sequence[Line], count: int) -> None:
         self.graphs = [Graph(None, blocks_in(scenario)) for _ in range(count)]
-        self.brought = {}  # how many blocks a packet of blocks brings, by its number
-        self.rows = []  # of pictures
+        self.brought: Dict[str, int] = {}  # how many blocks a packet of blocks brings, by its number
+        self.rows: List[List[Tuple[str, str]]] = []  # of pictures
         self.reporting = False
 
-    def arrive(self, line, answers):
+    def arrive(self, line: Line, answers: Answers) -> None:
         """The answer to a block at a node."""
         words = answers.take(line, rf"at {COUNT} ({ARRIVAL.format('[A-Za-z0-9_-]+')})")
         graph, answer = self.graphs[int(words[1])], words[2:]
@@ -58,13 +62,13 @@ class Nodes:
         elif answer[0] == "kept" and block:
             block.standing = "waits"
 
-    def hear(self, line, answers):
+    def hear(self, line: Line, answers: Answers) -> None:
         """A packet that is sent, or that none is."""
         words = answers.take(line, f"sent {COUNT} (have|want|blocks) {COUNT}|idle")
         if words[0] == "sent" and words[2] == "blocks":
             self.brought[words[1]] = int(words[3])
 
-    def report(self, line, answers):
+    def report(self, line: Line, answers: Answers) -> None:
         node = answers.take(line, f"at {line.words[1]}")[1]
         graph = self.graphs[int(node)]
         graph.hear_report(answers_to(Line(line.number, ["report"]), answers))
@@ -72,7 +76,7 @@ class Nodes:
             self.rows.append([])
         self.rows[-1].append((f"node {node}", drawing(graph)))
 
-    def play(self, line, answers):
+    def play(self, line: Line, answers: Answers) -> None:
         command = line.words[0]
         if command == "report":
             self.report(line, answers)
@@ -86,7 +90,7 @@ class Nodes:
         self.reporting = command == "report"
 
 
-def nodes_in(lines):
+def nodes_in(lines: Sequence[Line]) -> int:
     """The place of the line `nodes` among the lines of a script."""
     first = next((at for at, line in enumerate(lines) if line.words[0] == "nodes"), None)
     if first is None or len(lines[first].words) != 2 or not lines[first].words[1].isdecimal():
@@ -94,7 +98,7 @@ def nodes_in(lines):
     return first
 
 
-def rows_of(script, text):
+def rows_of(script: str, text: str) -> List[List[Tuple[str, str]]]:
     """The pictures of a script's reports, by the answers to it."""
     lines = lines_of(script)
     first = nodes_in(lines)
@@ -108,22 +112,24 @@ def rows_of(script, text):
     return nodes.rows
 
 
-def size_of(picture):
+def size_of(picture: str) -> Tuple[float, float]:
     found = re.match(r'<svg [^>]*width="([0-9.]+)" height="([0-9.]+)"', picture)
+    assert found
     return float(found[1]), float(found[2])
 
 
-def placed(name, picture, x, y):
+def placed(name: str, picture: str, x: float, y: float) -> List[str]:
     """A picture at a place, under a node's name."""
     inner = picture.replace("<svg ", f'<svg x="{x:g}" y="{y + HEAD:g}" ', 1).rstrip("\n")
     return [element("text", name, class_="name", x=x + 8, y=y + 17), inner]
 
 
-def side_by_side(rows):
+def side_by_side(rows: Sequence[Sequence[Tuple[str, str]]]) -> str:
     """All pictures, row under row."""
-    parts, width, y = [], 0, 0
+    parts: List[str] = []
+    width = y = 0.0
     for row in rows:
-        x, height = 0, 0
+        x = height = 0.0
         for name, picture in row:
             own_width, own_height = size_of(picture)
             parts += placed(name, picture, x, y)
@@ -135,7 +141,7 @@ def side_by_side(rows):
     return "\n".join([head, element("title", "What each node keeps"), ground] + parts + ["</svg>"]) + "\n"
 
 
-def main(words):
+def main(words: List[str]) -> int:
     if len(words) != 1:
         print("usage: draw_nodes.py SCRIPT", file=sys.stderr)
         return 1

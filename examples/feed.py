@@ -7,8 +7,11 @@ The word is the feed's name, `first` where there is none. The formats are those 
 docs/FORMATS.md. examples/README.md has the lines that each feed is answered with.
 """
 
+from __future__ import annotations
+
 import itertools
 import sys
+from typing import List, Sequence, Tuple
 
 sys.dont_write_bytecode = True
 
@@ -18,33 +21,33 @@ from zorimarl.feeds import Coin, frame, head, lock_of, meets, sha256, spelled, t
 BITS = 8  # the first bits of an id that have to be zero
 
 
-def block(salt, *parents, txs=(), works=True):
+def block(salt: int, *parents: bytes, txs: Sequence[bytes] = (), works: bool = True) -> bytes:
     """A block on these blocks, with the least nonce that meets the work, or that misses it."""
     ids = sorted(sha256(parent) for parent in parents)
     tries = (spelled(salt, nonce, ids, txs) for nonce in itertools.count())
     return next(made for made in tries if meets(sha256(made), BITS) == works)
 
 
-def pay(sources, amount, owner):
+def pay(sources: Sequence[Tuple[bytes, bytes]], amount: int, owner: bytes) -> bytes:
     """A transaction that spends the first output of each source, given with the word that opens
     it, and has one output, which the owner's word opens."""
     spent = [Coin(sha256(source), 0, amount, word) for source, word in sources]
     return transaction(spent, [(amount, owner)]).text
 
 
-def send(block):
+def send(block: bytes) -> bytes:
     return frame(b"B", block)
 
 
-def vote(x, y):
+def vote(x: bytes, y: bytes) -> bytes:
     return frame(b"V", sha256(x) + sha256(y))
 
 
-def ask(tx):
+def ask(tx: bytes) -> bytes:
     return frame(b"T", sha256(tx))
 
 
-def balance(word):
+def balance(word: bytes) -> bytes:
     return frame(b"U", lock_of(word))
 
 
@@ -56,21 +59,21 @@ HEAD = head(G, BITS)
 END = frame(b"E")
 
 
-def first():
+def first() -> bytes:
     """Two blocks on genesis, a third on the first of them, and the question on the two."""
     a, b = block(1, G), block(2, G)
     c = block(3, a)
     return HEAD + send(a) + send(b) + send(c) + vote(a, b) + END
 
 
-def waiting():
+def waiting() -> bytes:
     """A child that comes before its parent, and then the parent twice."""
     a = block(1, G)
     b = block(2, a)
     return HEAD + send(b) + vote(G, b) + send(a) + send(a) + vote(b, a) + END
 
 
-def refused():
+def refused() -> bytes:
     """Bytes that are no valid block, and a question on a block that was refused."""
     a, b = block(1, G), block(2, G)
     turned = spelled(3, 0, sorted([sha256(a), sha256(b)], reverse=True))
@@ -88,7 +91,7 @@ def refused():
     )
 
 
-def spends():
+def spends() -> bytes:
     """A grant that is spent twice side by side, and a spend of one of these payments. A block on one
     side decides between them, and two on the other side turn it round."""
     grant = pay([], 100, b"alice")
@@ -115,7 +118,7 @@ def spends():
     )
 
 
-def balances():
+def balances() -> bytes:
     """A grant that is spent twice side by side, as in `spends`: what is left under each lock, a report
     before and after a third block decides, and all pairs."""
     grant = pay([], 100, b"alice")
@@ -141,19 +144,19 @@ def balances():
     )
 
 
-def cut():
+def cut() -> bytes:
     """A feed that ends within its last block, one byte early."""
     a, b = block(1, G), block(2, G)
     return HEAD + send(a) + send(b)[:-1]
 
 
-def malformed():
+def malformed() -> bytes:
     """A frame of a kind that there isn't. What follows it isn't read."""
     a, b = block(1, G), block(2, G)
     return HEAD + send(a) + frame(b"Z") + send(b) + END
 
 
-def cycle():
+def cycle() -> bytes:
     """Three blocks, each before the next and the last before the first, as in cycle.txt."""
     a, b, c = block(1, G), block(2, G), block(3, G)
     x1, x2, x3 = block(4, a), block(6, b), block(8, c)
@@ -162,7 +165,7 @@ def cycle():
     return HEAD + b"".join(map(send, blocks)) + vote(a, b) + vote(b, c) + vote(c, a) + END
 
 
-def full():
+def full() -> bytes:
     """One block more than there is room for, all on a block that isn't sent, and the first again."""
     unsent = block(1, G)
     blocks = [block(salt, unsent) for salt in range(2, 514)]
@@ -175,7 +178,7 @@ FEEDS = {
 }
 
 
-def main(words):
+def main(words: List[str]) -> None:
     name = words[0] if words else "first"
     if len(words) > 1 or name not in FEEDS:
         print("usage: feed.py [" + " | ".join(FEEDS) + "]", file=sys.stderr)

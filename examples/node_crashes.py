@@ -17,6 +17,8 @@ Where there is no `strace`, by which all this is done, nothing is tried, and tha
 names a program as SPECTRE it takes the place of the one that `bin/spectre` builds.
 """
 
+from __future__ import annotations
+
 import argparse
 import collections
 import os
@@ -29,6 +31,7 @@ import subprocess
 import sys
 import tempfile
 import time
+from typing import Any, Iterable, Iterator, List, Sequence, Set, Tuple
 
 sys.dont_write_bytecode = True
 sys.path.append(str(pathlib.Path(__file__).resolve().parent.parent / "tests"))
@@ -45,7 +48,7 @@ MOMENTS = 50
 TRACED = re.compile(rb"(\w+)\((?:AT_FDCWD, )?(\w+|\"[^\"]*\")?(?:, \"([^\"]*)\")?.*\) += (-?\d+)")
 
 
-def run(words, source="/dev/null", under=(), **more):
+def run(words: Sequence[str], source: str = "/dev/null", under: Sequence[str] = (), **more: Any) -> Tuple[int, List[bytes]]:
     """The status of a run, and the whole lines that it wrote."""
     with open(source, "rb") as given:
         done = subprocess.run([*under, PROGRAM, *words], stdin=given, capture_output=True, check=False, **more)
@@ -55,23 +58,23 @@ def run(words, source="/dev/null", under=(), **more):
 class Trials:
     """Runs of `node` on one file, each from nothing, and what was found to be wrong with them."""
 
-    def __init__(self, folder, blocks, profile):
+    def __init__(self, folder: str, blocks: int, profile: int) -> None:
         self.feed, self.file, self.log = (os.path.join(folder, name) for name in ("feed", "file", "log"))
         scenario = subprocess.run([PROGRAM, "make", str(blocks), "3", "3"], capture_output=True, check=True).stdout
         with open(self.feed, "wb") as feed:
             head = b"profile %d\n" % profile
             subprocess.run([PROGRAM, "build"], input=head + scenario, stdout=feed, check=True)
         self.kept = run(["replay"], self.feed)[1]
-        self.counts = collections.Counter()
-        self.wrong = []
+        self.counts: collections.Counter[str] = collections.Counter()
+        self.wrong: List[str] = []
 
-    def node(self, under=(), **more):
+    def node(self, under: Sequence[str] = (), **more: Any) -> Tuple[int, List[bytes]]:
         """A run from nothing."""
         if os.path.exists(self.file):
             os.remove(self.file)
         return run(["node", self.file], self.feed, under, **more)
 
-    def judge(self, kind, name, lines):
+    def judge(self, kind: str, name: object, lines: int) -> None:
         """Looks at what a stop left behind so many lines."""
         self.counts[kind] += 1
         status, shown = run(["show", self.file])
@@ -90,19 +93,19 @@ class Trials:
         elif run(["show", self.file])[1][0] != b"recovered %d" % len(self.kept):
             self.wrong.append(f"{kind} {name}: not all blocks in the end")
 
-    def stop(self, kind, name, under=(), **more):
+    def stop(self, kind: str, name: object, under: Sequence[str] = (), **more: Any) -> int:
         """Runs so, looks at what is left, and answers the status."""
         status, lines = self.node(under, **more)
         self.judge(kind, name, len(lines))
         return status
 
-    def traced(self, calls):
+    def traced(self, calls: str) -> List[bytes]:
         """The calls of a run that isn't stopped."""
         self.node(["strace", "-qq", "-o", self.log, "-xx", "-s", "1000000", "-e", f"trace={calls}"])
         with open(self.log, "rb") as log:
             return log.read().splitlines()
 
-    def inject(self, kind, calls, what):
+    def inject(self, kind: str, calls: str, what: str) -> None:
         """Stops a run at each call of these."""
         for at in range(1, len(self.traced(calls)) + 1):
             under = ["strace", "-qq", "-o", self.log, "-e", f"trace={calls}", "-e", f"inject={calls}:{what}:when={at}"]
@@ -110,18 +113,18 @@ class Trials:
             if calls in MUST_WORK and status not in (5, 6):
                 self.wrong.append(f"{kind} {calls} {at}: status {status}")
 
-    def cut(self):
+    def cut(self) -> None:
         """Stops a run at each length of its file, where a write is done in part."""
         self.node()
         for size in range(os.path.getsize(self.file)):
 
-            def limit():
+            def limit(size: int = size) -> None:
                 signal.signal(signal.SIGXFSZ, signal.SIG_IGN)
                 resource.setrlimit(resource.RLIMIT_FSIZE, (size, size))
 
             self.stop("lengths", size, preexec_fn=limit)
 
-    def moments(self):
+    def moments(self) -> None:
         """Kills a run at moments of the time that it takes."""
         start = time.monotonic()
         self.node()
@@ -130,7 +133,7 @@ class Trials:
             moment = random.uniform(0, whole)
             self.stop("moments", moment, ["timeout", "-s", "KILL", f"{moment:.6f}"])
 
-    def losses(self):
+    def losses(self) -> None:
         """Tries what a loss of power may leave behind each call of a run."""
         for at, (lines, images) in enumerate(losses(self.traced(CALLS), self.file)):
             for image in images:
@@ -138,19 +141,22 @@ class Trials:
                 self.judge("losses of power", at, lines)
 
 
-def filled(image, ranges, byte):
+def filled(image: bytes, ranges: Iterable[Tuple[int, int]], byte: int) -> bytes:
     """An image with these ranges filled."""
-    image = bytearray(image)
+    made = bytearray(image)
     for start, end in ranges:
-        image[start:end] = bytes([byte]) * (end - start)
-    return bytes(image)
+        made[start:end] = bytes([byte]) * (end - start)
+    return bytes(made)
 
 
-def losses(calls, path):
+def losses(calls: Iterable[bytes], path: str) -> Iterator[Tuple[int, Set[bytes]]]:
     """The number of lines and the images behind each call that changes one of them."""
-    file, at, now, synced, pending, lines = None, 0, b"", b"", [], 0
+    file, at, now, synced, lines = b"", 0, b"", b"", 0
+    pending: List[Tuple[int, int]] = []
     for call in calls:
-        name, first, text, result = TRACED.match(call).groups()
+        found = TRACED.match(call)
+        assert found, call
+        name, first, text, result = found.groups()
         data = bytes.fromhex((text or b"").replace(b"\\x", b"").decode())
         if name == b"openat" and bytes.fromhex(first.strip(b'"').replace(b"\\x", b"").decode()) == path.encode():
             file = result
@@ -171,7 +177,7 @@ def losses(calls, path):
         yield lines, {synced, now, filled(now, pending, 0), filled(now, pending, 0xA5)}
 
 
-def main():
+def main() -> int:
     parser = argparse.ArgumentParser(description="Stops a node wherever it can be stopped.")
     parser.add_argument("blocks", type=int, nargs="?", default=4, choices=range(1, 512), metavar="BLOCKS")
     parser.add_argument("profile", type=int, nargs="?", default=1, choices=(1, 2), metavar="PROFILE")

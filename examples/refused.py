@@ -13,11 +13,14 @@ of 60 blocks with payments, and a node that is sent two blocks, in either profil
 anywhere; SPECTRE names another program than the one that bin/spectre has built. The last line is `N passed, M failed`,
 with each run counted to which memory was refused."""
 
+from __future__ import annotations
+
 import os
 import shutil
 import subprocess
 import sys
 import tempfile
+from typing import List, Optional
 
 TOP = os.path.dirname(os.path.dirname(os.path.abspath(__file__)))
 SPECTRE = os.environ.get("SPECTRE", os.path.join(TOP, "crates", "spectre", "out", "spectre"))
@@ -84,14 +87,14 @@ balance dave
 """
 
 
-def made(*words, given=b""):
+def made(*words: str, given: bytes = b"") -> bytes:
     return subprocess.run([SPECTRE, *words], input=given, capture_output=True, check=True).stdout
 
 
 class Trials:
     """Runs of one command on one input, each from nothing."""
 
-    def __init__(self, folder, shim, name, words, given):
+    def __init__(self, folder: str, shim: str, name: str, words: List[str], given: bytes) -> None:
         self.name, self.words, self.given = name, words, given
         self.passed, self.wrong = 0, 0
         self.env = dict(os.environ, LD_PRELOAD=shim)
@@ -101,17 +104,17 @@ class Trials:
         if self.whole.returncode != 0:
             sys.exit(f"{name}: it failed with memory")
 
-    def run(self, **more):
+    def run(self, **more: str) -> subprocess.CompletedProcess[bytes]:
         if self.file and os.path.exists(self.file):
             os.remove(self.file)
         words = [SPECTRE, *self.words, *([self.file] if self.file else [])]
         return subprocess.run(words, input=self.given, env=dict(self.env, **more), capture_output=True)
 
-    def count(self):
+    def count(self) -> int:
         with open(self.counted, "rb") as file:
             return int.from_bytes(file.read(), sys.byteorder)
 
-    def keeps(self, run):
+    def keeps(self, run: subprocess.CompletedProcess[bytes]) -> bool:
         """Whether the journal has at least the blocks whose lines were written."""
         if not self.file:
             return True
@@ -121,7 +124,7 @@ class Trials:
             return told == 0
         return int(shown.stdout.split()[1]) >= told
 
-    def judge(self, number, spared, **more):
+    def judge(self, number: int, spared: Optional[int], **more: str) -> Optional[int]:
         run = self.run(REFUSED=str(number), **more)
         is_spared = spared is not None and run.returncode == 0 and run.stdout == self.whole.stdout
         if not self.keeps(run):
@@ -130,14 +133,15 @@ class Trials:
             self.fail(number, f"it ended with {run.returncode}")
         else:
             self.passed += 1
-        return spared + 1 if is_spared else spared
+        return spared + 1 if spared is not None and is_spared else spared
 
-    def fail(self, number, what):
+    def fail(self, number: int, what: str) -> None:
         self.wrong += 1
         print(f"WRONG: {self.name}: allocation {number}: {what}", flush=True)
 
-    def all(self):
-        spared, count = 0, self.count()
+    def all(self) -> None:
+        spared: Optional[int] = 0
+        count = self.count()
         for number in range(count):
             spared = self.judge(number, spared)
             self.judge(number, None, ALL="1")
@@ -147,12 +151,13 @@ class Trials:
         print(f"of the output; but for {spared} refused once, where less was asked for, and all was written")
 
 
-def compiler():
+def compiler() -> Optional[str]:
     return shutil.which("gcc") or shutil.which("clang")
 
 
-def main():
-    if not compiler():
+def main() -> int:
+    found = compiler()
+    if found is None:
         print("not run: refused memory, since there is no gcc and no clang\n0 passed, 0 failed")
         return 0
     drawn = made("make", "40", "1", "4")
@@ -161,7 +166,7 @@ def main():
     two, ranked = made("build", given=blocks), made("build", given=b"profile 2\n" + blocks)
     with tempfile.TemporaryDirectory() as folder:
         shim = os.path.join(folder, "shim.so")
-        build = [compiler(), "-shared", "-fPIC", "-x", "c", "-o", shim, "-", "-ldl"]
+        build = [found, "-shared", "-fPIC", "-x", "c", "-o", shim, "-", "-ldl"]
         subprocess.run(build, input=SHIM.encode(), check=True)
         runs = [
             ("a scenario of 40 blocks", ["play"], drawn + QUESTIONS),

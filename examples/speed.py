@@ -21,47 +21,66 @@ The program is the one that bin/spectre has built, and not that script, which lo
 This can be run from anywhere; SPECTRE names another program.
 """
 
+from __future__ import annotations
+
 import argparse
 import math
 import os
 import pathlib
 import sys
+from functools import partial
+from typing import Callable, Dict, List, Optional, Sequence, Tuple
 
 sys.dont_write_bytecode = True
 
 import package  # noqa: F401
 from timing import feeds, graphs
 from timing.answers import Misfit, check
+from timing.feeds import Feed
+from timing.graphs import Graph
 from timing.runs import instructions, run
 
 TOP = pathlib.Path(__file__).resolve().parent.parent
 SPECTRE = os.environ.get("SPECTRE") or str(TOP / "crates/spectre/out/spectre")
 LONG = 5  # seconds
 COUNTS = (125, 250, 500)
+# A name, the words of a run, and what makes its feed, where it has one.
+Build = Callable[[], Feed]
+Job = Tuple[str, List[str], Optional[Build]]
 
 
-def drill(*numbers):
+def drill(*numbers: int) -> Job:
     return f"votes: drill {' '.join(map(str, numbers))}", ["drill", *map(str, numbers)], None
 
 
-def votes(name, graph):
+def votes(name: str, graph: Graph) -> Job:
     return f"votes: {name}", ["replay"], lambda: feeds.unpaid(graph)
 
 
-def payments(name, build):
+def payments(name: str, build: Build) -> Job:
     return f"payments: {name}", ["replay"], build
 
 
-def paid_and_unpaid(name, graph, paid):
+def paid_and_unpaid(name: str, graph: Graph, paid: Build) -> List[Job]:
     """The same graph with payments and without."""
     return [payments(name, paid), payments(f"{name}, without them", lambda: feeds.unpaid(graph))]
 
 
-def step(count):
+def step(count: int) -> str:
     return f"{count} blocks in step"
 
 
-RUNS = [
+def own(block: int) -> int:
+    """A payee for each block."""
+    return block
+
+
+def half(count: int) -> Callable[[int], int]:
+    """One payee for the first so many blocks, and another for those behind."""
+    return lambda block: int(block > count)
+
+
+RUNS: List[Job] = [
     drill(128, 1, 4),
     drill(300, 7, 4),
     drill(511, 1, 4),
@@ -79,7 +98,7 @@ RUNS = [
     *(
         each
         for count in COUNTS
-        for each in paid_and_unpaid(step(count), graphs.in_step(count), lambda count=count: feeds.paid_in_step(count))
+        for each in paid_and_unpaid(step(count), graphs.in_step(count), partial(feeds.paid_in_step, count))
     ),
     payments("500 blocks in step, children first", lambda: feeds.children_first(500)),
     *paid_and_unpaid("500 blocks as drawn", graphs.drawn(500, 1, 4), lambda: feeds.paid(graphs.drawn(500, 1, 4))),
@@ -89,21 +108,21 @@ RUNS = [
     *(
         payments(
             f"two chains in turns, {count} blocks with the same 256 spends or their rivals",
-            lambda count=count: feeds.contested(graphs.in_turns(count), graphs.turn, 256, 1),
+            partial(feeds.contested, graphs.in_turns(count), graphs.turn, 256, 1),
         )
         for count in (255, 511)
     ),
     *(
         payments(
             f"{count} blocks in a chain, and {count} on genesis with the rivals of their 102 payments of 16 coins",
-            lambda count=count: feeds.contested(graphs.chain_and_star(2 * count), lambda block: block > count, 102, 16),
+            partial(feeds.contested, graphs.chain_and_star(2 * count), half(count), 102, 16),
         )
         for count in (128, 255)
     ),
     *(
         payments(
             f"{count} blocks at width 128, each with rivals of all others' 256 spends",
-            lambda count=count: feeds.contested(graphs.broad(count, 128), lambda block: block, 256, 1),
+            partial(feeds.contested, graphs.broad(count, 128), own, 256, 1),
         )
         for count in (255, 511)
     ),
@@ -113,7 +132,7 @@ RUNS = [
     ),
     payments(
         "two chains in turns, 511 blocks, each with rivals of all others' 102 payments of 16 coins",
-        lambda: feeds.contested(graphs.in_turns(511), lambda block: block, 102, 16),
+        lambda: feeds.contested(graphs.in_turns(511), own, 102, 16),
     ),
     payments(
         "two chains in turns, 511 blocks that hand on 256 coins each, with rivals in the first ones",
@@ -130,7 +149,7 @@ CERTIFIED = [
 ]
 
 
-def measured(words, text):
+def measured(words: Sequence[str], text: bytes) -> Tuple[float, int, bytes]:
     """The least seconds and the most memory of some runs, and the answers of the last one."""
     runs = [run(words, text)]
     while len(runs) < (2 if runs[0].seconds > LONG else 5):
@@ -138,14 +157,14 @@ def measured(words, text):
     return min(each.seconds for each in runs), max(each.memory for each in runs), runs[-1].answers
 
 
-def growth(costs):
+def growth(costs: Sequence[float]) -> str:
     """The exponent with which the last cost of these grew, when the blocks were twice as many."""
     return f", exponent {math.log2(costs[-1] / costs[-2]):.2f}" if len(costs) > 1 and min(costs[-2:]) > 0 else ""
 
 
-def show_differences(results, unit):
+def show_differences(results: Dict[str, float], unit: str) -> None:
     """What payments cost, by what each run took."""
-    costs = []
+    costs: List[float] = []
     for count in COUNTS:
         name = f"payments: {step(count)}"
         if results.keys() >= {name, f"{name}, without them"}:
@@ -153,13 +172,13 @@ def show_differences(results, unit):
             print(f"{step(count)}: payments take {costs[-1]:,.3f} {unit}{growth(costs)}")
 
 
-def first_apart(graph):
+def first_apart(graph: Graph) -> Tuple[int, int]:
     """The first two blocks of which neither is in the other's past."""
     found = graphs.pasts(graph)
     return next((x, y) for y in range(len(graph)) for x in range(1, y) if not found[y] >> x & 1)
 
 
-def show_certificates(word):
+def show_certificates(word: str) -> None:
     """What a certificate of the first pair takes, and its check."""
     for name, graph in CERTIFIED:
         name = f"certificates: {name}"
@@ -187,7 +206,7 @@ def show_drawn(count: int) -> None:
         print(f"most {name}: seed {seed}, {seconds:.3f} s, {memory / 1024:.0f} MB", flush=True)
 
 
-def main():
+def main() -> None:
     parser = argparse.ArgumentParser(description="Times the program on hundreds of blocks.")
     parser.add_argument("--instructions", action="store_true", help="count instructions, too, by valgrind")
     parser.add_argument("--draw", type=int, default=0, help="run graphs of many tips by so many seeds instead")
@@ -201,7 +220,8 @@ def main():
     if given.draw:
         show_drawn(given.draw)
         return
-    seconds, counted = {}, {}
+    seconds: Dict[str, float] = {}
+    counted: Dict[str, float] = {}
     for name, words, build in RUNS:
         if given.word not in name:
             continue

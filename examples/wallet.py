@@ -8,8 +8,11 @@ In the second feed block 1 carries the payment. Block 2 beside it carries anothe
 one spends, to Carol; and block 3 stands on block 1. The formats are those of docs/FORMATS.md.
 """
 
+from __future__ import annotations
+
 import pathlib
 import sys
+from typing import List
 
 sys.dont_write_bytecode = True
 
@@ -23,15 +26,15 @@ ASK = frame(b"U", lock_of(b"alice"))
 END = frame(b"E")
 
 
-def send(block):
+def send(block: bytes) -> bytes:
     return frame(b"B", block)
 
 
-def start():
+def start() -> bytes:
     return HEAD + ASK + END
 
 
-def around(payment):
+def around(payment: bytes) -> bytes:
     """The payment in a block, a rival of it in one beside, and a block on the first."""
     rival = transaction(GRANT.coins, [(100, b"carol")])
     one = spelled(1, 0, [sha256(G)], [payment])
@@ -40,7 +43,7 @@ def around(payment):
     return HEAD + send(one) + send(two) + send(three) + END
 
 
-def main(words):
+def main(words: List[str]) -> None:
     if words == ["start"]:
         feed = start()
     elif len(words) == 2 and words[0] == "round":

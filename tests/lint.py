@@ -4,8 +4,7 @@
     python3 tests/lint.py
 
 Each file whose first line names a shell goes through `shellcheck`, each in Python through `flake8` and `mypy
---strict`, and none of them may have a word to say. What isn't yet held to mypy is named below; where such a file
-passes by now, that is said. Which of the three isn't there is named as not run."""
+--strict`, and none of them may have a word to say. Which of the three isn't there is named as not run."""
 
 from __future__ import annotations
 
@@ -23,26 +22,6 @@ SHELL = re.compile(rb"#!.*\b(sh|dash|bash)\b")
 PYTHON = re.compile(rb"#!.*\bpython3?\b")
 # Where modules of a script's stand beside its own folder. What stands in `python` is held to mypy by python/test.
 BESIDE = {"tests": ["tests"], "examples": ["examples", "python/src", "tests"], "tools": ["tools"], "vectors": ["vectors"]}
-# Not yet typed throughout, or standing on modules that aren't.
-UNTYPED = {
-    "examples/alike.py",
-    "examples/certificate.py",
-    "examples/draw.py",
-    "examples/draw_nodes.py",
-    "examples/drawing/answers.py",
-    "examples/drawing/graph.py",
-    "examples/drawing/svg.py",
-    "examples/feed.py",
-    "examples/node_crashes.py",
-    "examples/refused.py",
-    "examples/speed.py",
-    "examples/timing/answers.py",
-    "examples/timing/feeds.py",
-    "examples/timing/graphs.py",
-    "examples/timing/payer.py",
-    "examples/timing/runs.py",
-    "examples/wallet.py",
-}
 
 
 def files() -> list[str]:
@@ -94,17 +73,13 @@ def try_mypy(scripts: list[str], cache: str) -> None:
         said = done.stdout.decode().splitlines()
         for name in names:
             faults = [line for line in said if line.startswith(f"{name}:") and ": error: " in line]
-            if name not in UNTYPED:
-                see("\n".join(["mypy --strict:", *faults]), not faults)
-            elif not faults:
-                print(f"{name} passes mypy by now: it can be taken out of the list of those that don't")
-        see(f"mypy of {top} ends with {done.returncode}: {done.stdout.decode()} {done.stderr.decode()}", done.returncode in (0, 1) and not done.stderr)
+            see("\n".join(["mypy --strict:", *faults]), not faults)
+        see(f"mypy of {top} ends with {done.returncode}: {done.stdout.decode()} {done.stderr.decode()}", done.returncode == 0 and not done.stderr)
 
 
 def main() -> int:
     every = files()
     python = [name for name in every if name.endswith(".py") or PYTHON.match(first_line(name))]
-    see("each file that isn't yet held to mypy is there", set(python) >= UNTYPED)
     try_shell([name for name in every if SHELL.match(first_line(name))])
     try_flake8(python)
     with tempfile.TemporaryDirectory() as cache:

@@ -1,9 +1,12 @@
 """The program's answers, laid beside the lines of the scenario that they answer."""
 
-import re
-from typing import NamedTuple
+from __future__ import annotations
 
-from zorimarl.explore.scenario import Line, Misfit
+import re
+from typing import List, NamedTuple, Optional, Sequence, Tuple
+
+from zorimarl.errors import Misfit
+from zorimarl.explore.scenario import Line
 
 # How many words each line has at least, if it has no fault.
 LEAST = {
@@ -40,22 +43,22 @@ class Step(NamedTuple):
     """A line that was played, and the lines that answer it, each as its words."""
 
     line: Line
-    answers: list
+    answers: List[List[str]]
 
 
 class Played(NamedTuple):
-    steps: list
-    fault: object  # the line at which the answers end with a fault, and the fault's reason, or None
+    steps: List[Step]
+    fault: Optional[Tuple[Line, str]]  # the line at which the answers end with a fault, and the fault's reason, or None
 
 
 class Answers:
     """The lines that the program wrote, taken one after another."""
 
-    def __init__(self, text):
+    def __init__(self, text: str) -> None:
         self.left = text.splitlines()
         self.left.reverse()
 
-    def take(self, line, pattern):
+    def take(self, line: Line, pattern: str) -> List[str]:
         """The words of the next answer, which has to be of this form."""
         if not self.left:
             raise Misfit(f"{line}: the answers end before it")
@@ -63,18 +66,21 @@ class Answers:
             raise Misfit(f"{line}: the answers have `{self.left[-1]}` there")
         return self.left.pop().split(" ")
 
-    def take_counted(self, line, word, pattern):
+    def take_counted(self, line: Line, word: str, pattern: str) -> List[List[str]]:
         """A line with a word and a count, and so many lines behind it."""
         head = self.take(line, f"{word} {COUNT}")
         return [head] + [self.take(line, pattern) for _ in range(int(head[1]))]
 
-    def take_fault(self, line):
+    def take_fault(self, line: Line) -> Optional[str]:
         """The reason of the line's fault, or None where that isn't the next answer."""
         found = re.fullmatch(f"fault line {line.number} ([a-z]+)", self.left[-1]) if self.left else None
-        return self.left.pop() and found[1] if found else None
+        if found is None:
+            return None
+        self.left.pop()
+        return found[1]
 
 
-def answers_to(line, answers):
+def answers_to(line: Line, answers: Answers) -> List[List[str]]:
     """The lines that answer a line of the scenario: none, one, or those of a text."""
     command = line.words[0]
     if command == "pairs":
@@ -86,13 +92,14 @@ def answers_to(line, answers):
             + answers.take_counted(line, "balances", r"balance \S+ [0-9]+")
         )
     if command in ANSWERS:
-        return [answers.take(line, ANSWERS[command].format(*map(re.escape, line.words[1:])))]
+        return [answers.take(line, ANSWERS[command].format(*(re.escape(word) for word in line.words[1:])))]
     return []
 
 
-def play(lines, text):
+def play(lines: Sequence[Line], text: str) -> Played:
     """Each line with its answers, up to the line whose fault ends them."""
-    answers, steps, fault = Answers(text), [], None
+    answers, steps = Answers(text), list[Step]()
+    fault: Optional[Tuple[Line, str]] = None
     for line in lines:
         if reason := answers.take_fault(line):
             fault = line, reason

@@ -3,11 +3,17 @@
 A block's colour never stands alone: its word is written in it.
 """
 
+from __future__ import annotations
+
 from html import escape
+from typing import Dict, Iterable, List, Mapping, Optional, Sequence, Set, Tuple, Union
 
-from zorimarl.explore.layers import layout_of
+from zorimarl.explore.layers import Item, Layout, layout_of
 
+from .graph import Block, Graph
 from .style import STYLE
+
+Text = Tuple[str, str]  # a text and its class
 
 LETTER = 6.8  # the width of a letter of the small text
 LINE = 15  # the height of a line of text
@@ -22,16 +28,16 @@ MOST_TXS = 4  # transactions that are written in a block
 WORDS = ("before", "after", "tie", "absent")
 
 
-def shortened(name):
+def shortened(name: str) -> str:
     return name if len(name) <= LONGEST else name[: LONGEST - 2] + ".."
 
 
-def number(value):
+def number(value: float) -> str:
     """A coordinate with one decimal at most, so that the same picture has the same bytes."""
     return f"{round(value, 1) + 0.0:.1f}".removesuffix(".0")
 
 
-def element(name, text=None, **attributes):
+def element(name: str, text: Optional[str] = None, **attributes: Union[str, float]) -> str:
     """An element; an underscore at the end of an attribute's name is left out."""
     listed = "".join(
         f' {key.rstrip("_").replace("_", "-")}="{escape(value if isinstance(value, str) else number(value))}"'
@@ -40,21 +46,21 @@ def element(name, text=None, **attributes):
     return f"<{name}{listed}/>" if text is None else f"<{name}{listed}>{escape(text)}</{name}>"
 
 
-def states_in(block, graph):
+def states_in(block: Block, graph: Graph) -> List[Text]:
     """The transactions of a block, each with its state or with nothing. A state speaks of present blocks
     alone."""
     states = graph.states if block.standing == "present" else {}
     return [(name, states.get(name, "")) for name in block.carried]
 
 
-def transactions_in(block, graph):
+def transactions_in(block: Block, graph: Graph) -> List[Text]:
     """The lines of a block on its transactions: (text, state)."""
     carried = states_in(block, graph)
     lines = [(f"{shortened(name)} {state}".strip(), state) for name, state in carried[:MOST_TXS]]
     return lines + ([(f"and {len(carried) - MOST_TXS} more", "")] if len(carried) > MOST_TXS else [])
 
 
-def lines_in(block, graph):
+def lines_in(block: Block, graph: Graph) -> List[Text]:
     """What is written in a block: (text, class of the text)."""
     lines = [(shortened(block.name), "name")]
     if block.standing.startswith("refused "):
@@ -66,19 +72,19 @@ def lines_in(block, graph):
     return lines + transactions_in(block, graph)
 
 
-def kind_of(block):
+def kind_of(block: Block) -> str:
     """The class of a block's box."""
     if block.standing == "present":
-        return block.word if block.word in WORDS else ""
+        return block.word if block.word and block.word in WORDS else ""
     return {"waits": "waits", "not sent": "unsent", "not here": "away"}.get(block.standing, "refused")
 
 
-def size_of(lines):
+def size_of(lines: Sequence[Text]) -> Tuple[float, float]:
     longest = max(len(text) for text, _ in lines)
     return max(46, longest * LETTER + 2 * PAD), len(lines) * LINE + PAD
 
 
-def told(block, graph):
+def told(block: Block, graph: Graph) -> str:
     """All that is known of a block, for those who point at it."""
     parts = [block.name, block.standing]
     parts += [f"pair: {block.word}"] if block.word else []
@@ -90,9 +96,10 @@ def told(block, graph):
 class Frame:
     """The heights of the rows, and what of them the arrows need."""
 
-    def __init__(self, layout, sizes, top):
+    def __init__(self, layout: Layout, sizes: Mapping[str, Tuple[float, float]], top: float) -> None:
         self.sizes = sizes
-        self.tops, self.heights = [], []
+        self.tops: List[float] = []
+        self.heights: List[float] = []
         for row in layout.rows:
             height = max(sizes[item.block.name][1] for item in row if item.block)
             self.tops.append(top)
@@ -100,10 +107,10 @@ class Frame:
             top += height + ROW_GAP
         self.end = top - ROW_GAP
 
-    def middle(self, row):
+    def middle(self, row: int) -> float:
         return self.tops[row] + self.heights[row] / 2
 
-    def span(self, item):
+    def span(self, item: Item) -> Tuple[float, float]:
         """The upper and the lower end of an item: of a place in a row, those of the row."""
         if item.block is None:
             return self.tops[item.row], self.tops[item.row] + self.heights[item.row]
@@ -111,7 +118,7 @@ class Frame:
         return self.middle(item.row) - half, self.middle(item.row) + half
 
 
-def port(item, neighbours, other):
+def port(item: Item, neighbours: Iterable[Item], other: Item) -> float:
     """Where the arrow to or from a neighbour meets an item's side."""
     if item.block is None:
         return item.x
@@ -120,7 +127,7 @@ def port(item, neighbours, other):
     return item.x + (sorted_ones.index(other) - (len(sorted_ones) - 1) / 2) * step
 
 
-def arrow(lower, upper, frame):
+def arrow(lower: Item, upper: Item, frame: Frame) -> List[str]:
     """An arrow between neighbouring rows; its head stands where it ends at a block."""
     x1, x2 = port(lower, lower.above, upper), port(upper, upper.below, lower)
     start, end = frame.span(lower)[0], frame.span(upper)[1]
@@ -139,17 +146,17 @@ def arrow(lower, upper, frame):
     return drawn
 
 
-def passing(item, frame):
+def passing(item: Item, frame: Frame) -> str:
     """The part of an arrow that passes a row."""
     top, bottom = frame.span(item)
     return element("path", class_="arrow", d=f"M{number(item.x)} {number(bottom)}V{number(top)}")
 
 
-def rounded(classes, x, y, width, height):
+def rounded(classes: str, x: float, y: float, width: float, height: float) -> str:
     return element("rect", class_=classes, x=x, y=y, width=width, height=height, rx=5)
 
 
-def box(item, graph, frame):
+def box(item: Item, graph: Graph, frame: Frame) -> List[str]:
     """A block: its box and what is written in it."""
     block, (top, bottom) = item.block, frame.span(item)
     asked = "asked" if graph.pair and block.name in graph.pair else ""
@@ -162,7 +169,7 @@ def box(item, graph, frame):
     return drawn + ["</g>"]
 
 
-def words_of_pair(pair):
+def words_of_pair(pair: Sequence[str]) -> Dict[str, str]:
     """Each word on a pair, and what it says."""
     x, y = map(shortened, pair)
     return {
@@ -173,9 +180,10 @@ def words_of_pair(pair):
     }
 
 
-def meanings(graph):
+def meanings(graph: Graph) -> List[Tuple[str, str, str]]:
     """The legend's rows: (class of the box, word, meaning)."""
-    rows, kinds = [], {kind_of(block) for block in graph.blocks.values()}
+    rows: List[Tuple[str, str, str]] = []
+    kinds = {kind_of(block) for block in graph.blocks.values()}
     if graph.pair:
         told_words = words_of_pair(graph.pair).items()
         rows += [(word, word, meaning) for word, meaning in told_words if word != "absent" or word in kinds]
@@ -187,13 +195,13 @@ def meanings(graph):
     return rows
 
 
-def heading(graph):
+def heading(graph: Graph) -> List[str]:
     """The lines at the head of a picture."""
     lines = []
     if graph.pair:
         x, y = map(shortened, graph.pair)
         lines.append(f"In each block: {x} and {y} as they stood once that block was present.")
-    if graph.last_word:
+    if graph.pair and graph.last_word:
         lines.append(f"At the end: {words_of_pair(graph.pair)[graph.last_word]}.")
     if graph.fault:
         line, reason = graph.fault
@@ -201,8 +209,8 @@ def heading(graph):
     return lines
 
 
-def legend(rows, top):
-    drawn = []
+def legend(rows: Sequence[Tuple[str, str, str]], top: float) -> List[str]:
+    drawn: List[str] = []
     for place, (kind, word, meaning) in enumerate(rows):
         y = top + place * (LINE + 7)
         drawn.append(rounded(f"block {kind}".strip(), MARGIN, y, 70, LINE + 3))
@@ -211,21 +219,22 @@ def legend(rows, top):
     return drawn
 
 
-def extent(layout):
+def extent(layout: Layout) -> Tuple[float, float]:
     """Where the leftmost item begins and where the rightmost ends."""
     items = [item for row in layout.rows for item in row]
     return min(item.x - item.width / 2 for item in items), max(item.x + item.width / 2 for item in items)
 
 
-def move(layout, by):
+def move(layout: Layout, by: float) -> None:
     for row in layout.rows:
         for item in row:
             item.x += by
 
 
-def depth_marks(layout, frame):
+def depth_marks(layout: Layout, frame: Frame) -> List[str]:
     """The depth of each layer, beside its first row."""
-    seen, drawn = set(), []
+    seen: Set[int] = set()
+    drawn: List[str] = []
     for row, depth in enumerate(layout.depths):
         if depth not in seen:
             seen.add(depth)
@@ -233,9 +242,9 @@ def depth_marks(layout, frame):
     return drawn
 
 
-def body(layout, graph, frame):
+def body(layout: Layout, graph: Graph, frame: Frame) -> List[str]:
     """Arrows first, so that they lie under the blocks."""
-    drawn = []
+    drawn: List[str] = []
     for lower, upper in layout.edges:
         drawn += arrow(lower, upper, frame)
     drawn += [passing(item, frame) for row in layout.rows for item in row if item.block is None]
@@ -245,19 +254,19 @@ def body(layout, graph, frame):
     return drawn
 
 
-def width_of(layout, texts):
+def width_of(layout: Layout, texts: Iterable[float]) -> float:
     """The picture's width: that of the blocks or of the longest text, with margins."""
     left, right = extent(layout)
     return max([right - left + 3 * MARGIN] + [text + 2 * MARGIN for text in texts])
 
 
-def centre(layout, width):
+def centre(layout: Layout, width: float) -> None:
     """Puts the blocks in the middle, and not over the depths at the left."""
     left, right = extent(layout)
     move(layout, max(2 * MARGIN, (width - (right - left)) / 2) - left)
 
 
-def opening(width, height):
+def opening(width: float, height: float) -> List[str]:
     size = f'width="{number(width)}" height="{number(height)}" viewBox="0 0 {number(width)} {number(height)}"'
     return [
         f'<svg xmlns="http://www.w3.org/2000/svg" {size} role="img">',
@@ -267,10 +276,10 @@ def opening(width, height):
     ]
 
 
-def drawing(graph):
+def drawing(graph: Graph) -> str:
     """The whole picture, as text."""
     sizes = {name: size_of(lines_in(block, graph)) for name, block in graph.blocks.items()}
-    layout = layout_of(graph.blocks, {name: size[0] for name, size in sizes.items()})
+    layout = layout_of(dict(graph.blocks), {name: size[0] for name, size in sizes.items()})
     head, rows = heading(graph), meanings(graph)
     frame = Frame(layout, sizes, 16 + len(head) * (LINE + 3) + (10 if head else 0))
     texts = [len(line) * LETTER for line in head] + [82 + len(meaning) * LETTER for _, _, meaning in rows]

@@ -1,19 +1,24 @@
 """What a feed is answered with, held against what is known of it."""
 
+from __future__ import annotations
+
 from collections import Counter
+from typing import Collection, Dict, List, Tuple
 
 from zorimarl.feeds import sha256
+
+from .feeds import Feed, Ledger
 
 
 class Misfit(Exception):
     """The answers aren't those of the feed."""
 
 
-def balances(ledger, accepted):
+def balances(ledger: Ledger, accepted: Collection[bytes]) -> Dict[bytes, int]:
     """What is left under each lock."""
     txs = [ledger.txs[tx] for tx in accepted]
     spent = {outpoint for tx in txs for outpoint in tx.spent}
-    left = Counter()
+    left: Counter[bytes] = Counter()
     for tx in txs:
         for coin in tx.coins:
             if (coin.tx, coin.place) not in spent:
@@ -21,7 +26,7 @@ def balances(ledger, accepted):
     return {sha256(word): amount for word, amount in left.items()}
 
 
-def report(ledger, accepted):
+def report(ledger: Ledger, accepted: Collection[bytes]) -> List[str]:
     """The lines of the report, where all blocks are present."""
     left = balances(ledger, accepted)
     return [
@@ -33,7 +38,7 @@ def report(ledger, accepted):
     ]
 
 
-def granted_and_lost(ledger, accepted):
+def granted_and_lost(ledger: Ledger, accepted: Collection[bytes]) -> Tuple[int, int]:
     """What genesis grants, and what the accepted transactions lose."""
     txs = [ledger.txs[tx] for tx in accepted]
     amounts = {(coin.tx, coin.place): coin.amount for tx in ledger.txs.values() for coin in tx.coins}
@@ -43,7 +48,7 @@ def granted_and_lost(ledger, accepted):
     return granted, sum(amounts[outpoint] for tx in spending for outpoint in tx.spent) - paid
 
 
-def check(feed, answers):
+def check(feed: Feed, answers: bytes) -> Tuple[int, int]:
     """Holds the answers against the feed: each block is kept and present as foreseen, each question has its
     answer, the accepted transactions are those worked out by hand, or at least spend accepted ones and no
     output twice, and each balance is what these leave. Answers how many are accepted and rejected."""

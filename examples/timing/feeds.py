@@ -1,10 +1,13 @@
 """Feeds of many blocks, each with the lines that answer it."""
 
+from __future__ import annotations
+
 from dataclasses import dataclass, field
+from typing import AbstractSet, Callable, Dict, Iterable, List, Mapping, Optional, Sequence, Tuple
 
-from zorimarl.feeds import block, frame, head, sha256, transaction
+from zorimarl.feeds import Coin, Tx, block, frame, head, sha256, transaction
 
-from .graphs import in_step, pasts, taken_in
+from .graphs import Graph, in_step, pasts, taken_in
 from .payer import CARRIED, GRANTED, GRANTS, Payer, payee, spending
 
 
@@ -12,11 +15,11 @@ from .payer import CARRIED, GRANTED, GRANTS, Payer, payee, spending
 class Ledger:
     """The blocks of a graph, genesis first, and their transactions by id."""
 
-    blocks: list = field(default_factory=list)
-    ids: list = field(default_factory=list)
-    txs: dict = field(default_factory=dict)
+    blocks: List[bytes] = field(default_factory=list)
+    ids: List[bytes] = field(default_factory=list)
+    txs: Dict[bytes, Tx] = field(default_factory=dict)
 
-    def add(self, parents, txs=()):
+    def add(self, parents: Iterable[int], txs: Sequence[Tx] = ()) -> None:
         made = block(len(self.blocks), [self.ids[parent] for parent in parents], txs)
         self.blocks.append(made)
         self.ids.append(sha256(made))
@@ -29,12 +32,12 @@ class Feed:
     ids of the accepted transactions where they were worked out by hand."""
 
     text: bytes
-    lines: list
+    lines: List[str]
     ledger: Ledger
-    accepted: object = None
+    accepted: Optional[AbstractSet[bytes]] = None
 
 
-def plain(graph):
+def plain(graph: Graph) -> Ledger:
     """The graph without transactions."""
     ledger = Ledger()
     for parents in graph:
@@ -42,7 +45,7 @@ def plain(graph):
     return ledger
 
 
-def payments(graph):
+def payments(graph: Graph) -> Tuple[Ledger, List[Tuple[Tx, Tx]]]:
     """The blocks of the graph with 100 transactions each, and the second spends, with their rivals."""
     ledger, payer = Ledger(), Payer()
     ledger.add([], payer.grants())
@@ -52,7 +55,7 @@ def payments(graph):
     return ledger, payer.seconds
 
 
-def accepted_in_step(ledger, seconds):
+def accepted_in_step(ledger: Ledger, seconds: Sequence[Tuple[Tx, Tx]]) -> AbstractSet[bytes]:
     """Which transactions are accepted in the end where the graph is `in_step`.
 
     Say x and y = x + 3 carry the two spends. When y comes, x - 3 to x - 1 have y above them and not x, so
@@ -64,7 +67,9 @@ def accepted_in_step(ledger, seconds):
     return ledger.txs.keys() - lost
 
 
-def sent(ledger, order, answers, asked=None):
+def sent(
+    ledger: Ledger, order: Iterable[int], answers: Mapping[int, str], asked: Optional[Mapping[int, Tuple[bytes, str]]] = None
+) -> Tuple[bytes, List[str]]:
     """The feed that sends the blocks in this order, which are answered so, and ends with a report. Behind
     the blocks that `asked` names comes a question on a transaction, with its answer."""
     frames, lines = [head(ledger.blocks[0])], []
@@ -78,12 +83,14 @@ def sent(ledger, order, answers, asked=None):
     return b"".join(frames) + frame(b"R") + frame(b"E"), lines
 
 
-def in_order(ledger, accepted=None, asked=None):
+def in_order(
+    ledger: Ledger, accepted: Optional[AbstractSet[bytes]] = None, asked: Optional[Mapping[int, Tuple[bytes, str]]] = None
+) -> Feed:
     """The feed of the blocks in their order, each of which is present at once."""
     return Feed(*sent(ledger, range(1, len(ledger.blocks)), {}, asked), ledger, accepted)
 
 
-def children_first(count):
+def children_first(count: int) -> Feed:
     """The blocks of `in_step` with their payments in reverse order. Blocks 4 to 2 are present at once, and
     with block 1, which comes last, all others are."""
     ledger, seconds = payments(in_step(count))
@@ -92,7 +99,7 @@ def children_first(count):
     return Feed(text, lines, ledger, accepted_in_step(ledger, seconds))
 
 
-def taken_in_at_once(count):
+def taken_in_at_once(count: int) -> Feed:
     """The blocks of `taken_in` without payments in reverse order. With block 1, which comes last, the whole
     chain is present."""
     ledger, leaves = plain(taken_in(count)), (count - 1) // 2
@@ -101,7 +108,7 @@ def taken_in_at_once(count):
     return Feed(text, lines, ledger)
 
 
-def turning(length, width, turns, is_paying):
+def turning(length: int, width: int, turns: int, is_paying: bool) -> Feed:
     """A tree of spends of which the first one turns.
 
     Blocks 1 and 2 on genesis spend one grant, the first into `width` coins. Block 3 stands on both, and on
@@ -114,7 +121,7 @@ def turning(length, width, turns, is_paying):
     one all are rejected. A question on the last of them stands behind each side block."""
     ledger = Ledger()
 
-    def add(parents, *txs):
+    def add(parents: Iterable[int], *txs: Tx) -> int:
         ledger.add(parents, txs if is_paying else ())
         return len(ledger.blocks) - 1
 
@@ -128,7 +135,8 @@ def turning(length, width, turns, is_paying):
     for number in range(length):
         txs = [spending(coin, width * number + place, False) for place, coin in enumerate(coins)]
         coins, below = [tx.coins[0] for tx in txs], [add(below, *txs)]
-    tops, asked = [1, 2], {}
+    tops = [1, 2]
+    asked: Dict[int, Tuple[bytes, str]] = {}
     for side in range(turns):
         on = (side + 1) // 2 % 2
         tops[on] = add([tops[on]])
@@ -137,7 +145,7 @@ def turning(length, width, turns, is_paying):
     return in_order(ledger, ledger.txs.keys() - {second.id}, asked if is_paying else None)
 
 
-def contested(graph, payee_of, count, width):
+def contested(graph: Graph, payee_of: Callable[[int], int], count: int, width: int) -> Feed:
     """A graph whose blocks all spend the same coins, which genesis grants: `count` transactions in each, with
     `width` coins each. Two blocks carry the same transactions where `payee_of` is the same of both, and
     rivals of one another elsewhere. Which ones are accepted isn't worked out."""
@@ -145,7 +153,8 @@ def contested(graph, payee_of, count, width):
     grants = [transaction([], pays[first : first + 16]) for first in range(0, len(pays), 16)]
     coins = [coin for grant in grants for coin in grant.coins]
     spends = [coins[first : first + width] for first in range(0, len(coins), width)]
-    ledger, made = Ledger(), {}
+    ledger = Ledger()
+    made: Dict[bytes, List[Tx]] = {}
     ledger.add([], grants)
     for number, parents in list(enumerate(graph))[1:]:
         word = b"%d" % payee_of(number)
@@ -155,7 +164,7 @@ def contested(graph, payee_of, count, width):
     return in_order(ledger)
 
 
-def handed_on(graph, side_of, count):
+def handed_on(graph: Graph, side_of: Callable[[int], int], count: int) -> Feed:
     """Two chains, each of whose blocks pays on, coin by coin, what the block before it in its chain was paid:
     `count` transactions of one coin each. The first blocks spend the same coins, which genesis grants, so that
     all of one chain are rivals of all of the other by what they come from. Which ones are accepted isn't worked
@@ -165,7 +174,8 @@ def handed_on(graph, side_of, count):
     ledger = Ledger()
     ledger.add([], grants)
     coins = [coin for grant in grants for coin in grant.coins]
-    left, amounts = [coins, coins], [1, 2]
+    left: List[List[Coin]] = [coins, coins]
+    amounts = [1, 2]
     for number, parents in list(enumerate(graph))[1:]:
         side = side_of(number)
         txs = [transaction([coin], [(amounts[side], b"a")]) for coin in left[side]]
@@ -174,15 +184,15 @@ def handed_on(graph, side_of, count):
     return in_order(ledger)
 
 
-def paid_in_step(count):
+def paid_in_step(count: int) -> Feed:
     ledger, seconds = payments(in_step(count))
     return in_order(ledger, accepted_in_step(ledger, seconds))
 
 
-def paid(graph):
+def paid(graph: Graph) -> Feed:
     """The payments of any graph; which ones are accepted isn't worked out."""
     return in_order(payments(graph)[0])
 
 
-def unpaid(graph):
+def unpaid(graph: Graph) -> Feed:
     return in_order(plain(graph))

@@ -1,17 +1,23 @@
 """Graphs: the numbers of each block's parents, those of genesis, which is block 0, first."""
 
+from __future__ import annotations
 
-def star(count):
+from typing import Iterator, List, Sequence
+
+Graph = List[List[int]]
+
+
+def star(count: int) -> Graph:
     """All on genesis."""
     return [[], *([0] for _ in range(count))]
 
 
-def two_chains(count):
+def two_chains(count: int) -> Graph:
     """Each on the last but one."""
     return [[], *([max(0, block - 2)] for block in range(1, count + 1))]
 
 
-def crowd(count):
+def crowd(count: int) -> Graph:
     """341 on genesis, and all others on 64 of these each."""
     upper = ([(block * 7 + step * 5) % 341 + 1 for step in range(64)] for block in range(342, count + 1))
     return [[], *([0] for _ in range(341)), *upper]
@@ -34,7 +40,7 @@ def drawn_tips(count: int, seed: int) -> list[list[int]]:
         return low + next(numbers) % (high - low + 1)
 
     bases, width, own, whole = pick(120, 380), pick(24, 64), pick(0, 1), pick(0, 1)
-    graph = [[], *([0] for _ in range(bases))]
+    graph: Graph = [[], *([0] for _ in range(bases))]
     graph += [[(first + step) % bases + 1 for step in range(width)] for first in range(0, bases, width)]
     middles = list(range(bases + 1, len(graph)))
     tops = []
@@ -51,13 +57,13 @@ def drawn_tips(count: int, seed: int) -> list[list[int]]:
     return graph
 
 
-def layers(count):
+def layers(count: int) -> Graph:
     """Layers of 64, each block on all of the layer below."""
     below = (range((block - 1) // 64 * 64 - 63, (block - 1) // 64 * 64 + 1) for block in range(65, count + 1))
     return [[], *([0] for _ in range(64)), *(list(each) for each in below)]
 
 
-def taken_in(count):
+def taken_in(count: int) -> Graph:
     """Half of them on genesis, and a chain that takes them in one by one: its first block is on the first of
     them, and each other one on the next and on the block before."""
     leaves = (count - 1) // 2
@@ -65,69 +71,71 @@ def taken_in(count):
     return [[], *([0] for _ in range(leaves)), *chain, *([block - 1] for block in range(2 * leaves + 1, count + 1))]
 
 
-def in_turns(count):
+def in_turns(count: int) -> Graph:
     """Two chains on genesis that take the lead from one another: the first block is of the first chain, two of
     the other, two of the first and so on."""
-    graph, tops = [[]], [0, 0]
+    graph: Graph = [[]]
+    tops = [0, 0]
     for block in range(1, count + 1):
         graph.append([tops[turn(block)]])
         tops[turn(block)] = block
     return graph
 
 
-def turn(block):
+def turn(block: int) -> int:
     """Which of the two chains of `in_turns` a block is of."""
     return block // 2 % 2
 
 
-def turn_and_third(block):
+def turn_and_third(block: int) -> int:
     """The same, and which of three its place in its chain is, where these take turns: a number from 0 to 5."""
     place = block // 4 * 2 + block % 2
     return turn(block) * 3 + place % 3
 
 
-def chain_and_star(count):
+def chain_and_star(count: int) -> Graph:
     """The first half a chain, and each of the others on genesis."""
     return [[], *([block - 1 if block <= count // 2 else 0] for block in range(1, count + 1))]
 
 
-def broad(count, width):
+def broad(count: int, width: int) -> Graph:
     """Each on the one that stands so many before it."""
     return [[], *([max(0, block - width)] for block in range(1, count + 1))]
 
 
-def lagging(count, far):
+def lagging(count: int, far: int) -> Graph:
     """Each on the four that stand so many to three fewer before it, and the first ones on the first four."""
     return [[], *(list(range(max(0, block - far), min(block, max(0, block - far) + 4))) for block in range(1, count + 1))]
 
 
-def in_step(count):
+def in_step(count: int) -> Graph:
     """Four blocks are under way at any time: each sees all but the three before it, and stands on the tips
     of what it sees. So block n is on n - 7 to n - 4, the first four are on genesis, and n stands side by
     side with n - 3 to n + 3 alone."""
     return [[], *([0] if block <= 4 else list(range(max(1, block - 7), block - 3)) for block in range(1, count + 1))]
 
 
-def draws(state):
+def draws(state: int) -> Iterator[int]:
     """What a seed draws, one number after another (docs/FORMATS.md, "Scenarios from numbers")."""
     while True:
         state = (state * 6364136223846793005 + 1442695040888963407) % 2**64
         yield state >> 32
 
 
-def drawn(count, seed, width):
+def drawn(count: int, seed: int, width: int) -> Graph:
     """That of `make count seed width`: each on one or two drawn among the last blocks."""
-    graph, numbers = [[]], draws(seed)
+    graph: Graph = [[]]
+    numbers = draws(seed)
     for block in range(1, count + 1):
         among = range(max(0, block - width), block)
-        picked = {among[next(numbers) % len(among)] for _ in range(2)} if len(among) > 1 else among
+        picked = {among[next(numbers) % len(among)] for _ in range(2)} if len(among) > 1 else set(among)
         graph.append(sorted(picked))
     return graph
 
 
-def pasts(graph):
+def pasts(graph: Sequence[Sequence[int]]) -> List[int]:
     """The past of each block, as a number with a bit for each block in it."""
-    found = []
+    found: List[int] = []
     for parents in graph:
         past = 0
         for parent in parents:

@@ -1,7 +1,11 @@
 """Payments in the blocks of a graph: each block spends what blocks in its past made, and one coin that a
 block beside it spends, too."""
 
-from zorimarl.feeds import transaction
+from __future__ import annotations
+
+from typing import Dict, List, Optional, Sequence, Tuple
+
+from zorimarl.feeds import Coin, Tx, transaction
 
 GRANTS, PER_GRANT, GRANTED = 100, 16, 10**9
 CARRIED = 100  # transactions of a block
@@ -9,11 +13,11 @@ PAYEES = 1000
 SHARE = 1000  # what every other transaction pays to a second payee, where it has more than twice as much
 
 
-def payee(number):
+def payee(number: int) -> bytes:
     return b"payee%d" % (number % PAYEES)
 
 
-def spending(coin, number, is_split):
+def spending(coin: Coin, number: int, is_split: bool) -> Tx:
     """Spends a coin and loses 1 of it. It pays the rest to one payee, or 1000 of it to another."""
     rest = coin.amount - 1
     if not is_split or coin.amount <= 2 * SHARE:
@@ -33,18 +37,18 @@ class Payer:
     takes the next place, and at last the next block; where none is left, it is as the others.) Nobody
     spends what such a second spend pays."""
 
-    def __init__(self):
-        self.coins = []  # of each block, those that nobody spent, ascending by amount
-        self.maker = {}  # the block that carries a transaction
-        self.spends = []  # of each block, the first 99 coins that it spends, and the spenders
-        self.seconds = []
+    def __init__(self) -> None:
+        self.coins: List[List[Coin]] = []  # of each block, those that nobody spent, ascending by amount
+        self.maker: Dict[bytes, int] = {}  # the block that carries a transaction
+        self.spends: List[List[Tuple[Coin, Tx]]] = []  # of each block, the first 99 coins that it spends, and the spenders
+        self.seconds: List[Tuple[Tx, Tx]] = []
 
-    def grants(self):
+    def grants(self) -> List[Tx]:
         pays = [(GRANTED, payee(number)) for number in range(GRANTS * PER_GRANT)]
         txs = [transaction([], pays[first : first + PER_GRANT]) for first in range(0, len(pays), PER_GRANT)]
         return self.note([], txs)
 
-    def next(self, past):
+    def next(self, past: int) -> List[Tx]:
         """The transactions of the next block, which has this past."""
         number = len(self.spends)
         twice = self.rivalled(number, past)
@@ -57,20 +61,20 @@ class Payer:
             self.seconds.append((txs[-1], rival))
         return txs
 
-    def note(self, spent, txs):
+    def note(self, spent: Sequence[Coin], txs: List[Tx]) -> List[Tx]:
         self.maker.update((tx.id, len(self.spends)) for tx in txs)
         self.coins.append(sorted((coin for tx in txs for coin in tx.coins), key=lambda coin: coin.amount))
         self.spends.append(list(zip(spent, txs)))
         return txs
 
-    def newest(self, past, count):
-        taken = []
+    def newest(self, past: int, count: int) -> List[Coin]:
+        taken: List[Coin] = []
         for maker in reversed(range(len(self.coins))):
             while past >> maker & 1 and self.coins[maker] and len(taken) < count:
                 taken.append(self.coins[maker].pop())
         return taken
 
-    def rivalled(self, number, past):
+    def rivalled(self, number: int, past: int) -> Optional[Tuple[Coin, Tx]]:
         """The coin that is spent a second time, and who spends it, or None."""
         start = number % (CARRIED - 1)
         for other in range(max(1, number - 3), number):

@@ -1,11 +1,13 @@
 """One run of the program, measured."""
 
+from __future__ import annotations
+
 import os
 import re
 import subprocess
 import sys
 import tempfile
-from typing import NamedTuple
+from typing import NamedTuple, Sequence
 
 # A process counts the memory of the one that started it as its own, up to the moment at which it
 # becomes the program. So a small one stands between.
@@ -23,7 +25,7 @@ class Run(NamedTuple):
     answers: bytes
 
 
-def run(words, text):
+def run(words: Sequence[str], text: bytes) -> Run:
     """Runs the program on words and an input, by way of files, so that it waits for nobody."""
     with tempfile.TemporaryFile() as source, tempfile.TemporaryFile() as sink:
         source.write(text)
@@ -37,11 +39,13 @@ def run(words, text):
         return Run(float(seconds), int(memory), sink.read())
 
 
-def instructions(words, text):
+def instructions(words: Sequence[str], text: bytes) -> int:
     """How many instructions the program takes, by valgrind, in some fifty times the time of a run."""
     with tempfile.TemporaryFile() as source, tempfile.NamedTemporaryFile() as counts:
         source.write(text)
         source.seek(0)
         count = ["valgrind", "--tool=callgrind", f"--callgrind-out-file={counts.name}"]
         subprocess.run([*count, *words], stdin=source, stdout=subprocess.DEVNULL, stderr=subprocess.PIPE, check=True)
-        return int(re.search(rb"^(?:summary|totals): (\d+)", counts.read(), re.MULTILINE)[1])
+        found = re.search(rb"^(?:summary|totals): (\d+)", counts.read(), re.MULTILINE)
+        assert found
+        return int(found[1])
