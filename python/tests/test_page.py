@@ -263,3 +263,88 @@ def many(name: str) -> Tuple[bytes, str]:
     if name == "parents-511":
         return feeds.unpaid(graphs.crowd(511)).text, "feed"
     return feeds.contested(graphs.in_step(511), lambda number: number, 256, 1).text, "feed"
+
+
+def hash_of(page: Shown) -> str:
+    """The page's address behind `#`, once it is written."""
+    time.sleep(0.4)
+    return str(page.js("location.hash.slice(1)"))
+
+
+def test_search(page: Shown) -> None:
+    """One field finds blocks, transactions and locks, by names, ids and words, and by keys alone."""
+    page.open("double_spend.txt", (EXAMPLES / "double_spend.txt").read_bytes())
+    for word, groups in [
+        (page.data(".blocks[1].id.slice(0, 4)"), "blocks"),
+        (page.data(".txs[0].id.slice(0, 6)"), "transactions"),
+        (page.data(".locks[0].id.slice(0, 6)"), "locks"),
+    ]:
+        page.js("document.getElementById('pane').focus()")
+        page.browser.key("/")
+        page.browser.write(word)
+        see(f"search: {word} finds {groups}", groups in page.texts("#panel [data-group]"))
+        page.browser.key("Escape")
+    page.browser.key("/")
+    page.browser.write("no-such-name")
+    see("search: nothing found says so", page.text("#found"), "Nothing has this name, id or word.")
+    page.browser.key("Escape")
+    page.browser.key("/")
+    page.browser.write("A")
+    page.browser.key("Enter")
+    see("search: Enter goes to the first", page.texts("#chosen h2"), ["A"])
+    page.browser.key("Escape")
+    page.is_calm()
+
+
+def test_links(page: Shown) -> None:
+    """What is shown stands in the address: back, forward and a sent link lead to it."""
+    page.open("double_spend.txt", (EXAMPLES / "double_spend.txt").read_bytes())
+    one, two = page.js("['A', 'B'].map(name => JSON.parse(document.getElementById('data').textContent).blocks.findIndex(each => each.name === name))")
+    page.choose(one)
+    first = hash_of(page)
+    see("links: a block stands in the address", first, "block=" + page.data(f".blocks[{one}].id.slice(0, 8)"))
+    page.choose(two, shift=False)
+    page.browser.click("#tab-locks")
+    second = hash_of(page)
+    page.browser.key("[")
+    third = hash_of(page)
+    see("links: so do the pair, the tab and the arrival", ("with=" in second, "tab=locks" in second, "at=" in third), (True, True, True))
+    page.js("history.back()")
+    see("links: back", (hash_of(page), page.texts("#chosen h2")), (first, ["A"]))
+    page.js("history.forward()")
+    see("links: forward", (hash_of(page), page.texts("#chosen h2")), (third, ["A", "B"]))
+    when = page.text("#when")
+    page.browser.driver.get("about:blank")
+    page.browser.driver.get(pathlib.Path(page.path).as_uri() + "#" + third)
+    see("links: a sent link", (page.texts("#chosen h2"), page.text("#when")), (["A", "B"], when))
+    page.browser.driver.get("about:blank")
+    page.browser.driver.get(pathlib.Path(page.path).as_uri() + "#block=G&with=G&at=-1&tab=x&tx=%3Cb%3E&lock=zz&from=1e9")
+    see("links: of a strange one what there is", page.texts("#chosen h2"), ["G"])
+    page.is_calm()
+
+
+def test_pages(page: Shown) -> None:
+    """A transaction says why it is rejected, a block what stands around it, a lock what came and went."""
+    page.open("double_spend.txt", (EXAMPLES / "double_spend.txt").read_bytes())
+    truth = Truth(ran("build", given=(EXAMPLES / "double_spend.txt").read_bytes()))
+    last = len(truth.sent)
+    states = page.states()
+    for number, (each, state) in enumerate(states.items()):
+        page.js(f"document.querySelector('#panel [data-tx=\"{number}\"] button').click()")
+        reasons = page.js(f"[...document.querySelectorAll('#panel [data-tx=\"{number}\"] [data-why]')].map(each => each.dataset.why)")
+        see(f"pages: {each} is {state}, and has reasons where it is rejected", bool(reasons), state == "rejected")
+    lost = list(states.values()).index("rejected")
+    pair = page.js(f"(row => [...row.querySelectorAll('[data-why] button')].find(each => each.textContent === 'the pair'))(document.querySelector('#panel [data-tx=\"{lost}\"]'))")
+    pair.click()
+    line = page.text("#vote")
+    ids = [bytes.fromhex(word) for word in line.split(" ")[1:3]]
+    see("pages: the reason's pair has the program's word", truth.ask(last, [frame(b"V", ids[0] + ids[1])])[0], line)
+    see("pages: and its certificate's command", page.text("#certify"), f"spectre certify {ids[0].hex()} {ids[1].hex()}")
+    page.choose(0)
+    see("pages: what stands around genesis", "futu" in page.text("#chosen dl") and f"{last} blocks" in page.text("#chosen dl"))
+    page.browser.click("#tab-locks")
+    page.browser.click("#panel [data-lock] button")
+    see("pages: a lock has a plot and its coins", page.js("[document.querySelectorAll('[data-page=lock] svg.plot').length, document.querySelectorAll('[data-page=lock] [data-coin]').length > 0]"), [1, True])
+    page.js("document.querySelector('aside').scrollTop = 0")
+    page.picture("explorer-lock")
+    page.is_calm()

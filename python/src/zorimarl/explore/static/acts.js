@@ -1,13 +1,14 @@
 // @ts-check
 // What is done by clicks and keys.
 
-function paint() {
+function paint(push = false) {
   if (!stops.length) return;
   seek(state.at);
   paintGraph();
   paintCounts();
   paintWhen();
   paintSide();
+  writeAddress(push);
 }
 
 function go(stop) {
@@ -15,15 +16,15 @@ function go(stop) {
   paint();
 }
 
-function choose(n) { state.one = state.cursor = n; state.two = null; paint(); reveal(n); }
-function letGo() { state.one = state.two = null; paint(); }
-function swap() { if (state.two !== null) { [state.one, state.two] = [state.two, state.one]; paint(); } }
+function choose(n) { state.one = state.cursor = n; state.two = null; paint(true); reveal(n); }
+function letGo() { state.one = state.two = state.page = null; paint(true); }
+function swap() { if (state.two !== null) { [state.one, state.two] = [state.two, state.one]; paint(true); } }
 
 function pick(n, isFirst) {
   if (isFirst || state.one === null) { state.one = n; state.two = null; }
   else if (n === state.one) { if (state.two === null) state.one = null; state.two = null; }
   else state.two = n === state.two ? null : n;
-  paint();
+  paint(true);
 }
 
 function nextTurn() {
@@ -95,6 +96,8 @@ function listen() {
   for (const tab of Object.keys(LISTS).concat("help")) $(`tab-${tab}`).addEventListener("click", () => setTab(tab));
   $("at").addEventListener("input", () => go(Number($("at").value)));
   $("search").addEventListener("input", () => setQuery($("search").value));
+  $("search").addEventListener("keydown", event => { if (event.key === "Enter") goToFound(); });
+  window.addEventListener("popstate", followAddress);
   $("pane").addEventListener("keydown", graphKey);
   document.addEventListener("keydown", anyKey);
 }

@@ -11,7 +11,8 @@ const WIDTH = 78, HEIGHT = 50, ROW = 88, MARGIN = 24, PAGE = 100, SNAP = 32;
 const WORDS = { b: "before", a: "after", t: "tie" };
 const OTHER = { before: "after", after: "before" };
 const MARKS = { accepted: "✓", rejected: "✗" };
-const state = { at: stops.length - 1, one: null, two: null, cursor: null, tab: "txs", query: "", shown: PAGE, open: new Set(), zoom: 1 };
+const state = { at: stops.length - 1, one: null, two: null, cursor: null, tab: "txs", query: "", shown: PAGE, open: new Set(), zoom: 1, page: null, mark: null };
+const TABS = ["txs", "locks", "arrivals", "help"];
 
 function make(tag, more = {}, ...children) {
   const element = document.createElement(tag);

@@ -26,22 +26,6 @@ function chipsOf(found, name) {
   return make("div", { class: "chips", "aria-label": name }, ...listed, chips.length > 40 ? `and ${chips.length - 40} more` : null);
 }
 
-function outputLine([amount, lock]) { return make("p", {}, `pays ${amount} to `, named(lockName(lock))); }
-
-function inputLine([tx, place, opened]) {
-  const name = typeof tx === "number" ? named(txName(tx)) : make("span", { class: "mono" }, tail(tx));
-  return make("p", {}, "spends ", name, `.${place} with `, make("span", { class: "mono" }, named(preimage(opened))));
-}
-
-function txDetails(n) {
-  return [
-    make("p", { class: "mono" }, txs[n].id),
-    ...txs[n].inputs.map(inputLine), ...txs[n].outputs.map(outputLine),
-    make("p", {}, "in ", ...carriers[n].flatMap(each => [blockButton(each), " "])),
-    chipsOf(states[n], "States"),
-  ];
-}
-
 function txRow(n) {
   const word = stateOf(n) ?? "not present", mark = MARKS[word] ?? "·", row = make("div", { class: "row", "data-tx": n });
   const name = button(make("span", {}, make("span", { class: word }, `${mark} `), named(txName(n))), () => {
@@ -54,11 +38,23 @@ function txRow(n) {
   return row;
 }
 
+// What stands on a block, and what of the present blocks is before, above and beside it.
+function aroundOf(n) {
+  const above = blocks.flatMap((_, other) => other !== n && isPresent(other) && pastOf(other).has(n) ? [other] : []);
+  const children = above.filter(other => blocks[other].parents.includes(n)), present = blocks.filter((_, other) => isPresent(other)).length;
+  const list = children.slice(0, 12).flatMap(each => [blockButton(each), " "]);
+  return [
+    ["children", make("span", {}, ...(children.length ? list : ["none"]), children.length > 12 ? `and ${children.length - 12} more` : null)],
+    ["past", counted(pastOf(n).size, "block", "blocks")], ["future", counted(above.length, "block", "blocks")],
+    ["beside it", isPresent(n) ? counted(present - 1 - above.length - pastOf(n).size, "block", "blocks") : "not present"],
+  ];
+}
+
 function blockDetails(n) {
   const block = blocks[n], many = block.txs.length > 12 ? block.txs.slice(0, 12) : block.txs;
   const facts = [
     ["id", make("span", { class: "mono", "data-id": "" }, block.id)], ["standing", standing(n)],
-    ["parents", make("span", {}, ...parentsOf(block))], ["salt", block.salt], ["nonce", block.nonce], ["bytes", String(block.size)],
+    ["parents", make("span", {}, ...parentsOf(block))], ...aroundOf(n), ["salt", block.salt], ["nonce", block.nonce], ["bytes", String(block.size)],
   ];
   const list = make("dl", {}, ...facts.flatMap(([name, value]) => [make("dt", {}, name), make("dd", {}, value)]));
   const found = [make("h2", {}, named(blockName(n))), list];
@@ -87,19 +83,20 @@ function pairDetails(x, y) {
     make("p", { class: "word", "data-word": word }, ...sentence(x, y, word)),
     make("p", { class: "mono", id: "vote" }, `vote ${blocks[x].id} ${blocks[y].id} ${word}`),
     chipsOf(pairHistory(x, y), "Words"),
+    ...(isPresent(x) && isPresent(y) ? [make("p", { class: "soft" }, "Its certificate, of a feed of these blocks:"), make("p", { class: "mono", id: "certify" }, `spectre certify ${blocks[x].id} ${blocks[y].id}`)] : []),
     make("div", { class: "chips" }, button("swap (s)", swap), button("let go (Esc)", letGo)),
   ];
 }
 
 function paintChosen() {
-  const { one, two } = state;
+  const { one, two } = state, page = state.page ? [pageDetails(state.page)] : [];
   if (one === null) {
-    $("chosen").replaceChildren(make("p", { class: "soft" }, blocks.length ? "Choose a block: each other one then shows whether the chosen one comes before it or after it. Choose a second one for the word on the two." : "There are no blocks to show."));
+    $("chosen").replaceChildren(...page, make("p", { class: "soft" }, blocks.length ? "Choose a block: each other one then shows whether the chosen one comes before it or after it. Choose a second one for the word on the two." : "There are no blocks to show."));
     return;
   }
   const parts = two === null ? [] : pairDetails(one, two);
   parts.push(blockDetails(one));
   if (two === null) parts.push(tally(one), button("let go (Esc)", letGo));
   else parts.push(blockDetails(two));
-  $("chosen").replaceChildren(...parts);
+  $("chosen").replaceChildren(...page, ...parts);
 }

@@ -1,13 +1,9 @@
 // @ts-check
 // The lists beside the picture, and the help.
 
-const keyOfTx = n => txs[n].key ??= [txs[n].name, txs[n].id, ...txs[n].outputs.map(each => `${locks[each[1]].name} ${locks[each[1]].id}`), ...txs[n].inputs.map(each => preimage(each[2])), ...carriers[n].map(each => `${blocks[each].name} ${blocks[each].id}`)].join(" ").toLowerCase();
-const keyOfLock = n => `${locks[n].name ?? ""} ${locks[n].id}`.toLowerCase();
-const fits = (key, word) => state.query.trim().toLowerCase().split(/\s+/).every(each => key.includes(each) || each === word);
-
 function lockRow(n) {
   const amount = amountOf(n) ?? "not asked", row = make("div", { class: amount === "0" || amount === "not asked" ? "row zero" : "row", "data-lock": n });
-  row.append(make("div", { class: "top" }, named(lockName(n)), make("span", { class: "amount" }, amount)), make("p", { class: "mono soft" }, locks[n].id), chipsOf(left[n], "Balances"));
+  row.append(make("div", { class: "top" }, lockButton(n), make("span", { class: "amount" }, amount)), make("p", { class: "mono soft" }, locks[n].id), chipsOf(left[n], "Balances"));
   return row;
 }
 
@@ -53,7 +49,10 @@ function paintSide() {
   for (const tab of document.querySelectorAll("[role=tab]")) tab.setAttribute("aria-selected", tab.id === `tab-${state.tab}`);
   document.querySelector(".find").hidden = state.tab === "help";
   $("panel").setAttribute("aria-labelledby", `tab-${state.tab}`);
-  if (state.tab === "help") paintHelp(); else paintList(LISTS[state.tab]);
+  if (state.tab === "help") paintHelp();
+  else if (state.query.trim() && state.tab !== "arrivals") paintSearch();
+  else paintList(LISTS[state.tab]);
+  writeAddress(false);
 }
 
 const LEGEND = [["before", "before", "the chosen one comes before it"], ["after", "after", "it comes before the chosen one"], ["tie", "tie", "neither"], ["waits", "waits", "for an ancestor"]];

@@ -14,9 +14,11 @@ function start() {
   paintLegend();
   drawGraph();
   listen();
+  readAddress();
   paint();
   setZoom(Math.max(fitting(), 0.7));
   $("pane").scrollTo(($("pane").scrollWidth - $("pane").clientWidth) / 2, 0);
+  if (state.one !== null) reveal(state.one);
 }
 
 start();
