@@ -83,11 +83,11 @@ def test_keys(page: Shown) -> None:
     """The double spend, with keys alone: how it is decided, and turned round."""
     page.open("double_spend.txt", (EXAMPLES / "double_spend.txt").read_bytes())
     page.js("document.getElementById('pane').focus()")
-    for key in ("ArrowUp", "ArrowUp", "ArrowLeft", "Enter"):
+    for key in ("ArrowRight", "ArrowRight", "ArrowUp", "Enter"):
         page.browser.key(key)
     one = page.text("#chosen h2")
     see("keys: a block on genesis is chosen", one in ("A", "B"))
-    for key in ("ArrowLeft" if one == "B" else "ArrowRight", "Enter"):
+    for key in ("ArrowUp" if one == "B" else "ArrowDown", "Enter"):
         page.browser.key(key)
     if one == "B":
         page.browser.key("s")
@@ -347,4 +347,45 @@ def test_pages(page: Shown) -> None:
     see("pages: a lock has a plot and its coins", page.js("[document.querySelectorAll('[data-page=lock] svg.plot').length, document.querySelectorAll('[data-page=lock] [data-coin]').length > 0]"), [1, True])
     page.js("document.querySelector('aside').scrollTop = 0")
     page.picture("explorer-lock")
+    page.is_calm()
+
+
+# Seconds from one picture to the next while the picture is scrolled by each of them.
+FRAMES = """new Promise(done => {
+  const pane = document.getElementById('pane'), times = [];
+  const next = time => { times.push(time); pane.scrollBy(times.length % 2 ? 9 : -8, 0); times.length < 60 ? requestAnimationFrame(next) : done((times[59] - times[0]) / 59000); };
+  requestAnimationFrame(next);
+})"""
+
+
+def test_view(page: Shown, capsys: pytest.CaptureFixture[str]) -> None:
+    """The picture is dragged, zoomed by the wheel where the pointer stands, and moved on the small map."""
+    page.open("wide.txt", ran("make", "120", "3", "16"))
+    scrolled = "(pane => [pane.scrollLeft, pane.scrollTop])(document.getElementById('pane'))"
+    page.js("document.getElementById('pane').scrollTo(500, 100)")
+    left, top = page.js(scrolled)
+    pane = page.browser.driver.find_element("id", "pane")
+    page.browser.actions().move_to_element(pane).click_and_hold().move_by_offset(-60, 10).move_by_offset(-60, 10).release().perform()
+    moved = page.js(scrolled)
+    see("view: dragging moves the picture", moved[0] - left > 80 and moved[1] <= top)
+    see("view: and chooses nothing", page.texts("#chosen h2"), [])
+    width = "Number(document.querySelector('#pane > svg').getAttribute('width'))"
+    before = page.js(width)
+    page.js("document.getElementById('pane').dispatchEvent(new WheelEvent('wheel', {deltaY: -200, clientX: 300, clientY: 300, cancelable: true}))")
+    page.js(ONCE_DRAWN)
+    see("view: the wheel zooms", page.js(width) > before * 1.3)
+    see("view: the small map is there", page.js("document.getElementById('map').hidden"), False)
+    page.js("document.getElementById('pane').scrollTo(0, 0)")
+    page.browser.click("#map")
+    see("view: and moves the picture", page.js(scrolled)[0] > 100)
+    frame_time = page.js(FRAMES)
+    with capsys.disabled():
+        print(f"\n{frame_time * 1000:.1f} ms from picture to picture while it moves")
+    page.browser.key("0")
+    page.js(ONCE_DRAWN)
+    see("view: all of it", page.js("(pane => pane.scrollWidth <= pane.clientWidth + 1)(document.getElementById('pane'))"))
+    see("view: then no map is needed", page.js("document.getElementById('map').hidden"))
+    columns = page.data(".blocks.map(each => each.row)")
+    parents = page.data(".blocks.map(each => each.parents)")
+    see("view: each block stands right of its parents", all(columns[n] > columns[each] for n, those in enumerate(parents) for each in those))
     page.is_calm()

@@ -28,7 +28,7 @@ def part(name: str) -> str:
 
 
 # The script's parts, in the order in which they are joined.
-SCRIPTS = ("base", "words", "states", "search", "pages", "links", "graph", "paint", "details", "lists", "acts", "start")
+SCRIPTS = ("base", "words", "states", "search", "pages", "links", "graph", "view", "paint", "details", "lists", "acts", "start")
 
 
 def script() -> str:

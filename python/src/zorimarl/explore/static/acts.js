@@ -44,14 +44,14 @@ function reveal(n) {
   if (y < edge || y + box.height > pane.clientHeight - edge) pane.scrollTop += y - pane.clientHeight / 2;
 }
 
-// Upwards and downwards the nearest block of the next row, aside the next one of the same row.
+// Aside the nearest block of the next column, upwards and downwards the next one of the same column.
 function towards(across, down) {
   const here = blocks[state.cursor ?? state.one ?? 0];
   let best = null, least = Infinity;
   blocks.forEach((block, n) => {
     const dx = block.left - here.left, dy = block.top - here.top, ahead = dx * across + dy * down;
     if (!hasCome(n) || ahead <= 0) return;
-    const far = down ? ahead * 1000 + Math.abs(dx) : dy ? Infinity : ahead;
+    const far = across ? ahead * 1000 + Math.abs(dy) : dx ? Infinity : ahead;
     if (far < least) { least = far; best = n; }
   });
   return best;
@@ -91,6 +91,7 @@ function anyKey(event) {
 }
 
 function listen() {
+  listenToView();
   const acts = { first: () => go(0), back: () => go(state.at - 1), next: () => go(state.at + 1), last: () => go(stops.length - 1), turn: nextTurn, in: ACTS["+"], out: ACTS["-"], fit: ACTS[0] };
   for (const [id, act] of Object.entries(acts)) $(id).addEventListener("click", act);
   for (const tab of Object.keys(LISTS).concat("help")) $(`tab-${tab}`).addEventListener("click", () => setTab(tab));

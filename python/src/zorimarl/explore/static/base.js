@@ -7,7 +7,7 @@ const $ = id => document.getElementById(id);
 const data = JSON.parse($("data").textContent);
 const { blocks, txs, locks, arrivals, stops } = data;
 const SVG = "http://www.w3.org/2000/svg";
-const WIDTH = 78, HEIGHT = 50, ROW = 88, MARGIN = 24, PAGE = 100, SNAP = 32;
+const WIDTH = 78, HEIGHT = 50, COLUMN = 136, ASIDE = 0.66, MARGIN = 24, PAGE = 100, SNAP = 32;
 const WORDS = { b: "before", a: "after", t: "tie" };
 const OTHER = { before: "after", after: "before" };
 const MARKS = { accepted: "✓", rejected: "✗" };

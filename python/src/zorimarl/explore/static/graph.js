@@ -4,23 +4,24 @@
 const shapes = [];
 let svg = null, size = { width: 0, height: 0 };
 
+// Sideways: time goes to the right, and each depth has a column or several.
 function place() {
   const xs = blocks.map(block => block.x), rows = Math.max(0, ...blocks.map(block => block.row));
   const low = Math.min(0, ...xs), high = Math.max(0, ...xs);
-  size = { width: high - low + WIDTH + 2 * MARGIN, height: rows * ROW + HEIGHT + 2 * MARGIN };
+  size = { width: rows * COLUMN + WIDTH + 2 * MARGIN, height: (high - low) * ASIDE + HEIGHT + 2 * MARGIN };
   for (const block of blocks) {
-    block.left = block.x - low + MARGIN;
-    block.top = (rows - block.row) * ROW + MARGIN;
+    block.left = block.row * COLUMN + MARGIN;
+    block.top = (block.x - low) * ASIDE + MARGIN;
   }
 }
 
-// From the bottom of a block to the top of each parent; past other rows in a bow.
+// From the left of a block to the right of each parent; past other columns in a bow.
 function arrows(block) {
-  const from = block.left + WIDTH / 2, low = block.top + HEIGHT;
+  const from = block.top + HEIGHT / 2, near = block.left;
   return block.parents.filter(each => typeof each === "number").map(each => {
-    const parent = blocks[each], to = parent.left + WIDTH / 2, span = block.row - parent.row;
-    const side = span > 1 ? (to < from ? -1 : 1) * Math.min(90, 26 + 12 * span) : 0, bend = Math.max(20, (parent.top - low) / 2);
-    return `M${from} ${low}C${from + side} ${low + bend} ${to + side} ${parent.top - bend} ${to} ${parent.top}`;
+    const parent = blocks[each], to = parent.top + HEIGHT / 2, far = parent.left + WIDTH, span = block.row - parent.row;
+    const side = span > 1 ? (to < from ? -1 : 1) * Math.min(70, 20 + 10 * span) : 0, bend = Math.max(20, (near - far) / 2);
+    return `M${near} ${from}C${near - bend} ${from + side} ${far + bend} ${to + side} ${far} ${to}`;
   }).join("");
 }
 
@@ -57,14 +58,3 @@ function drawGraph() {
   svg.append(patterns(), under, over);
   $("pane").append(svg);
 }
-
-function setZoom(zoom) {
-  const pane = $("pane"), before = state.zoom;
-  const middle = [(pane.scrollLeft + pane.clientWidth / 2) / before, (pane.scrollTop + pane.clientHeight / 2) / before];
-  state.zoom = Math.min(3, Math.max(0.02, zoom));
-  svg.setAttribute("width", size.width * state.zoom);
-  svg.setAttribute("height", size.height * state.zoom);
-  pane.scrollTo(middle[0] * state.zoom - pane.clientWidth / 2, middle[1] * state.zoom - pane.clientHeight / 2);
-}
-
-const fitting = () => Math.min($("pane").clientWidth / size.width, $("pane").clientHeight / size.height, 1.3) * 0.98;

@@ -34,7 +34,7 @@ function paintList(list) {
 
 const KEYS = [["arrows", "move in the graph"], ["Enter", "choose a block, and then a second one"], ["Shift+Enter", "choose another first one"], ["Esc", "let go"], ["s", "swap the two"], ["[ ]", "one arrival back or on"], ["Home End", "the start or the end"], ["t", "on to the next turn: of the chosen pair's word, else of any transaction's state"], ["+ - 0", "zoom, and all of it"], ["/", "search"]];
 const HELP = [
-  "Genesis stands at the bottom, and lines lead down from each block to its parents. Where a block is chosen, the word in each other one says whether the chosen one comes before it, after it, or neither. A dashed ring marks what became present last; a dashed box waits for an ancestor.",
+  "Genesis stands at the left, and lines lead left from each block to its parents. The picture is dragged, and zoomed by the wheel or two fingers; the small map shows all of it. Where a block is chosen, the word in each other one says whether the chosen one comes before it, after it, or neither. A dashed ring marks what became present last; a dashed box waits for an ancestor.",
   "✓ and ✗ are accepted and rejected transactions.",
   "Each word, state and balance was written by the program spectre, which was asked for them behind each arrival that the slider stops at. What is proved is the program. This page, and the tool that wrote it, are not; and whoever gave you this page can have changed it.",
 ];

@@ -42,6 +42,7 @@ function paintGraph() {
     shape.word.textContent = saidIn(n);
     shape.carried.textContent = carriedIn(n);
   });
+  askMap();
 }
 
 // The head and the foot.

@@ -17,7 +17,7 @@ function start() {
   readAddress();
   paint();
   setZoom(Math.max(fitting(), 0.7));
-  $("pane").scrollTo(($("pane").scrollWidth - $("pane").clientWidth) / 2, 0);
+  $("pane").scrollTo($("pane").scrollWidth, ($("pane").scrollHeight - $("pane").clientHeight) / 2);
   if (state.one !== null) reveal(state.one);
 }
 
