@@ -299,7 +299,8 @@ def test_search(page: Shown) -> None:
 def test_links(page: Shown) -> None:
     """What is shown stands in the address: back, forward and a sent link lead to it."""
     page.open("double_spend.txt", (EXAMPLES / "double_spend.txt").read_bytes())
-    one, two = page.js("['A', 'B'].map(name => JSON.parse(document.getElementById('data').textContent).blocks.findIndex(each => each.name === name))")
+    names = page.data(".blocks.map(each => each.name)")
+    one, two = names.index("A"), names.index("B")
     page.choose(one)
     first = hash_of(page)
     see("links: a block stands in the address", first, "block=" + page.data(f".blocks[{one}].id.slice(0, 8)"))
@@ -334,8 +335,8 @@ def test_pages(page: Shown) -> None:
         reasons = page.js(f"[...document.querySelectorAll('#panel [data-tx=\"{number}\"] [data-why]')].map(each => each.dataset.why)")
         see(f"pages: {each} is {state}, and has reasons where it is rejected", bool(reasons), state == "rejected")
     lost = list(states.values()).index("rejected")
-    pair = page.js(f"(row => [...row.querySelectorAll('[data-why] button')].find(each => each.textContent === 'the pair'))(document.querySelector('#panel [data-tx=\"{lost}\"]'))")
-    pair.click()
+    row = f"document.querySelector('#panel [data-tx=\"{lost}\"]')"
+    page.js(f"[...{row}.querySelectorAll('[data-why] button')].find(each => each.textContent === 'the pair').click()")
     line = page.text("#vote")
     ids = [bytes.fromhex(word) for word in line.split(" ")[1:3]]
     see("pages: the reason's pair has the program's word", truth.ask(last, [frame(b"V", ids[0] + ids[1])])[0], line)
@@ -344,7 +345,8 @@ def test_pages(page: Shown) -> None:
     see("pages: what stands around genesis", "futu" in page.text("#chosen dl") and f"{last} blocks" in page.text("#chosen dl"))
     page.browser.click("#tab-locks")
     page.browser.click("#panel [data-lock] button")
-    see("pages: a lock has a plot and its coins", page.js("[document.querySelectorAll('[data-page=lock] svg.plot').length, document.querySelectorAll('[data-page=lock] [data-coin]').length > 0]"), [1, True])
+    see("pages: a lock has a plot", page.js("document.querySelectorAll('[data-page=lock] svg.plot').length"), 1)
+    see("pages: and its coins", page.js("document.querySelectorAll('[data-page=lock] [data-coin]').length > 0"))
     page.js("document.querySelector('aside').scrollTop = 0")
     page.picture("explorer-lock")
     page.is_calm()
@@ -353,7 +355,11 @@ def test_pages(page: Shown) -> None:
 # Seconds from one picture to the next while the picture is scrolled by each of them.
 FRAMES = """new Promise(done => {
   const pane = document.getElementById('pane'), times = [];
-  const next = time => { times.push(time); pane.scrollBy(times.length % 2 ? 9 : -8, 0); times.length < 60 ? requestAnimationFrame(next) : done((times[59] - times[0]) / 59000); };
+  const next = time => {
+    times.push(time);
+    pane.scrollBy(times.length % 2 ? 9 : -8, 0);
+    times.length < 60 ? requestAnimationFrame(next) : done((times[59] - times[0]) / 59000);
+  };
   requestAnimationFrame(next);
 })"""
 

@@ -28,7 +28,7 @@ def part(name: str) -> str:
 
 
 # The script's parts, in the order in which they are joined.
-SCRIPTS = ("base", "words", "states", "search", "pages", "links", "graph", "view", "paint", "details", "lists", "acts", "start")
+SCRIPTS = ("base", "words", "states", "search", "pages", "links", "graph", "view", "paint", "details", "lists", "acts", "live", "start")
 
 
 def script() -> str:
@@ -37,9 +37,11 @@ def script() -> str:
 
 
 def page_of(data: Dict[str, Any]) -> str:
-    """The whole page. Its policy lets no script run but its own, and nothing be fetched."""
+    """The whole page. Its policy lets no script run but its own, and nothing be fetched but the news of a live one."""
     style, code = part("page.css"), script()
     policy = f"default-src 'none'; style-src 'sha256-{digest(style)}'; script-src 'sha256-{digest(code)}'"
+    if "live" in data:
+        policy += "; connect-src 'self'"
     pieces = {
         "TITLE": html.escape(data["name"]),
         "POLICY": html.escape(policy, quote=True),

@@ -11,7 +11,7 @@ const WIDTH = 78, HEIGHT = 50, COLUMN = 136, ASIDE = 0.66, MARGIN = 24, PAGE = 1
 const WORDS = { b: "before", a: "after", t: "tie" };
 const OTHER = { before: "after", after: "before" };
 const MARKS = { accepted: "✓", rejected: "✗" };
-const state = { at: stops.length - 1, one: null, two: null, cursor: null, tab: "txs", query: "", shown: PAGE, open: new Set(), zoom: 1, page: null, mark: null };
+const state = { at: stops.length - 1, one: null, two: null, cursor: null, tab: "txs", query: "", shown: PAGE, open: new Set(), zoom: 1, page: null };
 const TABS = ["txs", "locks", "arrivals", "help"];
 
 function make(tag, more = {}, ...children) {

@@ -1,6 +1,6 @@
 // @ts-check
 // What is shown stands in the page's address, so that back, forward and a sent link lead to it again: the blocks
-// chosen, the page of a transaction or a lock, the arrival, the moment that is compared, the tab and the search.
+// chosen, the page of a transaction or a lock, the arrival, the tab and the search.
 
 const KINDS = { block: blocks, with: blocks, tx: txs, lock: locks };
 const WAIT = 250; // milliseconds until the address is written, so that a slider that is dragged writes it once
@@ -29,7 +29,6 @@ function addressOf() {
   if (state.two !== null) words.set("with", frontOf(blocks, state.two));
   if (page) words.set(page[0], frontOf(KINDS[page[0]], page[1]));
   if (state.at !== stops.length - 1) words.set("at", String(stops[state.at].arrivals));
-  if (state.mark !== null) words.set("from", String(stops[state.mark].arrivals));
   if (state.tab !== "txs") words.set("tab", state.tab);
   if (state.query) words.set("find", state.query);
   const text = words.toString();
@@ -66,7 +65,6 @@ function readAddress() {
   const kind = ["tx", "lock"].find(each => found(each) !== null);
   state.page = kind ? [kind, found(kind)] : null;
   state.at = stopBehind(words.get("at")) ?? stops.length - 1;
-  state.mark = stopBehind(words.get("from"));
   state.tab = TABS.includes(words.get("tab")) ? words.get("tab") : "txs";
   $("search").value = state.query = words.get("find") ?? "";
   state.shown = PAGE;

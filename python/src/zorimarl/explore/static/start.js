@@ -4,6 +4,7 @@
 function start() {
   const facts = [data.kind, data.profile === null ? null : `profile ${data.profile}`, data.bits === null ? null : counted(data.bits, "bit of work", "bits of work"), `${data.sent} sent`];
   $("name").append(named(data.name));
+  follow();
   $("facts").append(...facts.filter(Boolean).map(text => make("li", {}, text)));
   if (data.fault || data.status) {
     $("fault").hidden = false;
@@ -16,6 +17,7 @@ function start() {
   listen();
   readAddress();
   paint();
+  if (takeView()) return;
   setZoom(Math.max(fitting(), 0.7));
   $("pane").scrollTo($("pane").scrollWidth, ($("pane").scrollHeight - $("pane").clientHeight) / 2);
   if (state.one !== null) reveal(state.one);
