@@ -83,11 +83,11 @@ def test_keys(page: Shown) -> None:
     """The double spend, with keys alone: how it is decided, and turned round."""
     page.open("double_spend.txt", (EXAMPLES / "double_spend.txt").read_bytes())
     page.js("document.getElementById('pane').focus()")
-    for key in ("ArrowUp", "ArrowUp", "ArrowLeft", "Enter"):
+    for key in ("ArrowRight", "ArrowRight", "ArrowUp", "Enter"):
         page.browser.key(key)
     one = page.text("#chosen h2")
     see("keys: a block on genesis is chosen", one in ("A", "B"))
-    for key in ("ArrowLeft" if one == "B" else "ArrowRight", "Enter"):
+    for key in ("ArrowUp" if one == "B" else "ArrowDown", "Enter"):
         page.browser.key(key)
     if one == "B":
         page.browser.key("s")
@@ -263,3 +263,135 @@ def many(name: str) -> Tuple[bytes, str]:
     if name == "parents-511":
         return feeds.unpaid(graphs.crowd(511)).text, "feed"
     return feeds.contested(graphs.in_step(511), lambda number: number, 256, 1).text, "feed"
+
+
+def hash_of(page: Shown) -> str:
+    """The page's address behind `#`, once it is written."""
+    time.sleep(0.4)
+    return str(page.js("location.hash.slice(1)"))
+
+
+def test_search(page: Shown) -> None:
+    """One field finds blocks, transactions and locks, by names, ids and words, and by keys alone."""
+    page.open("double_spend.txt", (EXAMPLES / "double_spend.txt").read_bytes())
+    for word, groups in [
+        (page.data(".blocks[1].id.slice(0, 4)"), "blocks"),
+        (page.data(".txs[0].id.slice(0, 6)"), "transactions"),
+        (page.data(".locks[0].id.slice(0, 6)"), "locks"),
+    ]:
+        page.js("document.getElementById('pane').focus()")
+        page.browser.key("/")
+        page.browser.write(word)
+        see(f"search: {word} finds {groups}", groups in page.texts("#panel [data-group]"))
+        page.browser.key("Escape")
+    page.browser.key("/")
+    page.browser.write("no-such-name")
+    see("search: nothing found says so", page.text("#found"), "Nothing has this name, id or word.")
+    page.browser.key("Escape")
+    page.browser.key("/")
+    page.browser.write("A")
+    page.browser.key("Enter")
+    see("search: Enter goes to the first", page.texts("#chosen h2"), ["A"])
+    page.browser.key("Escape")
+    page.is_calm()
+
+
+def test_links(page: Shown) -> None:
+    """What is shown stands in the address: back, forward and a sent link lead to it."""
+    page.open("double_spend.txt", (EXAMPLES / "double_spend.txt").read_bytes())
+    names = page.data(".blocks.map(each => each.name)")
+    one, two = names.index("A"), names.index("B")
+    page.choose(one)
+    first = hash_of(page)
+    see("links: a block stands in the address", first, "block=" + page.data(f".blocks[{one}].id.slice(0, 8)"))
+    page.choose(two, shift=False)
+    page.browser.click("#tab-locks")
+    second = hash_of(page)
+    page.browser.key("[")
+    third = hash_of(page)
+    see("links: so do the pair, the tab and the arrival", ("with=" in second, "tab=locks" in second, "at=" in third), (True, True, True))
+    page.js("history.back()")
+    see("links: back", (hash_of(page), page.texts("#chosen h2")), (first, ["A"]))
+    page.js("history.forward()")
+    see("links: forward", (hash_of(page), page.texts("#chosen h2")), (third, ["A", "B"]))
+    when = page.text("#when")
+    page.browser.driver.get("about:blank")
+    page.browser.driver.get(pathlib.Path(page.path).as_uri() + "#" + third)
+    see("links: a sent link", (page.texts("#chosen h2"), page.text("#when")), (["A", "B"], when))
+    page.browser.driver.get("about:blank")
+    page.browser.driver.get(pathlib.Path(page.path).as_uri() + "#block=G&with=G&at=-1&tab=x&tx=%3Cb%3E&lock=zz&from=1e9")
+    see("links: of a strange one what there is", page.texts("#chosen h2"), ["G"])
+    page.is_calm()
+
+
+def test_pages(page: Shown) -> None:
+    """A transaction says why it is rejected, a block what stands around it, a lock what came and went."""
+    page.open("double_spend.txt", (EXAMPLES / "double_spend.txt").read_bytes())
+    truth = Truth(ran("build", given=(EXAMPLES / "double_spend.txt").read_bytes()))
+    last = len(truth.sent)
+    states = page.states()
+    for number, (each, state) in enumerate(states.items()):
+        page.js(f"document.querySelector('#panel [data-tx=\"{number}\"] button').click()")
+        reasons = page.js(f"[...document.querySelectorAll('#panel [data-tx=\"{number}\"] [data-why]')].map(each => each.dataset.why)")
+        see(f"pages: {each} is {state}, and has reasons where it is rejected", bool(reasons), state == "rejected")
+    lost = list(states.values()).index("rejected")
+    row = f"document.querySelector('#panel [data-tx=\"{lost}\"]')"
+    page.js(f"[...{row}.querySelectorAll('[data-why] button')].find(each => each.textContent === 'the pair').click()")
+    line = page.text("#vote")
+    ids = [bytes.fromhex(word) for word in line.split(" ")[1:3]]
+    see("pages: the reason's pair has the program's word", truth.ask(last, [frame(b"V", ids[0] + ids[1])])[0], line)
+    see("pages: and its certificate's command", page.text("#certify"), f"spectre certify {ids[0].hex()} {ids[1].hex()}")
+    page.choose(0)
+    see("pages: what stands around genesis", "futu" in page.text("#chosen dl") and f"{last} blocks" in page.text("#chosen dl"))
+    page.browser.click("#tab-locks")
+    page.browser.click("#panel [data-lock] button")
+    see("pages: a lock has a plot", page.js("document.querySelectorAll('[data-page=lock] svg.plot').length"), 1)
+    see("pages: and its coins", page.js("document.querySelectorAll('[data-page=lock] [data-coin]').length > 0"))
+    page.js("document.querySelector('aside').scrollTop = 0")
+    page.picture("explorer-lock")
+    page.is_calm()
+
+
+# Seconds from one picture to the next while the picture is scrolled by each of them.
+FRAMES = """new Promise(done => {
+  const pane = document.getElementById('pane'), times = [];
+  const next = time => {
+    times.push(time);
+    pane.scrollBy(times.length % 2 ? 9 : -8, 0);
+    times.length < 60 ? requestAnimationFrame(next) : done((times[59] - times[0]) / 59000);
+  };
+  requestAnimationFrame(next);
+})"""
+
+
+def test_view(page: Shown, capsys: pytest.CaptureFixture[str]) -> None:
+    """The picture is dragged, zoomed by the wheel where the pointer stands, and moved on the small map."""
+    page.open("wide.txt", ran("make", "120", "3", "16"))
+    scrolled = "(pane => [pane.scrollLeft, pane.scrollTop])(document.getElementById('pane'))"
+    page.js("document.getElementById('pane').scrollTo(500, 100)")
+    left, top = page.js(scrolled)
+    pane = page.browser.driver.find_element("id", "pane")
+    page.browser.actions().move_to_element(pane).click_and_hold().move_by_offset(-60, 10).move_by_offset(-60, 10).release().perform()
+    moved = page.js(scrolled)
+    see("view: dragging moves the picture", moved[0] - left > 80 and moved[1] <= top)
+    see("view: and chooses nothing", page.texts("#chosen h2"), [])
+    width = "Number(document.querySelector('#pane > svg').getAttribute('width'))"
+    before = page.js(width)
+    page.js("document.getElementById('pane').dispatchEvent(new WheelEvent('wheel', {deltaY: -200, clientX: 300, clientY: 300, cancelable: true}))")
+    page.js(ONCE_DRAWN)
+    see("view: the wheel zooms", page.js(width) > before * 1.3)
+    see("view: the small map is there", page.js("document.getElementById('map').hidden"), False)
+    page.js("document.getElementById('pane').scrollTo(0, 0)")
+    page.browser.click("#map")
+    see("view: and moves the picture", page.js(scrolled)[0] > 100)
+    frame_time = page.js(FRAMES)
+    with capsys.disabled():
+        print(f"\n{frame_time * 1000:.1f} ms from picture to picture while it moves")
+    page.browser.key("0")
+    page.js(ONCE_DRAWN)
+    see("view: all of it", page.js("(pane => pane.scrollWidth <= pane.clientWidth + 1)(document.getElementById('pane'))"))
+    see("view: then no map is needed", page.js("document.getElementById('map').hidden"))
+    columns = page.data(".blocks.map(each => each.row)")
+    parents = page.data(".blocks.map(each => each.parents)")
+    see("view: each block stands right of its parents", all(columns[n] > columns[each] for n, those in enumerate(parents) for each in those))
+    page.is_calm()

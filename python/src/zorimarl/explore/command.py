@@ -11,6 +11,9 @@ arrival (watch.py). Of an input with a fault the page shows the program's line, 
 behind all arrivals would have more than five million lines, or as many as `--lines` says, it is asked behind
 every second arrival, every third, and so on.
 
+With `--serve JOURNAL` a journal that a node is writing is shown live in the browser, on this machine alone; by
+copies, so that its lock is never asked for.
+
 With `--data` the data alone are written, as JSON. What the input is, is seen by its first bytes, or said by
 `--kind`. A journal is read under the lock of bin/spectre. The status is 2 where nothing can be shown; what the
 words and the file's first bytes tell is said before the program is started.
@@ -30,6 +33,7 @@ from ..errors import LedgerError, Misfit
 from .asked import MOST_LINES
 from .data import data_of
 from .page import json_of, page_of
+from .serve import serve
 from .subject import KINDS, subject_of
 
 
@@ -53,16 +57,24 @@ def show(text: str, target: str) -> None:
 
 def main(words: List[str]) -> int:
     parser = argparse.ArgumentParser(prog="zorimarl-explore", description="Writes a page that shows a ledger.")
-    parser.add_argument("input", metavar="FILE", help="a scenario, a feed or a journal; `-` is standard input")
+    parser.add_argument("input", metavar="FILE", nargs="?", help="a scenario, a feed or a journal; `-` is standard input")
     parser.add_argument("-o", "--output", default="-", metavar="PAGE", help="the page's file, else standard output")
     parser.add_argument("--kind", choices=KINDS, help="what the input is")
     parser.add_argument("--lines", type=int, default=MOST_LINES, metavar="N", help="how many lines of answers are asked for at most")
     parser.add_argument("--data", action="store_true", help="write the data alone, as JSON")
     parser.add_argument("--open", action="store_true", help="open the page in the browser")
+    parser.add_argument("--serve", metavar="JOURNAL", help="show this journal live, on 127.0.0.1 alone")
+    parser.add_argument("--port", type=int, default=0, metavar="N", help="the port of --serve, else any that is free")
     given = parser.parse_args(words)
+    if (given.input is None) == (given.serve is None):
+        parser.error("name either FILE or `--serve JOURNAL`")
+    if not 0 <= given.port < 65536:
+        parser.error("a port is below 65536")
     if given.lines < 1:
         parser.error("N is at least 1")
     try:
+        if given.serve is not None:
+            return serve(given.serve, given.port, given.lines)
         if given.output != "-" and not os.access(pathlib.Path(given.output).absolute().parent, os.W_OK):
             raise Misfit(f"nothing can be written to {given.output}")
         data = data_of(subject_of(given.input, given.kind), given.lines)

@@ -20,6 +20,7 @@ Edges = List[Tuple["Item", "Item"]]
 GAP = 22  # between two neighbours of a row
 WAY_WIDTH = 8  # what an arrow that passes a row takes
 WIDEST = 1000  # a row that is wider is split
+QUICK_WIDEST = 1700  # the same, where rows are drawn as columns
 SWEEPS = 12
 
 
@@ -50,7 +51,7 @@ def depths_of(blocks: Blocks) -> Dict[Hashable, int]:
     return depths
 
 
-def rows_of(blocks: Blocks, widths: Widths) -> Tuple[List[List[Any]], List[int]]:
+def rows_of(blocks: Blocks, widths: Widths, widest: float = WIDEST) -> Tuple[List[List[Any]], List[int]]:
     """The names in each row and the depth of each row, the layers in order of depth."""
     depths = depths_of(blocks)
     rows: List[List[Any]] = []
@@ -59,7 +60,7 @@ def rows_of(blocks: Blocks, widths: Widths) -> Tuple[List[List[Any]], List[int]]
         row: List[Any] = []
         taken = 0.0
         for name in (name for name in blocks if depths[name] == depth):
-            if row and taken + widths[name] > WIDEST:
+            if row and taken + widths[name] > widest:
                 rows.append(row)
                 row_depths.append(depth)
                 row, taken = [], 0.0
@@ -110,7 +111,7 @@ def layout_of(blocks: Blocks, widths: Widths) -> Layout:
 def quick_layout_of(blocks: Blocks, widths: Widths) -> Layout:
     """The same for hundreds of blocks with thousands of arrows, which have no places of their own in the rows
     that they pass. Crossings aren't counted, and the last order of the rows is kept."""
-    names, depths = rows_of(blocks, widths)
+    names, depths = rows_of(blocks, widths, QUICK_WIDEST)
     items = {
         name: Item(blocks[name], widths[name], row) for row, those in enumerate(names) for name in those
     }

@@ -27,15 +27,26 @@ def part(name: str) -> str:
     return resources.files(__package__).joinpath("static", name).read_text(encoding="utf-8")
 
 
+# The script's parts, in the order in which they are joined.
+SCRIPTS = ("base", "words", "states", "search", "pages", "links", "graph", "view", "paint", "details", "lists", "acts", "live", "start")
+
+
+def script() -> str:
+    """The parts as one script, of which no name is the window's."""
+    return '"use strict";\n(() => {\n' + "\n".join(part(f"{name}.js") for name in SCRIPTS) + "})();\n"
+
+
 def page_of(data: Dict[str, Any]) -> str:
-    """The whole page. Its policy lets no script run but its own, and nothing be fetched."""
-    style, script = part("page.css"), part("page.js")
-    policy = f"default-src 'none'; style-src 'sha256-{digest(style)}'; script-src 'sha256-{digest(script)}'"
+    """The whole page. Its policy lets no script run but its own, and nothing be fetched but the news of a live one."""
+    style, code = part("page.css"), script()
+    policy = f"default-src 'none'; style-src 'sha256-{digest(style)}'; script-src 'sha256-{digest(code)}'"
+    if "live" in data:
+        policy += "; connect-src 'self'"
     pieces = {
         "TITLE": html.escape(data["name"]),
         "POLICY": html.escape(policy, quote=True),
         "STYLE": style,
-        "SCRIPT": script,
+        "SCRIPT": code,
         "DATA": harmless(json_of(data)),
     }
     text = part("page.html")

@@ -21,6 +21,7 @@ from ..feeds import (
     records_of,
     sha256,
 )
+from ..files import read_whole
 from ..program import Path, find, hold, ready
 from .scenario import GENESIS, TEXT, lines_of, parents_and_carried, pieces_of
 
@@ -121,6 +122,17 @@ def of_journal(name: str, path: Path) -> Subject:
     """A journal, of which nobody writes while it is read: a copy of it is shown to the program."""
     with open(hold(path, alone=False), "rb") as held:
         data = held.read()
+    return in_journal(name, data)
+
+
+def of_snapshot(name: str, path: Path) -> Subject:
+    """A journal of which somebody may write: it is read from the front to the end, which is a journal of its first
+    records, and its lock isn't asked for."""
+    ready()
+    return in_journal(name, read_whole(path))
+
+
+def in_journal(name: str, data: bytes) -> Subject:
     with tempfile.TemporaryDirectory() as folder:
         copy = os.path.join(folder, "journal")
         pathlib.Path(copy).write_bytes(data)
