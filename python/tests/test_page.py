@@ -325,7 +325,7 @@ def test_links(page: Shown) -> None:
 
 
 def test_pages(page: Shown) -> None:
-    """A transaction says why it is rejected, a block what stands around it, a lock what came and went."""
+    """A rejected transaction shows its rivals and sources, a block what stands around it, a lock what came and went."""
     page.open("double_spend.txt", (EXAMPLES / "double_spend.txt").read_bytes())
     truth = Truth(ran("build", given=(EXAMPLES / "double_spend.txt").read_bytes()))
     last = len(truth.sent)

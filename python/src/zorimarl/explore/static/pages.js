@@ -1,5 +1,5 @@
 // @ts-check
-// The pages of a transaction and of a lock: where coins come from and went, why a transaction is rejected, and
+// The pages of a transaction and of a lock: where coins come from and went, the rivals and sources of a rejected transaction, and
 // what was left under a lock behind each arrival. Reasons are made of the program's words on pairs and states.
 
 const pasts = blocks.map(() => null);
@@ -62,7 +62,7 @@ function whyOf(n) {
     ...txs[n].inputs.map(input => whyOfInput(carrier, input)),
     ...rivalsOf(n).flatMap(rival => carriers[rival].map(other => whyAgainst(carrier, rival, other))),
   ]).filter(each => each !== null);
-  return found.length ? [make("h3", {}, "why it is rejected"), ...found.slice(0, 20), found.length > 20 ? make("p", {}, `and ${found.length - 20} more`) : null] : [];
+  return found.length ? [make("h3", {}, "its rivals and sources at this moment"), ...found.slice(0, 20), found.length > 20 ? make("p", {}, `and ${found.length - 20} more`) : null] : [];
 }
 
 function txDetails(n) {
